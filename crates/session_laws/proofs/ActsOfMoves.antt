@@ -1,19 +1,12 @@
 -- Moving windows and clients keeps what the acts of all steps say of them: which windows are open,
 -- how many, and who is attached.
-use Rattle.std.proofs.Common.{◌≡◌, ℕ, ◌+◌, ◌-◌, ◌<◌, Bool, true, false, not, List, [], ◌∷◌, ◌++◌, Some, None, refl, ap}
-use Rattle.std.proofs.Common.{sym, ◌∙◌, subst, map, filter, length, reverse, arith, append_assoc}
-use Rattle.std.specs.Prelude.{if◌then◌else◌, ◌==◌, ◌||◌, is_some, unwrap_or}
-use Rattle.std.specs.List.{AllByRecursion, list_any}
-use Rattle.std.proofs.lemmas.Bool.Decides.{nat_tests}
-use Rattle.std.proofs.lemmas.List.{reverse-append}
-use Rattle.acl.specs.declared.user_id.UserId.{UserId}
-use Rattle.acl.specs.declared.act.Act.{Act}
+use Rattle.session_laws.proofs.Vocabulary.{◌≡◌, ℕ, ◌+◌, ◌-◌, ◌<◌, Bool, true, false, not, List, [], ◌∷◌, ◌++◌, Some}
+use Rattle.session_laws.proofs.Vocabulary.{None, refl, ap, sym, ◌∙◌, subst, map, filter, length, reverse, arith}
+use Rattle.session_laws.proofs.Vocabulary.{append_assoc, if◌then◌else◌, ◌==◌, ◌||◌, is_some, unwrap_or, AllByRecursion}
+use Rattle.session_laws.proofs.Vocabulary.{list_any, nat_tests, reverse-append, UserId, Act, History, followed_by}
+use Rattle.session_laws.proofs.Vocabulary.{is_open, open_count, clients_of, Tables, Window, row_of, Rises, AreSound}
+use Rattle.session_laws.proofs.Vocabulary.{ActsAgree, equal, itself}
 use Rattle.acl.specs.declared.act.Act.TheVariants as act
-use Rattle.acl.specs.History.{History, followed_by, is_open, open_count}
-use Rattle.writelock.specs.Holding.{clients_of}
-use Rattle.session_model.specs.Tables.{Tables, Window, row_of}
-use Rattle.session_model.specs.Sound.{Rises, AreSound, ActsAgree}
-use Rattle.session_laws.proofs.Lists.{equal, itself}
 use Rattle.session_laws.proofs.Inputs.{append_nil}
 use Rattle.session_laws.proofs.DifferentNumbers.{serial_of}
 use Rattle.session_laws.proofs.Moving.{AllAside, is_aside, Moves, ids, serials, closed, parted}

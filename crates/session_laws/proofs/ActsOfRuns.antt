@@ -1,22 +1,13 @@
 -- After each event, the acts of all steps agree with the tables.
-use Rattle.std.proofs.Common.{◌≡◌, ℕ, ◌+◌, Bool, true, false, List, [], ◌∷◌, ◌++◌, Option, Some, None, refl, ap, sym}
-use Rattle.std.proofs.Common.{◌∙◌, subst, length, arith}
-use Rattle.std.specs.Prelude.{if◌then◌else◌, ◌==◌, ◌||◌, unwrap_or}
-use Rattle.std.proofs.lemmas.List.{reverse-append}
-use Rattle.acl.specs.declared.edition.Edition.{Edition}
-use Rattle.acl.specs.declared.user_id.UserId.{UserId}
+use Rattle.session_laws.proofs.Vocabulary.{◌≡◌, ℕ, ◌+◌, Bool, true, false, List, [], ◌∷◌, ◌++◌, Option, Some, None}
+use Rattle.session_laws.proofs.Vocabulary.{refl, ap, sym, ◌∙◌, subst, length, arith, if◌then◌else◌, ◌==◌, ◌||◌}
+use Rattle.session_laws.proofs.Vocabulary.{unwrap_or, reverse-append, Edition, UserId, History, followed_by, is_open}
+use Rattle.session_laws.proofs.Vocabulary.{open_count, Effect, EventValue, Attach, Open, Draw, Entry, Tables, Window}
+use Rattle.session_laws.proofs.Vocabulary.{Client, client_at, focused, fresh, first_fault, verdicts, entering, outcome}
+use Rattle.session_laws.proofs.Vocabulary.{Outcome, left_acts, reply_of, attach_checks, attaches, new_client}
+use Rattle.session_laws.proofs.Vocabulary.{open_checks, opens, new_window, after, drawn, drawn_on, tables_from}
+use Rattle.session_laws.proofs.Vocabulary.{AreSound, ActsAgree}
 use Rattle.acl.specs.declared.act.Act.TheVariants as act
-use Rattle.acl.specs.History.{History, followed_by, is_open, open_count}
-use Rattle.session_model.specs.declared.event.Effect.{Effect}
-use Rattle.session_model.specs.Trace.{EventValue, Attach, Open, Draw, Entry}
-use Rattle.session_model.specs.Tables.{Tables, Window, Client, client_at, focused, fresh}
-use Rattle.session_model.specs.Checks.{first_fault, verdicts}
-use Rattle.session_model.specs.Deeds.{entering}
-use Rattle.session_model.specs.Events.{outcome}
-use Rattle.session_model.specs.Outcomes.{Outcome, left_acts, reply_of}
-use Rattle.session_model.specs.Comings.{attach_checks, attaches, new_client, open_checks, opens, new_window}
-use Rattle.session_model.specs.Run.{after, drawn, drawn_on, tables_from}
-use Rattle.session_model.specs.Sound.{AreSound, ActsAgree}
 use Rattle.session_laws.proofs.DifferentNumbers.{serial_of}
 use Rattle.session_laws.proofs.Moving.{AllAside, aside_append, id_of, ids, serials}
 use Rattle.session_laws.proofs.CommandMoves.{length_append}

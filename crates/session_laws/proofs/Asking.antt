@@ -1,33 +1,15 @@
 -- What an event asks for is what its checks ask for, and a refused event names why.
-use Rattle.std.proofs.Common.{◌≡◌, ℕ, Bool, true, false, List, [], ◌∷◌, Option, Some, None, Ok, Err, Result, refl, ap}
-use Rattle.std.proofs.Common.{sym, ◌∙◌, subst, inl, inr}
-use Rattle.std.specs.Prelude.{if◌then◌else◌, ◌==◌}
-use Rattle.std.specs.Option.{option_map, option_map_or, option_and_then}
-use Rattle.acl.specs.declared.user_id.UserId.{UserId}
-use Rattle.acl.specs.declared.bits.Bit.{Bit}
-use Rattle.acl.specs.declared.bits.Bit.TheVariants.{Write, Execute}
-use Rattle.acl.specs.declared.act.Object.{Object}
+use Rattle.session_laws.proofs.Vocabulary.{◌≡◌, ℕ, Bool, true, false, List, [], ◌∷◌, Option, Some, None, Ok, Err}
+use Rattle.session_laws.proofs.Vocabulary.{Result, refl, ap, sym, ◌∙◌, subst, inl, inr, if◌then◌else◌, ◌==◌, option_map}
+use Rattle.session_laws.proofs.Vocabulary.{option_map_or, option_and_then, UserId, Bit, Write, Execute, Object, Screen}
+use Rattle.session_laws.proofs.Vocabulary.{Order, name_of, ParseFault, Refusal, Verdict, EventValue, Keys, Command}
+use Rattle.session_laws.proofs.Vocabulary.{Open, Reply, Tables, Window, Client, row_of, window_at, client_at, focused}
+use Rattle.session_laws.proofs.Vocabulary.{focused_window, is_known, with_number, Caller, caller_of, line_caller}
+use Rattle.session_laws.proofs.Vocabulary.{read_line, checks, first_fault, typing_checks, step_items, command_item}
+use Rattle.session_laws.proofs.Vocabulary.{outcome, Outcome, open_checks, commands_of, keys_typed, typed_by_client}
+use Rattle.session_laws.proofs.Vocabulary.{with_order, order_in, ok_of, SomeOf, NamesTruly, Asks, AsksFor, TypesOn}
+use Rattle.session_laws.proofs.Vocabulary.{IsWindow, row_serial, itself}
 use Rattle.acl.specs.declared.act.Object.TheVariants as object
-use Rattle.acl.specs.declared.command_name.CommandName.TheVariants.{Screen}
-use Rattle.command_lang.specs.declared.command.Command.{Command as Order}
-use Rattle.command_lang.specs.Names.{name_of}
-use Rattle.command_lang.specs.declared.fault.ParseFault.{ParseFault}
-use Rattle.session_model.specs.declared.refusal.Refusal.{Refusal}
-use Rattle.session_model.specs.declared.verdict.Verdict.{Verdict}
-use Rattle.session_model.specs.Trace.{EventValue, Keys, Command, Open, Reply}
-use Rattle.session_model.specs.Tables.{Tables, Window, Client, row_of, window_at, client_at, focused, focused_window}
-use Rattle.session_model.specs.Tables.{is_known}
-use Rattle.session_model.specs.Naming.{with_number}
-use Rattle.session_model.specs.Lines.{Caller, caller_of, line_caller, read_line}
-use Rattle.session_model.specs.Checks.{checks, first_fault, typing_checks}
-use Rattle.session_model.specs.Keying.{step_items, command_item}
-use Rattle.session_model.specs.Events.{outcome}
-use Rattle.session_model.specs.Outcomes.{Outcome}
-use Rattle.session_model.specs.Comings.{open_checks}
-use Rattle.session_model.specs.Given.{commands_of, keys_typed, typed_by_client, with_order, order_in, ok_of}
-use Rattle.session_model.specs.Promises.{SomeOf}
-use Rattle.session_model.specs.Denying.{NamesTruly, Asks, AsksFor, TypesOn, IsWindow}
-use Rattle.session_laws.proofs.Lists.{row_serial, itself}
 use Rattle.session_laws.proofs.Doing.{giving}
 use Rattle.session_laws.proofs.Outcomes as outcomes
 use Rattle.session_laws.proofs.Denying.{OnFault, on_fault, missing, checks_each, typing_each, plain_names, IsAsked}

@@ -1,21 +1,11 @@
 -- Each client has a serial of its own, and a command by keys is given by its client's user.
-use Rattle.std.proofs.Common.{◌≡◌, ◌<◌, ℕ, Bool, true, false, List, [], ◌∷◌, Option, Some, None}
-use Rattle.std.proofs.Common.{refl, ap, sym, ◌∙◌, subst, map, reverse, arith}
-use Rattle.std.specs.Prelude.{if◌then◌else◌, ◌==◌, ◌||◌}
-use Rattle.std.specs.List.{AllByRecursion}
-use Rattle.std.specs.Option.{option_map_or}
-use Rattle.std.proofs.lemmas.List.{reverse-append}
-use Rattle.acl.specs.declared.user_id.UserId.{UserId}
-use Rattle.command_lang.specs.declared.command.Command.{Command as Order}
-use Rattle.session_model.specs.Given.{Given, commands_of, with_order, order_in, ok_of}
-use Rattle.session_model.specs.Keying.{step_items, command_item}
-use Rattle.session_model.specs.Lines.{Caller, caller_of, line_caller, read_line}
-use Rattle.session_model.specs.Promises.{unread}
-use Rattle.session_model.specs.Sound.{Rises}
-use Rattle.session_model.specs.Tables.{Tables, Client, row_of, client_at, shows}
-use Rattle.session_model.specs.Tables.{is_in_focus, is_known}
-use Rattle.session_model.specs.Trace.{EventValue, Keys, Command}
-use Rattle.session_laws.proofs.Lists.{contradicts, equal, all_append, all_map}
+use Rattle.session_laws.proofs.Vocabulary.{◌≡◌, ◌<◌, ℕ, Bool, true, false, List, [], ◌∷◌, Option, Some, None, refl, ap}
+use Rattle.session_laws.proofs.Vocabulary.{sym, ◌∙◌, subst, map, reverse, arith, if◌then◌else◌, ◌==◌, ◌||◌}
+use Rattle.session_laws.proofs.Vocabulary.{AllByRecursion, option_map_or, reverse-append, UserId, Order, Given}
+use Rattle.session_laws.proofs.Vocabulary.{commands_of, with_order, order_in, ok_of, step_items, command_item, Caller}
+use Rattle.session_laws.proofs.Vocabulary.{caller_of, line_caller, read_line, unread, Rises, Tables, Client, row_of}
+use Rattle.session_laws.proofs.Vocabulary.{client_at, shows, is_in_focus, is_known, EventValue, Keys, Command}
+use Rattle.session_laws.proofs.Vocabulary.{contradicts, equal, all_append, all_map}
 use Rattle.session_laws.proofs.Unread.{SameClients, row_at}
 
 abbrev pub Own : ℕ → UserId → Client → Type 0

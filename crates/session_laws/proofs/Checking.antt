@@ -1,25 +1,13 @@
 -- Checks pass in cut tables if they pass in these, and are refused alike.
-use Rattle.std.proofs.Common.{◌≡◌, ℕ, Bool, List, [], ◌∷◌, ◌++◌, Option, Some, None, refl, ap, ◌∙◌}
-use Rattle.std.specs.Prelude.{if◌then◌else◌}
-use Rattle.std.specs.Option.{option_map, is_some}
-use Rattle.acl.specs.declared.user_id.UserId.{UserId}
-use Rattle.acl.specs.declared.act.Object.{Object}
+use Rattle.session_laws.proofs.Vocabulary.{◌≡◌, ℕ, Bool, List, [], ◌∷◌, ◌++◌, Option, Some, None, refl, ap, ◌∙◌}
+use Rattle.session_laws.proofs.Vocabulary.{if◌then◌else◌, option_map, UserId, Object, Execute, Order, name_of, Check}
+use Rattle.session_laws.proofs.Vocabulary.{right, unlocked, must, Needs, EntryDenied, LockDenied, NotMultiuser}
+use Rattle.session_laws.proofs.Vocabulary.{NoWindow, Tables, Window, leaders_in, holder_in, denied_on, lock_denial}
+use Rattle.session_laws.proofs.Vocabulary.{Caller, needs, passes, verdict, refusal_of, verdicts, first_fault}
+use Rattle.session_laws.proofs.Vocabulary.{where_needed, window_checks, checks, typing_checks}
+use Rattle.std.specs.Option.{is_some}
 use Rattle.acl.specs.declared.act.Object.TheVariants as object
-use Rattle.acl.specs.declared.bits.Bit.TheVariants.{Execute}
-use Rattle.command_lang.specs.declared.command.Command.{Command as Order}
-use Rattle.command_lang.specs.Names.{name_of}
-use Rattle.session_model.specs.declared.check.Check.{Check}
-use Rattle.session_model.specs.declared.check.Check.TheVariants.{Right as right, Unlocked as unlocked, Must as must}
-use Rattle.command_lang.specs.declared.needs.Needs.{Needs}
-use Rattle.session_model.specs.declared.refusal.Refusal.TheVariants.{EntryDenied, LockDenied, NotMultiuser, NoWindow}
 use Rattle.session_model.specs.declared.refusal.Denied.TheVariants as denied
-use Rattle.session_model.specs.Tables.{Tables, Window}
-use Rattle.session_model.specs.Rights.{leaders_in, holder_in}
-use Rattle.session_model.specs.Denials.{denied_on, lock_denial}
-use Rattle.session_model.specs.Lines.{Caller}
-use Rattle.command_lang.specs.Needs.{needs}
-use Rattle.session_model.specs.Checks.{passes, verdict, refusal_of, verdicts, first_fault, where_needed, window_checks}
-use Rattle.session_model.specs.Checks.{checks, typing_checks}
 use Rattle.session_laws.proofs.Cutting.{cut, cut_window, cut_caller}
 use Rattle.session_laws.proofs.Finding.{number_cut}
 
@@ -43,14 +31,10 @@ module _ (shown : ℕ → Bool) (seeing : UserId → Bool) where
   refusal_cut t (must fact r) = refl
 
   passes_cut : (t : Tables) (c : Check) → passes (cut shown seeing t) c ≡ passes t c
-  passes_cut t (right user bit o) = refl
-  passes_cut t (unlocked user w) = refl
-  passes_cut t (must fact r) = refl
+  passes_cut t c = refl
 
   verdict_cut : (t : Tables) (c : Check) → verdict (cut shown seeing t) c ≡ verdict t c
-  verdict_cut t (right user bit o) = refl
-  verdict_cut t (unlocked user w) = refl
-  verdict_cut t (must fact r) = refl
+  verdict_cut t c = refl
 
   pub fault_cut : (t : Tables) (cs : List Check) → first_fault (cut shown seeing t) cs ≡ first_fault t cs
   fault_cut t [] = refl

@@ -1,30 +1,15 @@
 -- Each client of a run has exactly the keys and the deliveries that the run's entries say.
-use Rattle.std.proofs.Common.{◌≡◌, ℕ, ◌<◌, ◌≤◌, Bool, true, false, List, [], ◌∷◌, ◌++◌, Option, Some, None}
-use Rattle.std.proofs.Common.{refl, ap, sym, ◌∙◌, subst, take, length, ⊎_elim, arith}
-use Rattle.std.specs.Prelude.{◌⊎◌, if◌then◌else◌, ◌==◌, MatchOption}
-use Rattle.std.specs.List.{AllByRecursion}
-use Rattle.std.proofs.lemmas.Bool.Decides.{nat_tests}
-use Rattle.acl.specs.declared.user_id.UserId.{UserId}
-use Rattle.session_model.specs.declared.event.Effect.{Effect}
-use Rattle.session_model.specs.declared.event.Effect.TheVariants.{Deliver}
-use Rattle.session_model.specs.Trace.{EventValue, Attach, Keys, Open, Draw, Reply}
-use Rattle.session_model.specs.Trace.{Entry, Trace}
-use Rattle.session_model.specs.Tables.{Tables, Window, Client, row_of, client_at, fresh}
-use Rattle.session_model.specs.Checks.{first_fault, verdicts}
-use Rattle.session_model.specs.Keying.{taken}
-use Rattle.session_model.specs.Events.{outcome}
-use Rattle.session_model.specs.Outcomes.{reply_of}
-use Rattle.session_model.specs.Answering.{keys_outcome}
-use Rattle.session_model.specs.Comings.{attach_checks, attaches, new_client, open_checks, opens, new_window}
-use Rattle.session_model.specs.Run.{HasEffects, IsDraw, DrawsWhereNeeded, deliveries, drawn, drawn_on}
-use Rattle.session_model.specs.Run.{after, IsStep, IsRun, IsRunFrom, tables_from, tables_of}
-use Rattle.session_model.specs.Promises.{SomeOf}
-use Rattle.session_model.specs.Sound.{Rises, AreSound, client_serials}
-use Rattle.session_laws.specs.Entries.{keys_read, is_resize, delivered_by, all_keys, all_delivered}
-use Rattle.session_laws.proofs.Lists.{all_weaken, equal, row_serial}
+use Rattle.session_laws.proofs.Vocabulary.{◌≡◌, ℕ, ◌<◌, ◌≤◌, Bool, true, false, List, [], ◌∷◌, ◌++◌, Option, Some, None}
+use Rattle.session_laws.proofs.Vocabulary.{refl, ap, sym, ◌∙◌, subst, take, length, ⊎_elim, arith, if◌then◌else◌, ◌==◌}
+use Rattle.session_laws.proofs.Vocabulary.{MatchOption, AllByRecursion, nat_tests, UserId, Effect, Deliver, EventValue}
+use Rattle.session_laws.proofs.Vocabulary.{Keys, Draw, Reply, Entry, Trace, Tables, Client, row_of, client_at, fresh}
+use Rattle.session_laws.proofs.Vocabulary.{taken, outcome, keys_outcome, HasEffects, IsDraw, DrawsWhereNeeded}
+use Rattle.session_laws.proofs.Vocabulary.{deliveries, drawn, after, IsStep, IsRun, IsRunFrom, tables_from, tables_of}
+use Rattle.session_laws.proofs.Vocabulary.{SomeOf, Rises, AreSound, client_serials, some_elim, keys_read, is_resize}
+use Rattle.session_laws.proofs.Vocabulary.{delivered_by, all_keys, all_delivered, all_weaken, equal, row_serial}
+use Rattle.session_laws.proofs.Vocabulary.{Edition}
+use Rattle.session_laws.proofs.Settling.{after_grows}
 use Rattle.session_laws.proofs.Past.{GoesOn}
-use Rattle.acl.specs.declared.edition.Edition.{Edition}
-use Rattle.session_laws.proofs.Settling.{moving}
 use Rattle.session_laws.proofs.Sounding.{run_sound, fresh_sound}
 use Rattle.session_laws.proofs.Outcomes as outcomes
 use Rattle.session_laws.proofs.ClientsOfSteps.{Row, step_rows, none_of}
@@ -74,48 +59,12 @@ above_none : (t : Tables) (event : EventValue) (effects : List Effect) (n : ℕ)
 above_none t (Draw client) effects n s le is = drawn_above t client n effects (client_at t client) refl s le is
 above_none t event effects n s le is = none_of t event effects refl is n
 
--- ---- the next serials
-
-same_next : (a b : ℕ) → a ≡ b → b ≤ a
-same_next a b is = omega (arith, is)
-
-next_grows : (t : Tables) (event : EventValue) → AreSound t → t.next_client ≤ (outcome t event).tables.next_client
-next_grows t (Attach user rows columns) s =
-    outcomes.passed (λ o. t.next_client ≤ o.tables.next_client) t (verdicts t (attach_checks t user rows columns))
-    (first_fault t (attach_checks t user rows columns)) (reply_of 0 t.next_client 0 None)
-    (attaches t (new_client t user rows columns)) (λ r is. omega arith) (λ is. omega arith)
-next_grows t (Open user rows columns keep title) s =
-    let v : Window = new_window t rows columns keep title in
-    outcomes.passed (λ o. t.next_client ≤ o.tables.next_client) t
-    (verdicts t (open_checks t user rows columns keep title))
-    (first_fault t (open_checks t user rows columns keep title)) (reply_of 0 v.serial v.number None)
-    (opens t user v) (λ r is. omega arith) (λ is. omega arith)
-next_grows t event s = same_next _ _ (moving t event s refl).next_client
-
-drawn_next : (o : Option Client) (effects : List Effect) (v : Tables)
-    → (drawn_on o effects v).next_client ≡ v.next_client
-drawn_next None effects v = refl
-drawn_next (Some c) effects v = refl
-
-after_grows : (t : Tables) (event : EventValue) (effects : List Effect) → AreSound t
-    → t.next_client ≤ (drawn event effects (outcome t event).tables).next_client
-after_grows t (Draw client) effects s =
-    let w : Tables = (outcome t (Draw client)).tables in
-    subst (λ n. t.next_client ≤ n) (sym (drawn_next (client_at w client) effects w)) (next_grows t (Draw client) s)
-after_grows t event effects s = next_grows t event s
-
 -- ---- runs
 
 pub record Remembers (t : Tables) (past : List Entry) : Type 0 where
   pub rows : AllByRecursion
       (λ (c : Client). (c.keys ≡ all_keys past c.serial) × (c.delivered ≡ all_delivered past c.serial)) t.clients
   pub later : (n : ℕ) → t.next_client ≤ n → (all_keys past n ≡ []) × (all_delivered past n ≡ [])
-
-pub some_elim : {A : Type 0} (P Q : A → Type 0) (R : Type 0) (xs : List A) → ((x : A) → P x → Q x → R) → SomeOf P xs
-    → AllByRecursion Q xs → R
-some_elim P Q R [] on some all = absurd some
-some_elim P Q R (x ∷ xs) on some all = ⊎_elim (λ (here : P x). on x here all.0)
-    (λ later. some_elim P Q R xs on later all.1) some
 
 none_by : (event : EventValue) (reply : Reply) (effects : List Effect) (n : ℕ) (before : List ℕ) → before ≡ []
     → deliveries effects n ≡ [] → delivered_by event reply effects n before ≡ []
@@ -142,7 +91,7 @@ remembers t past e s step m = record {
       (step_rows t e.event e.effects s step.effects));
   later = λ n le.
       let above : t.next_client ≤ n =
-      (let grows : t.next_client ≤ (after t e).next_client = after_grows t e.event e.effects s in omega
+      (let grows : t.next_client ≤ (after t e).next_client = (after_grows t e.event e.effects s).1 in omega
       (arith, grows, le)) in
       let old = m.later n above in (
         ap (λ ks. ks ++ keys_read e.event e.reply n) old.0 ∙ ap (λ (r : Reply). keys_read e.event r n) step.reply

@@ -1,30 +1,16 @@
 -- After a step each client is new, or one of those before with the keys and deliveries of the step.
-use Rattle.std.proofs.Common.{◌≡◌, ℕ, Bool, true, false, not, List, [], ◌∷◌, ◌++◌, Option, Some, None, Ok}
-use Rattle.std.proofs.Common.{Err, refl, ap, sym, ◌∙◌, subst, filter, take, length, inl, inr, arith, suc, zero}
-use Rattle.std.specs.Prelude.{◌⊎◌, if◌then◌else◌, ◌==◌, MatchOption}
-use Rattle.std.specs.List.{AllByRecursion}
-use Rattle.std.proofs.lemmas.Bool.Decides.{nat_tests}
-use Rattle.keys.specs.Grammar.{Item}
-use Rattle.session_model.specs.declared.event.Effect.{Effect}
-use Rattle.session_model.specs.declared.event.Effect.TheVariants.{Deliver}
-use Rattle.session_model.specs.declared.refusal.Refusal.{Refusal}
-use Rattle.session_model.specs.Trace.{EventValue, Attach, Detach, Keys, Command, Open, Output, Closed, Draw, Reply}
-use Rattle.session_model.specs.Tables.{Tables, Window, Client, row_of, with_row, client_at, with_client}
-use Rattle.session_model.specs.Lines.{line_caller}
-use Rattle.session_model.specs.Deeds.{Deed, Answer, changing}
-use Rattle.session_model.specs.Commands.{does}
-use Rattle.session_model.specs.Keying.{taken, step_items, typed_bytes, command_item}
-use Rattle.session_model.specs.Events.{outcome}
-use Rattle.session_model.specs.Outcomes.{Outcome, finished, done, reply_of}
-use Rattle.session_model.specs.Answering.{keys_outcome, reading}
-use Rattle.session_model.specs.Comings.{new_client, new_window}
-use Rattle.session_model.specs.Granted.{granted_view}
-use Rattle.session_model.specs.Run.{HasEffects, IsDraw, DrawsWhereNeeded, deliveries, drawn, drawn_on, with_drawn}
-use Rattle.session_model.specs.Promises.{SomeOf, IsEffectOf}
-use Rattle.session_model.specs.Sound.{AreSound}
-use Rattle.session_laws.specs.Entries.{keys_read, is_resize}
+use Rattle.session_laws.proofs.Vocabulary.{◌≡◌, ℕ, Bool, true, false, not, List, [], ◌∷◌, ◌++◌, Option, Some, None, Err}
+use Rattle.session_laws.proofs.Vocabulary.{refl, ap, sym, ◌∙◌, subst, filter, take, length, inl, inr, arith, suc, zero}
+use Rattle.session_laws.proofs.Vocabulary.{◌⊎◌, if◌then◌else◌, ◌==◌, MatchOption, AllByRecursion, nat_tests, Item}
+use Rattle.session_laws.proofs.Vocabulary.{Effect, Deliver, Refusal, EventValue, Attach, Detach, Keys, Command, Open}
+use Rattle.session_laws.proofs.Vocabulary.{Output, Closed, Draw, Reply, Tables, Window, Client, row_of, with_row}
+use Rattle.session_laws.proofs.Vocabulary.{client_at, with_client, line_caller, Deed, changing, taken, step_items}
+use Rattle.session_laws.proofs.Vocabulary.{typed_bytes, command_item, outcome, Outcome, finished, done, reply_of}
+use Rattle.session_laws.proofs.Vocabulary.{keys_outcome, reading, new_client, new_window, granted_view, HasEffects}
+use Rattle.session_laws.proofs.Vocabulary.{IsDraw, DrawsWhereNeeded, deliveries, drawn, drawn_on, with_drawn, SomeOf}
+use Rattle.session_laws.proofs.Vocabulary.{IsEffectOf, AreSound, keys_read, is_resize, all_weaken, all_append, itself}
+use Rattle.session_laws.proofs.Vocabulary.{row_serial}
 use Rattle.session_laws.proofs.Inputs.{append_nil}
-use Rattle.session_laws.proofs.Lists.{all_weaken, all_append, itself, row_serial}
 use Rattle.session_laws.proofs.Doing.{Either}
 use Rattle.session_laws.proofs.EffectsCaused.{Fits, step_fits}
 use Rattle.session_laws.proofs.Unread.{row_at}
@@ -185,12 +171,6 @@ none_of t event effects other is = undelivered t event effects other
 
 -- ---- the events
 
-deed_keeps : (t : Tables) (a : Answer) (d : Deed) → a ≡ Ok d → Either (λ (e : Deed). Keeps t.clients e.tables.clients) a
-    → Keeps t.clients d.tables.clients
-deed_keeps t (Ok e) d is all = let same : e ≡ d = cc (is) in subst (λ (x : Deed). Keeps t.clients x.tables.clients) same
-    all
-deed_keeps t (Err r) d is all = absurd (cc (is))
-
 -- a refused event reads no keys
 none_read : (event : EventValue) (r : Refusal) (n : ℕ) → (keys_read event (Err r) n ≡ [])
     × (is_resize event (Err r) n ≡ false)
@@ -215,7 +195,7 @@ module _ (t : Tables) (effects : List Effect) (s : AreSound t) (none : (n : ℕ)
   happened _ _ (outcomes.keyed client bytes c at) = keys_rows t client bytes c effects at s none
   happened _ _ (outcomes.obeyed user number bytes c d known read passes is) =
       kept_rows t (Command user number bytes) (reply_of 0 0 0 d.lists) effects d.tables.clients (λ n. refl) (λ n. refl)
-      none (deed_keeps t (does t (line_caller t user number) c) d is (keeps t (line_caller t user number) c))
+      none (subst (Either (λ (e : Deed). Keeps t.clients e.tables.clients)) is (keeps t (line_caller t user number) c))
   happened _ _ (outcomes.opened user rows columns keep title passes) =
       kept_rows t (Open user rows columns keep title) (outcomes.made_by (new_window t rows columns keep title)) effects
       t.clients (λ n. refl) (λ n. refl) none (keeps_same t.clients)

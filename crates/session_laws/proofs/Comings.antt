@@ -1,39 +1,19 @@
 -- Which windows a step opens, and what users have on them.
-use Rattle.std.proofs.Common.{subst, ◌≡◌, ℕ, ◌+◌, Bool, true, false, List, [], ◌∷◌, Some, None, Ok, Err, refl, ap, sym}
-use Rattle.std.proofs.Common.{◌∙◌, inl, inr}
-use Rattle.std.specs.Prelude.{◌==◌, ◌||◌, ◌⊎◌, is_ok, Option}
-use Rattle.acl.specs.declared.user_id.UserId.{UserId}
-use Rattle.acl.specs.declared.act.Act.{Act}
-use Rattle.acl.specs.declared.bits.Bit.{Bit}
-use Rattle.acl.specs.declared.bits.Bit.TheVariants.{Execute}
+use Rattle.session_laws.proofs.Vocabulary.{◌≡◌, ℕ, ◌+◌, Bool, true, false, List, Some, None, Ok, Err, refl, ap, sym}
+use Rattle.session_laws.proofs.Vocabulary.{◌∙◌, inl, inr, ◌||◌, ◌⊎◌, is_ok, Option, UserId, Act, Bit, Execute}
+use Rattle.session_laws.proofs.Vocabulary.{same_user, mask, Effect, Verdict, Tables, Window, Client, client_at}
+use Rattle.session_laws.proofs.Vocabulary.{is_known, may_in, has_in, first_fault, verdicts, outcome, Given, commands_of}
+use Rattle.session_laws.proofs.Vocabulary.{Outcome, reply_of, done, open_checks, opens, new_window, IsStep, after}
+use Rattle.session_laws.proofs.Vocabulary.{drawn_on, EventValue, Keys, Command, Open, Draw, Reply, Entry, some_gives}
+use Rattle.session_laws.proofs.Vocabulary.{both_true, may_open}
 use Rattle.acl.specs.declared.command_name.CommandName.TheVariants as name
 use Rattle.acl.specs.declared.act.Object.TheVariants as object
-use Rattle.acl.specs.Same.{same_user}
-use Rattle.acl.specs.History.{mask}
-use Rattle.session_model.specs.declared.event.Effect.{Effect}
-use Rattle.session_model.specs.declared.event.Reason.TheVariants as reason
-use Rattle.session_model.specs.declared.verdict.Verdict.{Verdict}
-use Rattle.session_model.specs.Tables.{Tables, Window, Client, window_at, client_at, with_client, is_known}
-use Rattle.session_model.specs.Rights.{may_in, has_in}
-use Rattle.session_model.specs.Checks.{first_fault, verdicts}
-use Rattle.session_model.specs.Deeds.{changing, parts, closes}
-use Rattle.session_model.specs.Events.{outcome}
-use Rattle.session_model.specs.Given.{Given, commands_of}
-use Rattle.session_model.specs.Promises.{SomeOf}
-use Rattle.session_model.specs.Outcomes.{Outcome, reply_of, finished, done, where_passed}
-use Rattle.session_model.specs.Comings.{attach_checks, attaches, new_client, open_checks, opens, new_window, outputs}
-use Rattle.session_model.specs.Run.{IsStep, after, drawn_on}
-use Rattle.session_model.specs.Trace.{EventValue, Attach, Detach, Keys, Command, Open, Output, Closed, Draw, Reply}
-use Rattle.session_model.specs.Trace.{Entry}
-use Rattle.session_laws.proofs.Lists.{both_true}
 use Rattle.session_laws.proofs.Outcomes as outcomes
-use Rattle.session_laws.proofs.Outcomes.{Change, Changes, changes}
 use Rattle.session_laws.proofs.CommandActs.{IsRow}
 use Rattle.session_laws.proofs.Steps.{Did, with_clients}
 use Rattle.session_laws.proofs.Events.{gives_commands, is_open}
-use Rattle.session_laws.proofs.Gating.{Below, Steps, steps_of, row_did, first_passed, then_passed}
+use Rattle.session_laws.proofs.Gating.{Below, Steps, row_did, first_passed, then_passed}
 use Rattle.session_laws.proofs.Masking.{given_by_masks}
-use Rattle.session_laws.specs.Confined.{may_open}
 
 -- ---- an Open
 
@@ -73,35 +53,16 @@ refused_opens t opener rows columns keep title =
 
 -- ---- the other events
 
-changed_next : (t : Tables) (event : EventValue) (x : Change) → Changes event x → SameNext t (outcome t event)
-changed_next t event x f =
-    subst (SameNext t) (sym (f.happens t))
-    (outcomes.found (SameNext t) t (λ c. where_passed t x.checks done (changing (with_client t (x.row c))))
-    (client_at t x.client) refl
-    (λ c is. outcomes.passed (SameNext t) t (verdicts t x.checks) (first_fault t x.checks) done
-    (changing (with_client t (x.row c))) (λ r at. refl) (λ at. refl)))
+next_of : (t : Tables) (event : EventValue) (o : Outcome) → outcomes.Happens t event o → gives_commands event ≡ false
+    → is_open event ≡ false → SameNext t o
+next_of t _ _ (outcomes.keyed client bytes c at) not other = absurd (cc (not))
+next_of t _ _ (outcomes.obeyed user number bytes c d known read passes is) not other = absurd (cc (not))
+next_of t _ _ (outcomes.opened user rows columns keep title passes) not other = absurd (cc (other))
+next_of t _ _ h not other = refl
 
 other_next : (t : Tables) (event : EventValue) → gives_commands event ≡ false → is_open event ≡ false
     → SameNext t (outcome t event)
-other_next t (Attach user rows columns) not other =
-    outcomes.passed (SameNext t) t (verdicts t (attach_checks t user rows columns))
-    (first_fault t (attach_checks t user rows columns)) (reply_of 0 t.next_client 0 None)
-    (attaches t (new_client t user rows columns))
-    (λ r is. refl) (λ is. refl)
-other_next t (Detach client) not other =
-    outcomes.found (SameNext t) t (λ c. finished t [] done (parts (λ d. d.serial == client) reason.Detached t))
-    (client_at t client) refl (λ c is. refl)
-other_next t (Output window bytes) not other =
-    outcomes.found (SameNext t) t (λ w. finished t [] done (outputs t w bytes)) (window_at t window) refl (λ w is. refl)
-other_next t (Closed window) not other =
-    outcomes.found (SameNext t) t (λ w. finished t [] done (closes (λ v. v.serial == window) reason.Detached t))
-    (window_at t window) refl (λ w is. refl)
-other_next t (Draw client) not other =
-    outcomes.found (SameNext t) t (λ c. finished t [] done (changing t)) (client_at t client) refl (λ c is. refl)
-other_next t (Open user rows columns keep title) not other = absurd (cc (other))
-other_next t (Keys client bytes) not other = absurd (cc (not))
-other_next t (Command user number bytes) not other = absurd (cc (not))
-other_next t event not other = changed_next t event _ (changes event _ refl)
+other_next t event not other = next_of t event (outcome t event) (outcomes.happens t event) not other
 
 -- ---- every step
 
@@ -139,11 +100,6 @@ event_comes t (Open opener rows columns keep title) (Ok done) acts vs effects st
     })
 event_comes t (Open opener rows columns keep title) (Err r) acts vs effects step not =
     inl (refused_opens t opener rows columns keep title (ap is_ok (sym step.reply)))
-event_comes t (Attach user rows columns) reply acts vs effects step not = inl
-    (other_next t (Attach user rows columns) refl refl)
-event_comes t (Detach client) reply acts vs effects step not = inl (other_next t (Detach client) refl refl)
-event_comes t (Output window bytes) reply acts vs effects step not = inl (other_next t (Output window bytes) refl refl)
-event_comes t (Closed window) reply acts vs effects step not = inl (other_next t (Closed window) refl refl)
 event_comes t (Draw client) reply acts vs effects step not =
     let u : Tables = (outcome t (Draw client)).tables in inl
     (drawn_next t.next_window (client_at u client) effects u (other_next t (Draw client) refl refl))
@@ -155,16 +111,12 @@ did_next : (t : Tables) (e : Entry) (g : Given) → Did t e g → (after t e).ne
 did_next t e g d = let r : IsRow (with_clients t d.clients) g.caller g.order d.deed = row_did t e g d in
     d.tables.next_window ∙ r.next_window
 
-some_next : (t : Tables) (e : Entry) (gs : List Given) → SomeOf (Did t e) gs → (after t e).next_window ≡ t.next_window
-some_next t e [] some = absurd some
-some_next t e (g ∷ gs) (inl did) = did_next t e g did
-some_next t e (g ∷ gs) (inr later) = some_next t e gs later
-
 pub comes : Below → (t : Tables) (e : Entry) → IsStep t e → Comes t e
 comes laws t e step = on (gives_commands e.event) refl where
   obeys : Rattle.session_laws.proofs.Steps.Obeys t e → Comes t e
   obeys (inl rests) = inl rests.tables.next_window
-  obeys (inr some) = inl (some_next t e (commands_of t e.event) some)
+  obeys (inr some) = inl
+      (some_gives (Did t e) ((after t e).next_window ≡ t.next_window) (commands_of t e.event) (did_next t e) some)
 
   on : (b : Bool) → gives_commands e.event ≡ b → Comes t e
   on true is = obeys (Rattle.session_laws.proofs.Gating.obeys_of laws t e step is)

@@ -1,30 +1,17 @@
 -- Which acts each command has, and what it leaves unchanged.
-use Rattle.std.proofs.Common.{◌≡◌, ℕ, Bool, true, false, not, List, [], ◌∷◌, Option, Some, None, refl, ap, sym, ◌∙◌}
-use Rattle.std.proofs.Common.{subst, map, filter}
-use Rattle.std.specs.Prelude.{◌==◌}
-use Rattle.std.specs.List.{AllByRecursion}
-use Rattle.acl.specs.declared.user_id.UserId.{UserId}
-use Rattle.acl.specs.declared.act.Act.{Act}
+use Rattle.session_laws.proofs.Vocabulary.{all_made, ◌≡◌, ℕ, Bool, true, false, not, List, [], ◌∷◌, Option, Some, None}
+use Rattle.session_laws.proofs.Vocabulary.{refl, ap, sym, ◌∙◌, subst, map, filter, ◌==◌, AllByRecursion, UserId, Act}
+use Rattle.session_laws.proofs.Vocabulary.{named_by, Order, Arrangement, Detached, Killed, SingleUser, Quit, Tables}
+use Rattle.session_laws.proofs.Vocabulary.{Window, Client, with_layout, focused, known_users, names_of, new_leader_of}
+use Rattle.session_laws.proofs.Vocabulary.{Caller, Deed, removes, parts, closes, entering, without_windows, does}
+use Rattle.session_laws.proofs.Vocabulary.{caller_client, mask_entries, IsOn, not_so, equal, all_weaken, all_append}
+use Rattle.session_laws.proofs.Vocabulary.{contradicts, name_of, changes_rights, needs}
 use Rattle.acl.specs.declared.act.Act.TheVariants as act
-use Rattle.acl.specs.Names.{named_by}
-use Rattle.command_lang.specs.declared.command.Command.{Command as Order}
 use Rattle.command_lang.specs.declared.command.Command.TheVariants as command
-use Rattle.regions.specs.Layouts.{Arrangement}
-use Rattle.session_model.specs.declared.event.Reason.TheVariants.{Detached, Killed, SingleUser, Quit}
-use Rattle.session_model.specs.Tables.{Tables, Window, Client, with_layout, focused, known_users}
-use Rattle.session_model.specs.Naming.{names_of, new_leader_of}
-use Rattle.session_model.specs.Lines.{Caller}
 use Rattle.session_model.specs.Deeds as deeds
-use Rattle.session_model.specs.Deeds.{Deed, removes, parts, closes, entering, without_windows}
-use Rattle.session_model.specs.Commands.{does, caller_client, mask_entries}
-use Rattle.session_model.specs.Promises.{IsOn}
-use Rattle.session_laws.proofs.Lists.{equal, all_weaken, all_of, all_map, all_passed, all_append, contradicts}
 use Rattle.session_laws.proofs.Doing.{Either, caller_is}
-use Rattle.command_lang.specs.Names.{name_of}
-use Rattle.session_laws.specs.Changing.{changes_rights}
 use Rattle.session_laws.proofs.Listing.{is_listing, AllListing, change_list, add_list, group_list, mask_list}
 use Rattle.session_laws.proofs.Shapes as shapes
-use Rattle.command_lang.specs.Needs.{needs}
 
 -- which acts a command of this caller has
 abbrev pub IsActOf : Caller → Order → Act → Type 0
@@ -60,14 +47,7 @@ listing k c acts changes all = all_weaken (λ a. is_listing a ≡ true) (IsActOf
   one (act.Grouped user leader) is = changes
   one (act.Masked by user bit value) is = changes
   one (act.Preset kind bit value) is = changes
-  one (act.Opened by w) is = absurd (cc (is))
-  one (act.Closed w) is = absurd (cc (is))
-  one (act.Attached client user) is = absurd (cc (is))
-  one (act.Parted client) is = absurd (cc (is))
-  one (act.Entered user w) is = absurd (cc (is))
-  one (act.Left user w) is = absurd (cc (is))
-  one (act.Mode by w mode) is = absurd (cc (is))
-  one (act.Default mode) is = absurd (cc (is))
+  one a is = absurd (cc (is))
 
 -- the acts of a command's row, and what the row leaves unchanged
 pub record IsRow (t : Tables) (k : Caller) (c : Order) (d : Deed) : Type 0 where
@@ -99,18 +79,12 @@ entered t k c d l on = row t k c _ (entering_acts k c d.user (focused (with_layo
 parted_acts : (k : Caller) (c : Order) (goes : Client → Bool) (cs : List Client)
     → ((d : Client) → goes d ≡ true → IsActOf k c (act.Parted d.serial))
     → AllByRecursion (IsActOf k c) (map (λ (d : Client). act.Parted d.serial) (filter goes cs))
-parted_acts k c goes cs on =
-    all_map (IsActOf k c) (λ (d : Client). act.Parted d.serial) (filter goes cs)
-    (all_passed (λ (d : Client). IsActOf k c (act.Parted d.serial)) goes cs
-    (all_of (λ (d : Client). goes d ≡ true → IsActOf k c (act.Parted d.serial)) cs on))
+parted_acts k c goes cs on = all_made (IsActOf k c) (λ (d : Client). act.Parted d.serial) goes cs on
 
 closed_acts : (k : Caller) (c : Order) (goes : Window → Bool) (ws : List Window)
     → ((w : Window) → goes w ≡ true → IsActOf k c (act.Closed w.serial))
     → AllByRecursion (IsActOf k c) (map (λ (w : Window). act.Closed w.serial) (filter goes ws))
-closed_acts k c goes ws on =
-    all_map (IsActOf k c) (λ (w : Window). act.Closed w.serial) (filter goes ws)
-    (all_passed (λ (w : Window). IsActOf k c (act.Closed w.serial)) goes ws
-    (all_of (λ (w : Window). goes w ≡ true → IsActOf k c (act.Closed w.serial)) ws on))
+closed_acts k c goes ws on = all_made (IsActOf k c) (λ (w : Window). act.Closed w.serial) goes ws on
 
 removal : (t : Tables) (k : Caller) (word : List ℕ) (o : Option UserId) → IsRow t k (command.Acldel word) (removes o t)
 removal t k word None = row t k _ _ tt refl refl refl refl
@@ -139,10 +113,7 @@ module _ (t : Tables) (k : Caller) (by : IsCaller t k) where
   as_row c x d is r = subst (λ (y : Order). IsRow t k y d) (sym is) r
 
   no_right : (c : Order) → (needs c).multiuser ≡ false → changes_rights (name_of c) ≡ false
-  no_right c none = on (changes_rights (name_of c)) refl where
-    on : (b : Bool) → changes_rights (name_of c) ≡ b → b ≡ false
-    on true is = contradicts (needs c).multiuser (needs_mode c is) none
-    on false is = refl
+  no_right c none = not_so (changes_rights (name_of c)) (λ is. contradicts (needs c).multiuser (needs_mode c is) none)
 
   on_rights : (c x : Order) (acts : List Act) → c ≡ x → changes_rights (name_of x) ≡ true → AllListing acts
       → AllByRecursion (IsActOf k c) acts
@@ -201,22 +172,15 @@ module _ (t : Tables) (k : Caller) (by : IsCaller t k) where
       (without_windows (filter (λ (w : Window). true) t.windows) t.clients) (λ d goes. tt))) refl refl refl refl
 
   deed_row : (c : Order) (d : Deed) → shapes.Shape t k c d → IsRow t k c d
-  deed_row c d (shapes.lists bytes none tells) = row t k c _ tt refl refl refl refl
   deed_row c d (shapes.acts all none acted) = row t k c _ (acted_row c all acted) refl refl refl refl
   deed_row c d (shapes.enters_page x l of at shows) = entered t k c x l (λ w. (by x at, no_right c of.1))
-  deed_row c d (shapes.keeps_page x l of at shows same) = row t k c _ tt refl refl refl refl
-  deed_row c d (shapes.writes_to w what one at) = row t k c _ tt refl refl refl refl
   deed_row c d (shapes.opened is) = as_row c _ _ is opened_row
   deed_row c d (shapes.shut is) = as_row c _ _ is shut_row
-  deed_row c d (shapes.told bytes is) = row t k c _ tt refl refl refl refl
   deed_row c d (shapes.removed word is clear) = as_row c _ _ is (removal t k word (named_by word))
-  deed_row c d (shapes.fitted w rows columns is at) = row t k c _ tt refl refl refl refl
-  deed_row c d (shapes.titled w bytes is at) = row t k c _ tt refl refl refl refl
-  deed_row c d (shapes.numbered w n is at free) = row t k c _ tt refl refl refl refl
-  deed_row c d (shapes.typed w bytes is at) = row t k c _ tt refl refl refl refl
   deed_row c d (shapes.detached x is at) = as_row c _ _ is (detached_row x at)
   deed_row c d (shapes.killed w is at) = as_row c _ _ is (killed_row w at)
   deed_row c d (shapes.quits is) = as_row c _ _ is quit_row
+  deed_row c d kind = row t k c _ tt refl refl refl refl
 
 pub row_of : (t : Tables) (k : Caller) → IsCaller t k → (c : Order) → Either (IsRow t k c) (does t k c)
 row_of t k by c = shapes.by_shape (IsRow t k c) t k c (deed_row t k by c)

@@ -1,27 +1,16 @@
 -- Each effect of a command's deed, and what the deed lists, is one that the command may have.
-use Rattle.std.proofs.Common.{◌≡◌, ℕ, Bool, true, false, not, List, [], ◌∷◌, ◌++◌, Option, Some, None, map, filter}
-use Rattle.std.proofs.Common.{refl, ap, sym, ◌∙◌, subst, length}
-use Rattle.std.specs.Prelude.{if◌then◌else◌, ◌==◌, codes}
-use Rattle.std.specs.List.{AllByRecursion}
-use Rattle.std.specs.Option.{option_map_or}
-use Rattle.acl.specs.declared.user_id.UserId.{UserId}
-use Rattle.acl.specs.Names.{named_by, name_of}
-use Rattle.command_lang.specs.declared.command.Command.{Command as Order}
+use Rattle.session_laws.proofs.Vocabulary.{◌≡◌, ℕ, Bool, true, false, not, List, [], ◌∷◌, ◌++◌, Option, Some, None, map}
+use Rattle.session_laws.proofs.Vocabulary.{filter, refl, ap, sym, ◌∙◌, subst, length, if◌then◌else◌, ◌==◌, codes}
+use Rattle.session_laws.proofs.Vocabulary.{AllByRecursion, option_map_or, UserId, named_by, Order, Effect, Input, Say}
+use Rattle.session_laws.proofs.Vocabulary.{Gone, Size, Reason, Detached, Killed, Removed, SingleUser, Quit, Tables}
+use Rattle.session_laws.proofs.Vocabulary.{Window, Client, Caller, Deed, removes, is_of, parts, closes, without_window}
+use Rattle.session_laws.proofs.Vocabulary.{without_windows, input_of, both, changing, tells, writes, does}
+use Rattle.session_laws.proofs.Vocabulary.{caller_client, SomeOf, IsOn, IsOpen, IsClient, IsDoneBy, is_named, told_by}
+use Rattle.session_laws.proofs.Vocabulary.{equal, all_weaken, all_append, all_map, all_passed, filter_all, some_weaken}
+use Rattle.session_laws.proofs.Vocabulary.{members}
+use Rattle.acl.specs.Names.{name_of}
 use Rattle.command_lang.specs.declared.command.Command.TheVariants as command
-use Rattle.session_model.specs.declared.event.Effect.{Effect}
-use Rattle.session_model.specs.declared.event.Effect.TheVariants.{Input, Say, Gone, Size}
 use Rattle.session_model.specs.declared.event.Peer.TheVariants as peer
-use Rattle.session_model.specs.declared.event.Reason.{Reason}
-use Rattle.session_model.specs.declared.event.Reason.TheVariants.{Detached, Killed, Removed, SingleUser, Quit}
-use Rattle.session_model.specs.Tables.{Tables, Window, Client}
-use Rattle.session_model.specs.Lines.{Caller}
-use Rattle.session_model.specs.Deeds.{Deed, removes, is_of, parts, closes, without_window, without_windows, input_of}
-use Rattle.session_model.specs.Deeds.{both, changing, tells, writes}
-use Rattle.session_model.specs.Commands.{does, caller_client}
-use Rattle.session_model.specs.Promises.{SomeOf, IsOn, IsOpen, IsClient, IsDoneBy, is_named}
-use Rattle.session_model.specs.Denying.{told_by}
-use Rattle.session_laws.proofs.Lists.{equal, all_weaken, all_append, all_map, all_passed, filter_all, some_weaken}
-use Rattle.session_laws.proofs.Lists.{members}
 use Rattle.terminal_model.specs.Writing as written
 use Rattle.session_laws.proofs.Doing.{Either, giving, caller_is}
 use Rattle.session_laws.proofs.Shapes as shapes
@@ -206,21 +195,15 @@ module _ (t : Tables) (k : Caller) where
 
   deed_done : (c : Order) (d : Deed) → shapes.Shape t k c d → HasDone t k c d
   deed_done c d (shapes.lists bytes none tells) = record { effects = tt; lists = λ more is. tells ∙ is }
-  deed_done c d (shapes.acts all none acted) = still t k c _ refl refl
-  deed_done c d (shapes.enters_page x l of at shows) = still t k c _ refl refl
-  deed_done c d (shapes.keeps_page x l of at shows same) = still t k c _ refl refl
-  deed_done c d (shapes.writes_to w what one at) = still t k c _ refl refl
-  deed_done c d (shapes.opened is) = still t k c _ refl refl
   deed_done c d (shapes.shut is) = as_done c _ _ is shut_done
   deed_done c d (shapes.told bytes is) = as_done c _ _ is (told_done bytes)
   deed_done c d (shapes.removed word is clear) = as_done c _ _ is (removal_done t k word (named_by word) refl)
   deed_done c d (shapes.fitted w rows columns is at) = as_done c _ _ is (fitted_done w rows columns at)
-  deed_done c d (shapes.titled w bytes is at) = still t k c _ refl refl
-  deed_done c d (shapes.numbered w n is at free) = still t k c _ refl refl
   deed_done c d (shapes.typed w bytes is at) = as_done c _ _ is (typed_done w bytes at)
   deed_done c d (shapes.detached x is at) = as_done c _ _ is (detached_done x at)
   deed_done c d (shapes.killed w is at) = as_done c _ _ is (killed_done w at)
   deed_done c d (shapes.quits is) = as_done c _ _ is quit_done
+  deed_done c d kind = still t k c _ refl refl
 
 pub done_by : (t : Tables) (k : Caller) (c : Order) → Either (HasDone t k c) (does t k c)
 done_by t k c = shapes.by_shape (HasDone t k c) t k c (deed_done t k c)

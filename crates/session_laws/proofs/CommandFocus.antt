@@ -1,32 +1,17 @@
 -- How each command moves the focus of clients, command by command.
-use Rattle.std.proofs.Common.{◌≡◌, ℕ, zero, suc, ◌<◌, Bool, true, false, not, List, [], ◌∷◌, ◌++◌, Option, Some, None}
-use Rattle.std.proofs.Common.{refl, ap, sym, ◌∙◌, subst, map, filter, inl, inr, ⊎_elim, arith}
-use Rattle.std.specs.Prelude.{◌⊎◌, if◌then◌else◌, ◌==◌}
-use Rattle.std.specs.List.{AllByRecursion}
-use Rattle.std.specs.Option.{option_and_then}
-use Rattle.std.proofs.lemmas.Bool.Decides.{nat_tests}
-use Rattle.acl.specs.declared.user_id.UserId.{UserId}
-use Rattle.acl.specs.declared.act.Act.{Act}
+use Rattle.session_laws.proofs.Vocabulary.{◌≡◌, ℕ, zero, suc, Bool, true, false, not, List, [], ◌∷◌, ◌++◌, Option, Some}
+use Rattle.session_laws.proofs.Vocabulary.{None, refl, ap, sym, ◌∙◌, map, filter, inl, inr, ⊎_elim, ◌⊎◌, if◌then◌else◌}
+use Rattle.session_laws.proofs.Vocabulary.{◌==◌, AllByRecursion, UserId, Act, named_by, Order, Shown, Arrangement}
+use Rattle.session_laws.proofs.Vocabulary.{emptied, Reason, Detached, Killed, Quit, SingleUser, Tables, Window, Client}
+use Rattle.session_laws.proofs.Vocabulary.{row_of, with_row, with_layout, focused, Caller, Deed, removes, parts, closes}
+use Rattle.session_laws.proofs.Vocabulary.{is_of, without_window, without_windows, enters, arranges, entering, hearing}
+use Rattle.session_laws.proofs.Vocabulary.{does, caller_client, SomeOf, Rises, client_serials, row_replaced, other_way}
+use Rattle.session_laws.proofs.Vocabulary.{entered_by, all_weaken, all_filter, all_map, members, some_weaken, itself}
 use Rattle.acl.specs.declared.act.Act.TheVariants as act
-use Rattle.acl.specs.Names.{named_by}
-use Rattle.command_lang.specs.declared.command.Command.{Command as Order}
-use Rattle.regions.specs.declared.shown.Shown.{Shown}
-use Rattle.regions.specs.Layouts.{Arrangement, emptied}
-use Rattle.session_model.specs.declared.event.Reason.{Reason}
-use Rattle.session_model.specs.declared.event.Reason.TheVariants.{Detached, Killed, Quit, SingleUser}
 use Rattle.session_model.specs.declared.message.StatusMessage.TheVariants as message
-use Rattle.session_model.specs.Tables.{Tables, Window, Client, row_of, with_row, client_at, with_layout, focused}
-use Rattle.session_model.specs.Lines.{Caller}
 use Rattle.session_model.specs.Deeds as deeds
-use Rattle.session_model.specs.Deeds.{Deed, removes, parts, closes, is_of, without_window, without_windows, enters}
-use Rattle.session_model.specs.Deeds.{arranges, entering, hearing}
-use Rattle.session_model.specs.Commands.{does, caller_client}
-use Rattle.session_model.specs.Promises.{SomeOf}
-use Rattle.session_model.specs.Sound.{Rises, client_serials}
-use Rattle.session_laws.specs.Focus.{entered_by}
-use Rattle.session_laws.proofs.Lists.{all_weaken, all_filter, all_map, members, some_weaken, equal, itself}
+use Rattle.session_laws.proofs.Unread.{caller_row}
 use Rattle.session_laws.proofs.Doing.{Either, caller_is}
-use Rattle.session_laws.proofs.Unread.{row_at}
 use Rattle.session_laws.proofs.Moving.{AllRights}
 use Rattle.session_laws.proofs.Inputs.{append_nil}
 use Rattle.session_laws.proofs.Showing.{at_place}
@@ -129,48 +114,12 @@ without_kept cs (w ∷ ws) ds all = without_kept cs ws (map (without_window w.se
     (kept_map (without_window w.serial) cs ds
     (λ d. (refl, refl, λ v is. emptied_place w.serial d.layout.shown d.layout.focus v is)) all)
 
-module _ (f : ℕ → Option (UserId × ℕ)) (c x : Client) (own : GoesOn f c x)
-    (others : (n : ℕ) → (c.serial == n) ≡ false → f n ≡ None) where
-  goes_same : (r : Client) → (c.serial == r.serial) ≡ false → GoesOn f r r
-  goes_same r off = (refl, refl, λ w is. inr (others r.serial off, is))
-
-  later_rows : (cs : List Client) → AllByRecursion (λ m. c.serial < m) (client_serials cs)
-      → AllByRecursion (λ d. SomeOf (λ r. GoesOn f r d) cs) cs
-  later_rows [] above = tt
-  later_rows (r ∷ cs) above =
-      let lt : c.serial < r.serial = above.0 in
-      let off : (c.serial == r.serial) ≡ false = grind (arith, nat_tests, lt) in (
-        inl (goes_same r off),
-        all_weaken (λ d. SomeOf (λ q. GoesOn f q d) cs) (λ d. SomeOf (λ q. GoesOn f q d) (r ∷ cs))
-            cs (λ d some. inr some) (later_rows cs above.1),
-      )
-
-  other : (a b : ℕ) → (a == b) ≡ false → (b == a) ≡ false
-  other a b is = grind (arith, nat_tests, is)
-
-  pub row_goes : (cs : List Client) (next : ℕ) → Rises (client_serials cs) next
-      → row_of (λ (r : Client). r.serial) cs c.serial ≡ Some c
-      → AllGoOn cs f (with_row (λ (r : Client). r.serial) cs c.serial x)
-  row_goes [] next rise is = absurd (cc (is))
-  row_goes (r ∷ cs) next rise is = on (r.serial == c.serial) refl is (row_goes cs next rise.2) where
-    on : (b : Bool) → (r.serial == c.serial) ≡ b
-        → (if b then Some r else row_of (λ (q : Client). q.serial) cs c.serial) ≡ Some c
-        → (row_of (λ (q : Client). q.serial) cs c.serial ≡ Some c
-        → AllGoOn cs f (with_row (λ (q : Client). q.serial) cs c.serial x))
-        → AllGoOn (r ∷ cs) f (if b then x ∷ cs else r ∷ with_row (λ (q : Client). q.serial) cs c.serial x)
-    on true at is rest =
-        let e : r ≡ c = cc (is) in (
-          inl (subst (λ (q : Client). GoesOn f q x) (sym e) own),
-          all_weaken (λ d. SomeOf (λ q. GoesOn f q d) cs) (λ d. SomeOf (λ q. GoesOn f q d) (r ∷ cs)) cs
-              (λ d some. inr some)
-              (later_rows cs
-              (subst (λ n. AllByRecursion (λ m. n < m) (client_serials cs)) (equal r.serial c.serial at) rise.1)),
-        )
-    on false at is rest = (
-      inl (goes_same r (other r.serial c.serial at)),
-      all_weaken (λ d. SomeOf (λ q. GoesOn f q d) cs) (λ d. SomeOf (λ q. GoesOn f q d) (r ∷ cs))
-          (with_row (λ (q : Client). q.serial) cs c.serial x) (λ d some. inr some) (rest is),
-    )
+pub row_goes : (f : ℕ → Option (UserId × ℕ)) (c x : Client) → GoesOn f c x
+    → ((n : ℕ) → (c.serial == n) ≡ false → f n ≡ None) → (cs : List Client) (next : ℕ)
+    → Rises (client_serials cs) next → row_of (λ (r : Client). r.serial) cs c.serial ≡ Some c
+    → AllGoOn cs f (with_row (λ (r : Client). r.serial) cs c.serial x)
+row_goes f c x own none cs next rise is = row_replaced (λ (r : Client). r.serial) (GoesOn f) c x own
+    (λ r off. (refl, refl, λ w is. inr (none r.serial (other_way r.serial c.serial off), is))) cs next rise is
 
 -- ---- the rows
 
@@ -199,11 +148,6 @@ rights t k acts all = calm t k (deeds.acting t acts) (rights_enter acts all) (ke
 
 lists : (t : Tables) (k : Caller) (bytes : List ℕ) → HasGone t k (deeds.listing t bytes)
 lists t k bytes = calm t k (deeds.listing t bytes) refl (kept_same t.clients)
-
-caller_row : (t : Tables) (o : Option ℕ) (c : Client) → option_and_then (client_at t) o ≡ Some c
-    → client_at t c.serial ≡ Some c
-caller_row t None c is = absurd (cc (is))
-caller_row t (Some n) c is = row_at t n c is
 
 parts_gone : (t : Tables) (k : Caller) (p : Client → Bool) (why : Reason) → HasGone t k (parts p why t)
 parts_gone t k p why = calm t k (parts p why t)
@@ -266,8 +210,6 @@ module _ (t : Tables) (k : Caller) (s : Rises (client_serials t.clients) t.next_
   gone_deed c d (shapes.acts all none acted) = rights t k all (acted_rights t k c all acted)
   gone_deed c d (shapes.enters_page x l of at shows) = entered x l at
   gone_deed c d (shapes.keeps_page x l of at shows same) = arranged x l at same
-  gone_deed c d (shapes.writes_to w what one at) = calm t k _ refl (kept_same t.clients)
-  gone_deed c d (shapes.opened is) = calm t k _ refl (kept_same t.clients)
   gone_deed c d (shapes.shut is) = calm t k _
       (sym (ap entered_by (append_nil (parts (λ x. not (is_of t.owner x)) SingleUser t).acts))
       ∙ parted_enter (filter (λ x. not (is_of t.owner x)) t.clients) [])
@@ -275,13 +217,10 @@ module _ (t : Tables) (k : Caller) (s : Rises (client_serials t.clients) t.next_
   gone_deed c d (shapes.told bytes is) = calm t k _ refl
       (kept_map (hearing (message.Text _)) t.clients t.clients (λ x. (refl, refl, λ w is. is)) (kept_same t.clients))
   gone_deed c d (shapes.removed word is clear) = removal_gone t k (named_by word)
-  gone_deed c d (shapes.fitted w rows columns is at) = calm t k _ refl (kept_same t.clients)
-  gone_deed c d (shapes.titled w bytes is at) = calm t k _ refl (kept_same t.clients)
-  gone_deed c d (shapes.numbered w n is at free) = calm t k _ refl (kept_same t.clients)
-  gone_deed c d (shapes.typed w bytes is at) = calm t k _ refl (kept_same t.clients)
   gone_deed c d (shapes.detached x is at) = parts_gone t k _ Detached
   gone_deed c d (shapes.killed w is at) = closes_gone t k _ Killed
   gone_deed c d (shapes.quits is) = quit_gone t k
+  gone_deed c d kind = calm t k _ refl (kept_same t.clients)
 
   pub gone : (c : Order) → Either (HasGone t k) (does t k c)
   gone c = shapes.by_shape (HasGone t k) t k c (gone_deed c)

@@ -1,23 +1,13 @@
 -- Commands leave the numbers and titles of all windows but the one that they act on.
-use Rattle.std.proofs.Common.{◌≡◌, ℕ, Bool, true, false, not, List, [], ◌∷◌, ◌++◌, Option, Some, None, refl, ap, sym}
-use Rattle.std.proofs.Common.{◌∙◌, subst, filter, inl, inr}
-use Rattle.std.specs.Prelude.{if◌then◌else◌, ◌==◌, ◌⊎◌}
-use Rattle.std.specs.Option.{option_map}
-use Rattle.acl.specs.declared.user_id.UserId.{UserId}
+use Rattle.session_laws.proofs.Vocabulary.{◌≡◌, ℕ, Bool, true, false, not, List, [], ◌∷◌, ◌++◌, Option, Some, None}
+use Rattle.session_laws.proofs.Vocabulary.{refl, ap, sym, ◌∙◌, subst, filter, inl, inr, if◌then◌else◌, ◌==◌, ◌⊎◌}
+use Rattle.session_laws.proofs.Vocabulary.{option_map, UserId, named_by, Order, name_of, Tables, Window, row_of}
+use Rattle.session_laws.proofs.Vocabulary.{with_row, window_at, with_window, Caller, Deed, removes, does, IsOn, equal}
+use Rattle.session_laws.proofs.Vocabulary.{names_its_window}
 use Rattle.acl.specs.declared.command_name.CommandName.TheVariants as name
-use Rattle.acl.specs.Names.{named_by}
-use Rattle.command_lang.specs.declared.command.Command.{Command as Order}
-use Rattle.command_lang.specs.Names.{name_of}
 use Rattle.terminal_model.specs.Writing as written
-use Rattle.session_model.specs.Tables.{Tables, Window, row_of, with_row, window_at, with_window}
-use Rattle.session_model.specs.Lines.{Caller}
 use Rattle.session_model.specs.Deeds as deeds
-use Rattle.session_model.specs.Deeds.{Deed, removes}
-use Rattle.session_model.specs.Commands.{does}
-use Rattle.session_model.specs.Promises.{IsOn}
-use Rattle.session_laws.proofs.Lists.{equal}
 use Rattle.session_laws.proofs.Doing.{Either}
-use Rattle.session_laws.specs.Naming.{names_its_window}
 use Rattle.session_laws.proofs.Shapes as shapes
 
 abbrev pub serial : Window → ℕ
@@ -152,14 +142,7 @@ module _ (t : Tables) (k : Caller) (row : (w : Window) → k.window ≡ Some w �
     names_it c x is names = ap (λ (y : Order). names_its_window (name_of y)) is ∙ names
 
     deed_kept : (c : Order) (d : Deed) → shapes.Shape t k c d → KeepsLabel c d
-    deed_kept c d (shapes.lists bytes none tells) = inl refl
-    deed_kept c d (shapes.acts all none acted) = inl refl
-    deed_kept c d (shapes.enters_page x l of here shows) = inl refl
-    deed_kept c d (shapes.keeps_page x l of here shows same) = inl refl
     deed_kept c d (shapes.writes_to w what one here) = writes c w what here
-    deed_kept c d (shapes.opened is) = inl refl
-    deed_kept c d (shapes.shut is) = inl refl
-    deed_kept c d (shapes.told bytes is) = inl refl
     deed_kept c d (shapes.removed word is clear) = removal c (named_by word)
     deed_kept c d (shapes.fitted w rows columns is here) = inl
         (written_label t w (record w { writing = w.writing ++ written.Size rows columns ∷ [] }) at (row w here) refl
@@ -170,11 +153,10 @@ module _ (t : Tables) (k : Caller) (row : (w : Window) → k.window ≡ Some w �
     deed_kept c d (shapes.numbered w n is here free) =
         own c (names_it c _ is refl) w here (with_window t (record w { number = n })).windows
         (elsewhere t.windows w.serial (record w { number = n }) at refl)
-    deed_kept c d (shapes.typed w bytes is here) = inl refl
-    deed_kept c d (shapes.detached x is here) = inl refl
     deed_kept c d (shapes.killed w is here) = own c (names_it c _ is refl) w here
         (filter (λ (v : Window). not (v.serial == w.serial)) t.windows) (closed t.windows w.serial at)
     deed_kept c d (shapes.quits is) = inr (inr (ap name_of is))
+    deed_kept c d kind = inl refl
 
     pub labels_kept : (c : Order) → Either (KeepsLabel c) (does t k c)
     labels_kept c = shapes.by_shape (KeepsLabel c) t k c (deed_kept c)

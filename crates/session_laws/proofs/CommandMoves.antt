@@ -1,36 +1,22 @@
 -- Each command moves windows and clients as `Moves` says.
-use Rattle.std.proofs.Common.{◌≡◌, ℕ, ◌+◌, ◌≤◌, Bool, true, false, not, List, [], ◌∷◌, ◌++◌, Option, Some, None, refl}
-use Rattle.std.proofs.Common.{ap, sym, ◌∙◌, subst, map, filter, length, arith, suc}
-use Rattle.std.specs.Prelude.{if◌then◌else◌, ◌==◌}
-use Rattle.std.specs.Option.{option_and_then, option_map_or}
-use Rattle.acl.specs.declared.user_id.UserId.{UserId}
-use Rattle.acl.specs.declared.act.Act.{Act}
+use Rattle.session_laws.proofs.Vocabulary.{◌≡◌, ℕ, ◌+◌, ◌≤◌, Bool, true, false, not, List, [], ◌∷◌, ◌++◌, Option, Some}
+use Rattle.session_laws.proofs.Vocabulary.{None, refl, ap, sym, ◌∙◌, subst, map, filter, length, arith, suc}
+use Rattle.session_laws.proofs.Vocabulary.{if◌then◌else◌, ◌==◌, option_map_or, UserId, Act, same_user, named_by, Order}
+use Rattle.session_laws.proofs.Vocabulary.{Arrangement, Effect, Input, Say, Size, Gone, Reason, Detached, Killed}
+use Rattle.session_laws.proofs.Vocabulary.{Removed, SingleUser, Quit, Text, Tables, Window, Client, window_at}
+use Rattle.session_laws.proofs.Vocabulary.{client_at, with_window, with_client, with_layout, focused, with_number}
+use Rattle.session_laws.proofs.Vocabulary.{Caller, Deed, changing, acting, removes, is_of, parts, closes, both}
+use Rattle.session_laws.proofs.Vocabulary.{without_window, without_windows, enters, arranges, entering, input_of}
+use Rattle.session_laws.proofs.Vocabulary.{hearing, tells, does, caller_client, is_taken, NumbersDiffer, equal}
+use Rattle.session_laws.proofs.Vocabulary.{filter_all, row_serial}
 use Rattle.acl.specs.declared.act.Act.TheVariants as act
-use Rattle.acl.specs.Same.{same_user}
-use Rattle.acl.specs.Names.{named_by}
-use Rattle.command_lang.specs.declared.command.Command.{Command as Order}
-use Rattle.regions.specs.Layouts.{Arrangement}
 use Rattle.terminal_model.specs.Writing as written
-use Rattle.session_model.specs.declared.event.Effect.{Effect}
-use Rattle.session_model.specs.declared.event.Effect.TheVariants.{Input, Say, Size, Gone}
 use Rattle.session_model.specs.declared.event.Peer.TheVariants as peer
-use Rattle.session_model.specs.declared.event.Reason.{Reason}
-use Rattle.session_model.specs.declared.event.Reason.TheVariants.{Detached, Killed, Removed, SingleUser, Quit}
-use Rattle.session_model.specs.declared.message.StatusMessage.TheVariants.{Text}
-use Rattle.session_model.specs.Tables.{Tables, Window, Client, window_at, client_at, with_window, with_client}
-use Rattle.session_model.specs.Tables.{with_layout, focused}
-use Rattle.session_model.specs.Naming.{with_number}
-use Rattle.session_model.specs.Lines.{Caller}
 use Rattle.session_model.specs.Deeds as deeds
-use Rattle.session_model.specs.Deeds.{Deed, changing, acting, removes, is_of, parts, closes, both, without_window}
-use Rattle.session_model.specs.Deeds.{without_windows, enters, arranges, entering, input_of, hearing, tells}
-use Rattle.session_model.specs.Commands.{does, caller_client, is_taken}
-use Rattle.session_model.specs.Sound.{NumbersDiffer}
+use Rattle.session_laws.proofs.Unread.{caller_row}
 use Rattle.session_laws.proofs.Inputs.{append_nil}
-use Rattle.session_laws.proofs.Lists.{equal, filter_all, row_serial}
 use Rattle.session_laws.proofs.DifferentNumbers.{serial_of, IsFree, with_numbers, fewer_numbers, own_number}
 use Rattle.session_laws.proofs.Doing.{Either}
-use Rattle.session_laws.proofs.Unread.{row_at}
 use Rattle.session_laws.proofs.Moving.{AllAside, DeedMoves, id_of, ids, serials, closed, parted, filter_map, stays}
 use Rattle.session_laws.proofs.Moving.{acts_only, lists_only, map_with_row, filter_none, right_aside}
 use Rattle.session_laws.proofs.Shapes as shapes
@@ -61,11 +47,6 @@ length_append [] ys = omega arith
 length_append (x ∷ xs) ys = let e : length (xs ++ ys) ≡ length xs + length ys = length_append xs ys in omega (arith, e)
 
 -- ---- pages
-
-caller_row : (t : Tables) (o : Option ℕ) (c : Client) → option_and_then (client_at t) o ≡ Some c
-    → client_at t c.serial ≡ Some c
-caller_row t None c is = absurd (cc (is))
-caller_row t (Some n) c is = row_at t n c is
 
 pub client_ids : (t : Tables) (c d : Client) → client_at t c.serial ≡ Some c → id_of d ≡ id_of c
     → map id_of (with_client t d).clients ≡ map id_of t.clients

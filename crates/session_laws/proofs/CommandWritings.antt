@@ -1,33 +1,19 @@
 -- What each command writes to windows, command by command.
-use Rattle.std.proofs.Common.{◌≡◌, ℕ, ◌<◌, ◌≤◌, Bool, true, false, not, List, [], ◌∷◌, ◌++◌, Option, Some, None, Ok}
-use Rattle.std.proofs.Common.{Err, refl, ap, sym, ◌∙◌, subst, map, filter, inl, inr, ⊎_elim, arith, append_assoc}
-use Rattle.std.specs.Prelude.{◌⊎◌, if◌then◌else◌, ◌==◌, length}
-use Rattle.std.specs.List.{AllByRecursion, list_any}
-use Rattle.std.proofs.lemmas.Bool.Decides.{nat_tests}
-use Rattle.acl.specs.declared.user_id.UserId.{UserId}
-use Rattle.acl.specs.Names.{named_by}
-use Rattle.command_lang.specs.declared.command.Command.{Command as Order}
+use Rattle.session_laws.proofs.Vocabulary.{◌≡◌, ℕ, ◌<◌, ◌≤◌, Bool, true, false, not, List, [], ◌∷◌, ◌++◌, Option, Some}
+use Rattle.session_laws.proofs.Vocabulary.{None, Ok, Err, refl, ap, sym, ◌∙◌, subst, map, filter, inl, inr, ⊎_elim}
+use Rattle.session_laws.proofs.Vocabulary.{arith, append_assoc, ◌⊎◌, if◌then◌else◌, ◌==◌, length, AllByRecursion}
+use Rattle.session_laws.proofs.Vocabulary.{list_any, nat_tests, UserId, named_by, Order, Writing, Effect, Input}
+use Rattle.session_laws.proofs.Vocabulary.{Deliver, Say, Size, Gone, Reason, Detached, Killed, Quit, Removed}
+use Rattle.session_laws.proofs.Vocabulary.{SingleUser, Refusal, NoWindow, Tables, Window, Client, row_of, with_row}
+use Rattle.session_laws.proofs.Vocabulary.{window_at, with_window, Caller, Deed, given, removes, parts, closes, is_of}
+use Rattle.session_laws.proofs.Vocabulary.{does, coding_of, says_same, unsaid, SomeOf, Rises, row_goes, other_way}
+use Rattle.session_laws.proofs.Vocabulary.{order_writing, is_own, sizes_of, all_weaken, all_filter, members}
+use Rattle.session_laws.proofs.Vocabulary.{some_weaken, some_row, itself}
 use Rattle.command_lang.specs.declared.command.Command.TheVariants as command
-use Rattle.terminal_model.specs.Writing.{Writing}
 use Rattle.terminal_model.specs.Writing as written
-use Rattle.session_model.specs.declared.event.Effect.{Effect}
-use Rattle.session_model.specs.declared.event.Effect.TheVariants.{Input, Deliver, Say, Size, Gone}
 use Rattle.session_model.specs.declared.event.Peer.TheVariants as peer
-use Rattle.session_model.specs.declared.event.Reason.{Reason}
-use Rattle.session_model.specs.declared.event.Reason.TheVariants.{Detached, Killed, Quit, Removed, SingleUser}
-use Rattle.session_model.specs.declared.refusal.Refusal.{Refusal}
-use Rattle.session_model.specs.declared.refusal.Refusal.TheVariants.{NoWindow}
-use Rattle.session_model.specs.Tables.{Tables, Window, Client, row_of, with_row, window_at, with_window}
-use Rattle.session_model.specs.Lines.{Caller}
 use Rattle.session_model.specs.Deeds as deeds
-use Rattle.session_model.specs.Deeds.{Deed, given, removes, parts, closes, is_of}
-use Rattle.session_model.specs.Commands.{does, coding_of}
-use Rattle.session_model.specs.Answering.{says_same, unsaid}
-use Rattle.session_model.specs.Promises.{SomeOf}
-use Rattle.session_model.specs.Sound.{Rises}
-use Rattle.session_laws.specs.Written.{order_writing, is_own, sizes_of}
 use Rattle.session_laws.proofs.Inputs.{append_nil}
-use Rattle.session_laws.proofs.Lists.{all_weaken, all_filter, members, some_weaken, some_row, equal, itself}
 use Rattle.session_laws.proofs.DifferentNumbers.{serial_of}
 use Rattle.session_laws.proofs.Doing.{Either}
 use Rattle.session_laws.proofs.Moving.{serials}
@@ -104,52 +90,6 @@ kept_wrote t f ws none kept = record {
 
 -- ---- one window to which something is written
 
-module _ (f : ℕ → List Writing) (w : Window) (what : Writing) (own : f w.serial ≡ what ∷ [])
-    (others : (n : ℕ) → (w.serial == n) ≡ false → f n ≡ []) where
-  abbrev more : Window
-  more = record w { writing = w.writing ++ what ∷ [] }
-
-  goes_same : (r : Window) → (w.serial == r.serial) ≡ false → GoesOn f r r
-  goes_same r off = (refl, sym (append_nil r.writing) ∙ ap (λ x. r.writing ++ x) (sym (others r.serial off)))
-
-  later_rows : (ws : List Window) → AllByRecursion (λ m. w.serial < m) (map serial_of ws)
-      → AllByRecursion (λ v. SomeOf (λ r. GoesOn f r v) ws) ws
-  later_rows [] above = tt
-  later_rows (r ∷ ws) above =
-      let lt : w.serial < r.serial = above.0 in
-      let off : (w.serial == r.serial) ≡ false = grind (arith, nat_tests, lt) in (
-        inl (goes_same r off),
-        all_weaken (λ v. SomeOf (λ r. GoesOn f r v) ws) (λ v. SomeOf (λ r. GoesOn f r v) (r ∷ ws))
-            ws (λ v some. inr some) (later_rows ws above.1),
-      )
-
-  other : (a b : ℕ) → (a == b) ≡ false → (b == a) ≡ false
-  other a b is = grind (arith, nat_tests, is)
-
-  rows_written : (ws : List Window) (next : ℕ) → Rises (map serial_of ws) next → row_of serial_of ws w.serial ≡ Some w
-      → AllByRecursion (λ v. SomeOf (λ r. GoesOn f r v) ws) (with_row serial_of ws w.serial more)
-  rows_written [] next rise is = absurd (cc (is))
-  rows_written (r ∷ ws) next rise is = on (r.serial == w.serial) refl is (rows_written ws next rise.2) where
-    on : (b : Bool) → (r.serial == w.serial) ≡ b → (if b then Some r else row_of serial_of ws w.serial) ≡ Some w
-        →
-        (row_of serial_of ws w.serial ≡ Some w
-        → AllByRecursion (λ v. SomeOf (λ r. GoesOn f r v) ws) (with_row serial_of ws w.serial more))
-        → AllByRecursion (λ v. SomeOf (λ q. GoesOn f q v) (r ∷ ws))
-        (if b then more ∷ ws else r ∷ with_row serial_of ws w.serial more)
-    on true at is rest =
-        let e : r ≡ w = cc (is) in (
-          inl (subst (λ (q : Window). GoesOn f q more) (sym e) (refl, ap (λ x. w.writing ++ x) (sym own))),
-          all_weaken (λ v. SomeOf (λ q. GoesOn f q v) ws) (λ v. SomeOf (λ q. GoesOn f q v) (r ∷ ws)) ws
-              (λ v some. inr some)
-              (later_rows ws
-              (subst (λ n. AllByRecursion (λ m. n < m) (map serial_of ws)) (equal r.serial w.serial at) rise.1)),
-        )
-    on false at is rest = (
-      inl (goes_same r (other r.serial w.serial at)),
-      all_weaken (λ v. SomeOf (λ q. GoesOn f q v) ws) (λ v. SomeOf (λ q. GoesOn f q v) (r ∷ ws))
-          (with_row serial_of ws w.serial more) (λ v some. inr some) (rest is),
-    )
-
 serial_below : (ws : List Window) (next n : ℕ) (w : Window) → Rises (map serial_of ws) next
     → row_of serial_of ws n ≡ Some w → w.serial < next
 serial_below [] next n w rise is = absurd (cc (is))
@@ -168,7 +108,13 @@ pub row_wrote : (t : Tables) (f : ℕ → List Writing) (w : Window) (what : Wri
 row_wrote t f w what s at own others = record {
   rows = all_weaken (λ v. SomeOf (λ r. GoesOn f r v) t.windows) (Row t f)
       (with_row serial_of t.windows w.serial (record w { writing = w.writing ++ what ∷ [] })) (λ v some. inl some)
-      (rows_written f w what own others t.windows t.next_window s at);
+      (row_goes serial_of (GoesOn f) w (record w { writing = w.writing ++ what ∷ [] })
+      (refl, ap (λ x. w.writing ++ x) (sym own))
+      (λ r off. (
+        refl,
+        sym (append_nil r.writing)
+            ∙ ap (λ x. r.writing ++ x) (sym (others r.serial (other_way r.serial w.serial off))),
+      )) t.windows t.next_window s at);
   above = λ n le. others n (apart w.serial n t.next_window (serial_below t.windows t.next_window w.serial w s at) le);
 }
 
@@ -179,11 +125,7 @@ sizes_append [] ys n = refl
 sizes_append (Size at rows columns ∷ xs) ys n =
     ap (λ ws. (if at == n then written.Size rows columns ∷ [] else []) ++ ws) (sizes_append xs ys n)
     ∙ sym (append_assoc (if at == n then written.Size rows columns ∷ [] else []) (sizes_of xs n) (sizes_of ys n))
-sizes_append (Input at bytes ∷ xs) ys n = sizes_append xs ys n
-sizes_append (Deliver to bytes ∷ xs) ys n = sizes_append xs ys n
-sizes_append (Say to bytes ∷ xs) ys n = sizes_append xs ys n
-sizes_append (Gone (peer.Window at) why ∷ xs) ys n = sizes_append xs ys n
-sizes_append (Gone (peer.Client at) why ∷ xs) ys n = sizes_append xs ys n
+sizes_append (a ∷ xs) ys n = sizes_append xs ys n
 
 -- an effect that is dropped because it was said before is no size
 sizes_one : (e : Effect) (said es : List Effect) (n : ℕ) → sizes_of (unsaid said es) n ≡ sizes_of es n

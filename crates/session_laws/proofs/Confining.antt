@@ -1,34 +1,16 @@
 -- A user who is shut out of a bit by the masks of all openers doesn't get it on windows that open
 -- later.
-use Rattle.std.proofs.Common.{◌≡◌, ℕ, ◌+◌, Bool, true, false, not, List, [], ◌∷◌, refl, ap, sym, ◌∙◌, subst, inl, inr}
-use Rattle.std.proofs.Common.{arith}
-use Rattle.std.specs.Prelude.{◌||◌, ◌&&◌, nat_lt}
-use Rattle.std.specs.List.{AllByRecursion, list_any}
-use Rattle.std.proofs.lemmas.Bool.Decides.{nat_tests}
-use Rattle.acl.specs.declared.edition.Edition.{Edition}
-use Rattle.acl.specs.declared.user_id.UserId.{UserId}
-use Rattle.acl.specs.declared.bits.Bit.{Bit}
-use Rattle.acl.specs.declared.bits.Bit.TheVariants.{Execute}
+use Rattle.session_laws.proofs.Vocabulary.{◌≡◌, ℕ, ◌+◌, Bool, true, false, not, List, [], ◌∷◌, refl, ap, sym, ◌∙◌}
+use Rattle.session_laws.proofs.Vocabulary.{subst, inl, inr, arith, ◌||◌, ◌&&◌, nat_lt, AllByRecursion, list_any}
+use Rattle.session_laws.proofs.Vocabulary.{nat_tests, Edition, UserId, Bit, Execute, Act, Object, same_user, History}
+use Rattle.session_laws.proofs.Vocabulary.{has, may, mask, leaders_of, same_user-true, commands_of, may_in, has_in}
+use Rattle.session_laws.proofs.Vocabulary.{IsRunFrom, after, tables_from, Tables, is_known, Entry, not_so, contradicts}
+use Rattle.session_laws.proofs.Vocabulary.{all_weaken, SameRights, RightsAreGated, AllSteps, AreGuests, may_open}
+use Rattle.session_laws.proofs.Vocabulary.{circle, AreShutOut, GrantsAreTheirs, came, AreConfined}
 use Rattle.acl.specs.declared.command_name.CommandName.TheVariants as name
-use Rattle.acl.specs.declared.act.Act.{Act}
-use Rattle.acl.specs.declared.act.Object.{Object}
 use Rattle.acl.specs.declared.act.Object.TheVariants as object
-use Rattle.acl.specs.Same.{same_user}
-use Rattle.acl.specs.History.{History, has, may, mask, leaders_of}
-use Rattle.acl.proofs.StandsForLemmas.{same_user-true}
-use Rattle.command_lang.specs.Names.{name_of}
-use Rattle.session_model.specs.Given.{Given, commands_of}
-use Rattle.session_model.specs.Promises.{SomeOf}
-use Rattle.session_model.specs.Rights.{may_in, has_in}
-use Rattle.session_model.specs.Run.{IsRunFrom, after, tables_from}
-use Rattle.session_model.specs.Tables.{Tables, is_known}
-use Rattle.session_model.specs.Trace.{Entry}
-use Rattle.session_laws.proofs.Lists.{contradicts, all_weaken}
-use Rattle.session_laws.specs.Changing.{SameRights, MayChangeRights, RightsAreGated}
-use Rattle.session_laws.specs.Contained.{AllSteps, AreGuests}
 use Rattle.session_laws.proofs.Gating.{Below, gated}
-use Rattle.session_laws.proofs.Containing.{Grows, Remains, grows, remains, not_opened, step_remains}
-use Rattle.session_laws.specs.Confined.{may_open, circle, AreShutOut, GrantsAreTheirs, came, AreConfined}
+use Rattle.session_laws.proofs.Containing.{Grows, Remains, grows, stays, none_granted, not_opened, step_remains}
 use Rattle.session_laws.proofs.Comings.{Opens, Comes, comes}
 
 -- ---- a user who may not
@@ -87,10 +69,8 @@ shut_still t u acts users bit same shut = record {
 
 another : (t : Tables) (opener u : UserId) → may_open t opener ≡ true → may_open t u ≡ false
     → same_user opener u ≡ false
-another t opener u may not = on (same_user opener u) refl where
-  on : (b : Bool) → same_user opener u ≡ b → b ≡ false
-  on true is = contradicts (may_open t opener) may (ap (may_open t) (same_user-true opener u is) ∙ not)
-  on false is = refl
+another t opener u may not = not_so (same_user opener u)
+    (λ is. contradicts (may_open t opener) may (ap (may_open t) (same_user-true opener u is) ∙ not))
 
 neither : (a b : Bool) → a ≡ false → b ≡ false → (a || b) ≡ false
 neither false b p q = q
@@ -125,14 +105,6 @@ pub record Confines (start t : Tables) (users : UserId → Bool) (bit : Bit) : T
       → may_in t user bit (object.Window w) ≡ false
   pub remains : Remains start t users
   pub shut : AreShutOut t users bit
-
-none_granted : (t : Tables) (users : UserId → Bool) (gs : List Given) → AreGuests t users
-    → AllByRecursion (λ (g : Given). MayChangeRights t g → users g.caller.user ≡ true) gs
-    → SomeOf (MayChangeRights t) gs → ⊥
-none_granted t users [] are all some = some
-none_granted t users (g ∷ gs) are all (inl may) = contradicts _ may.granted
-    (are g.caller.user (name_of g.order) (all.0 may) may.changes)
-none_granted t users (g ∷ gs) are all (inr later) = none_granted t users gs are all.1 later
 
 not_both : {P : Type 0} (b : Bool) → (not b && b) ≡ true → P
 not_both true is = absurd (cc (is))
@@ -186,28 +158,12 @@ gated_confines start t e users bit g (inr some) c theirs before = absurd
 
 -- ---- every run
 
--- on what was there, without masks
-gated_stays : (start t : Tables) (e : Entry) (guests : UserId → Bool) → Grows t e.acts (after t e)
-    → RightsAreGated t e → GrantsAreTheirs guests t e → Remains start t guests → Remains start (after t e) guests
-gated_stays start t e guests g (inl same) theirs before = step_remains start t e.acts (after t e) guests g same before
-gated_stays start t e guests g (inr some) theirs before =
-    absurd (none_granted t guests (commands_of t e.event) before.contained.as_before theirs some)
-
-pub stays : Below → (start : Tables) (later : List Entry) (guests : UserId → Bool) → AreGuests start guests
-    → IsRunFrom start later → AllSteps (GrantsAreTheirs guests) start later
-    → Remains start (tables_from start later) guests
-stays laws start [] guests are run theirs = remains laws start [] guests are tt tt
-stays laws start (e ∷ past) guests are run theirs =
-    let t : Tables = tables_from start past in
-    gated_stays start t e guests (grows laws t e run.1) (gated laws t e run.1) theirs.1
-    (stays laws start past guests are run.0 theirs.0)
-
 confines : Below → (start : Tables) (later : List Entry) (users : UserId → Bool) (bit : Bit) → AreGuests start users
     → AreShutOut start users bit → IsRunFrom start later → AllSteps (GrantsAreTheirs users) start later
     → Confines start (tables_from start later) users bit
 confines laws start [] users bit are shut run theirs = record {
   windows = λ user w is at. not_both (nat_lt w start.next_window) at;
-  remains = remains laws start [] users are tt tt;
+  remains = stays laws start [] users are tt tt;
   shut = shut;
 }
 confines laws start (e ∷ past) users bit are shut run theirs =

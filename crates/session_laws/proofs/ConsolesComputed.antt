@@ -1,21 +1,10 @@
 -- The rows of the consoles, proved by computing.
+use Rattle.session_laws.proofs.Vocabulary.{◌≡◌, List, [], ◌∷◌, refl, inl, inr, AllByRecursion, is_utf8, chars, digits}
+use Rattle.session_laws.proofs.Vocabulary.{char_width, First, Second, Bit, Read, Write, Execute, UserId, command_named}
+use Rattle.session_laws.proofs.Vocabulary.{single, double, words_faults, unless, refused_if, given, Tables, AreShutOut}
+use Rattle.session_laws.proofs.Vocabulary.{ann}
 use lib.Utf8.{encode}
-use Rattle.std.proofs.Common.{◌≡◌, List, [], ◌∷◌, refl, inl, inr}
-use Rattle.std.specs.List.{AllByRecursion}
-use Rattle.std.specs.Str.{is_utf8, chars}
-use Rattle.std.specs.Fmt.{digits}
-use Rattle.unicode_width.specs.Width.{char_width}
-use Rattle.acl.specs.declared.edition.Edition.TheVariants.{First, Second}
-use Rattle.acl.specs.declared.bits.Bit.{Bit}
-use Rattle.acl.specs.declared.bits.Bit.TheVariants.{Read, Write, Execute}
-use Rattle.acl.specs.declared.user_id.UserId.{UserId}
-use Rattle.command_lang.specs.Names.{command_named}
-use Rattle.strings.specs.Lines.{single, double, parts, line}
-use Rattle.command_lang.specs.Table.{words_faults}
-use Rattle.session_model.specs.Deeds.{unless, refused_if, given}
-use Rattle.session_model.specs.Tables.{Tables}
-use Rattle.session_laws.specs.Confined.{AreShutOut}
-use Rattle.session_laws.specs.WorkedPolicies.{ann}
+use Rattle.strings.specs.Lines.{parts, line}
 use Rattle.session_laws.specs.WorkedConsoles as rows
 use Rattle.session_laws.proofs.WorkedKnowing.{named}
 use Rattle.session_laws.proofs.WorkedShutting.{None5, guests, IsOut, Shuts, shut_out}

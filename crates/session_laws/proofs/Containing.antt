@@ -1,26 +1,14 @@
 -- Guests are contained: they can't change rights, in any run.
-use Rattle.std.proofs.Common.{◌≡◌, ◌≤◌, ℕ, Bool, true, false, List, [], ◌∷◌, refl, ap, sym, ◌∙◌, subst, inl, inr, arith}
-use Rattle.std.specs.Prelude.{◌==◌, ◌||◌, nat_lt}
-use Rattle.std.specs.List.{AllByRecursion, list_any}
-use Rattle.std.proofs.lemmas.Bool.Decides.{nat_tests}
-use Rattle.acl.specs.declared.user_id.UserId.{UserId}
-use Rattle.acl.specs.declared.act.Act.{Act}
+use Rattle.session_laws.proofs.Vocabulary.{◌≡◌, ◌≤◌, ℕ, Bool, true, false, List, [], ◌∷◌, refl, ap, sym, ◌∙◌, subst}
+use Rattle.session_laws.proofs.Vocabulary.{inl, inr, arith, ◌==◌, ◌||◌, nat_lt, AllByRecursion, list_any, nat_tests}
+use Rattle.session_laws.proofs.Vocabulary.{UserId, Act, Object, name_of, Order, left_acts, Given, commands_of, Caller}
+use Rattle.session_laws.proofs.Vocabulary.{SomeOf, IsStep, IsRunFrom, after, tables_from, Tables, EventValue, Open}
+use Rattle.session_laws.proofs.Vocabulary.{Entry, GrantsAreTheirs, some_gives, some_elim, contradicts, all_weaken}
+use Rattle.session_laws.proofs.Vocabulary.{all_append, changes_rights, opens_window, opened_by, SameLists, SameRights}
+use Rattle.session_laws.proofs.Vocabulary.{MayChangeRights, RightsAreGated, AllSteps, AreGuests, ChangesAreTheirs}
+use Rattle.session_laws.proofs.Vocabulary.{stood, AreContained}
 use Rattle.acl.specs.declared.act.Act.TheVariants as act
-use Rattle.acl.specs.declared.act.Object.{Object}
 use Rattle.acl.specs.declared.act.Object.TheVariants as object
-use Rattle.command_lang.specs.Names.{name_of}
-use Rattle.command_lang.specs.declared.command.Command.{Command as Order}
-use Rattle.session_model.specs.Outcomes.{left_acts}
-use Rattle.session_model.specs.Given.{Given, commands_of}
-use Rattle.session_model.specs.Lines.{Caller}
-use Rattle.session_model.specs.Promises.{SomeOf}
-use Rattle.session_model.specs.Run.{IsStep, IsRunFrom, after, tables_from}
-use Rattle.session_model.specs.Tables.{Tables}
-use Rattle.session_model.specs.Trace.{EventValue, Open, Entry}
-use Rattle.session_laws.proofs.Lists.{contradicts, all_weaken, all_append}
-use Rattle.session_laws.specs.Changing.{changes_rights, opens_window, opened_by, SameLists, SameRights}
-use Rattle.session_laws.specs.Changing.{MayChangeRights, RightsAreGated}
-use Rattle.session_laws.specs.Contained.{AllSteps, AreGuests, ChangesAreTheirs, stood, AreContained}
 use Rattle.session_laws.proofs.CommandActs.{IsActOf, IsRow}
 use Rattle.session_laws.proofs.Steps.{Did, with_clients}
 use Rattle.session_laws.proofs.Events.{IsActIn, all_left}
@@ -61,11 +49,6 @@ did_grows t e g d =
       next = same_le t.next_window (after t e).next_window (sym (d.tables.next_window ∙ r.next_window));
     }
 
-some_grows : (t : Tables) (e : Entry) (gs : List Given) → SomeOf (Did t e) gs → Grows t e.acts (after t e)
-some_grows t e [] some = absurd some
-some_grows t e (g ∷ gs) (inl did) = did_grows t e g did
-some_grows t e (g ∷ gs) (inr later) = some_grows t e gs later
-
 pub grows : Below → (t : Tables) (e : Entry) → IsStep t e → Grows t e.acts (after t e)
 grows laws t e step = on (steps_of laws t e step) where
   on : Steps t e → Grows t e.acts (after t e)
@@ -78,7 +61,7 @@ grows laws t e step = on (steps_of laws t e step) where
     opened = subst (AllByRecursion (IsNew t.next_window)) (sym rests.acts) tt;
     next = same_le t.next_window (after t e).next_window (sym rests.tables.next_window);
   }
-  on (inr (inr some)) = some_grows t e (commands_of t e.event) some
+  on (inr (inr some)) = some_gives (Did t e) (Grows t e.acts (after t e)) (commands_of t e.event) (did_grows t e) some
 
 -- a window that was there before isn't opened again
 pub not_opened : (n w : ℕ) (acts : List Act) → AllByRecursion (IsNew n) acts → nat_lt w n ≡ true
@@ -88,19 +71,7 @@ not_opened n w (act.Opened by v ∷ acts) all before =
     let le : n ≤ v = all.0 in
     let other : (v == w) ≡ false = grind (arith, nat_tests, le, before) in
     ap (λ b. b || list_any (opens_window w) acts) other ∙ not_opened n w acts all.1 before
-not_opened n w (act.Closed v ∷ acts) all before = not_opened n w acts all.1 before
-not_opened n w (act.Known user ∷ acts) all before = not_opened n w acts all.1 before
-not_opened n w (act.Gone user ∷ acts) all before = not_opened n w acts all.1 before
-not_opened n w (act.Set user bit o value ∷ acts) all before = not_opened n w acts all.1 before
-not_opened n w (act.Grouped user leader ∷ acts) all before = not_opened n w acts all.1 before
-not_opened n w (act.Masked by user bit value ∷ acts) all before = not_opened n w acts all.1 before
-not_opened n w (act.Preset kind bit value ∷ acts) all before = not_opened n w acts all.1 before
-not_opened n w (act.Attached client user ∷ acts) all before = not_opened n w acts all.1 before
-not_opened n w (act.Parted client ∷ acts) all before = not_opened n w acts all.1 before
-not_opened n w (act.Entered user v ∷ acts) all before = not_opened n w acts all.1 before
-not_opened n w (act.Left user v ∷ acts) all before = not_opened n w acts all.1 before
-not_opened n w (act.Mode by v mode ∷ acts) all before = not_opened n w acts all.1 before
-not_opened n w (act.Default mode ∷ acts) all before = not_opened n w acts all.1 before
+not_opened n w (a ∷ acts) all before = not_opened n w acts all.1 before
 
 stood_later : (m n w : ℕ) → m ≤ n → nat_lt w m ≡ true → nat_lt w n ≡ true
 stood_later m n w le before = grind (arith, nat_tests, le, before)
@@ -113,13 +84,12 @@ old_object start t acts u le g (object.Command c) is = refl
 
 -- ---- each step
 
-none_changes : (t : Tables) (guests : UserId → Bool) (gs : List Given) → AreGuests t guests
-    → AllByRecursion (λ (g : Given). changes_rights (name_of g.order) ≡ true → guests g.caller.user ≡ true) gs
+pub none_granted : (t : Tables) (users : UserId → Bool) (gs : List Given) → AreGuests t users
+    → AllByRecursion (λ (g : Given). MayChangeRights t g → users g.caller.user ≡ true) gs
     → SomeOf (MayChangeRights t) gs → ⊥
-none_changes t guests [] are all some = some
-none_changes t guests (g ∷ gs) are all (inl may) = contradicts _ may.granted
-    (are g.caller.user (name_of g.order) (all.0 may.changes) may.changes)
-none_changes t guests (g ∷ gs) are all (inr later) = none_changes t guests gs are all.1 later
+none_granted t users gs are all some =
+    some_elim (MayChangeRights t) (λ (g : Given). MayChangeRights t g → users g.caller.user ≡ true) ⊥ gs
+    (λ g may theirs. contradicts _ may.granted (are g.caller.user (name_of g.order) (theirs may) may.changes)) some all
 
 pub record Remains (start t : Tables) (guests : UserId → Bool) : Type 0 where
   pub contained : AreContained start t guests
@@ -150,16 +120,16 @@ step_remains start t acts u guests g same r = record {
       omega (arith, le, more);
 }
 
-gated_remains : (start t : Tables) (e : Entry) (guests : UserId → Bool) → Grows t e.acts (after t e)
-    → RightsAreGated t e → ChangesAreTheirs guests t e → Remains start t guests → Remains start (after t e) guests
-gated_remains start t e guests g (inl same) theirs before = step_remains start t e.acts (after t e) guests g same before
-gated_remains start t e guests g (inr some) theirs before = absurd
-    (none_changes t guests (commands_of t e.event) before.contained.as_before theirs some)
+gated_stays : (start t : Tables) (e : Entry) (guests : UserId → Bool) → Grows t e.acts (after t e)
+    → RightsAreGated t e → GrantsAreTheirs guests t e → Remains start t guests → Remains start (after t e) guests
+gated_stays start t e guests g (inl same) theirs before = step_remains start t e.acts (after t e) guests g same before
+gated_stays start t e guests g (inr some) theirs before =
+    absurd (none_granted t guests (commands_of t e.event) before.contained.as_before theirs some)
 
-pub remains : Below → (start : Tables) (later : List Entry) (guests : UserId → Bool) → AreGuests start guests
-    → IsRunFrom start later → AllSteps (ChangesAreTheirs guests) start later
+pub stays : Below → (start : Tables) (later : List Entry) (guests : UserId → Bool) → AreGuests start guests
+    → IsRunFrom start later → AllSteps (GrantsAreTheirs guests) start later
     → Remains start (tables_from start later) guests
-remains laws start [] guests are run theirs = record {
+stays laws start [] guests are run theirs = record {
   contained = record {
     rights = record {
       lists = record {
@@ -176,7 +146,19 @@ remains laws start [] guests are run theirs = record {
   };
   next = same_le start.next_window start.next_window refl;
 }
-remains laws start (e ∷ past) guests are run theirs =
+stays laws start (e ∷ past) guests are run theirs =
     let t : Tables = tables_from start past in
-    gated_remains start t e guests (grows laws t e run.1) (gated laws t e run.1) theirs.1
-    (remains laws start past guests are run.0 theirs.0)
+    gated_stays start t e guests (grows laws t e run.1) (gated laws t e run.1) theirs.1
+    (stays laws start past guests are run.0 theirs.0)
+
+-- if only they give such commands, only they are granted one
+pub theirs_granted : (start : Tables) (later : List Entry) (guests : UserId → Bool)
+    → AllSteps (ChangesAreTheirs guests) start later → AllSteps (GrantsAreTheirs guests) start later
+theirs_granted start [] guests all = tt
+theirs_granted start (e ∷ past) guests all =
+    let t : Tables = tables_from start past in (
+      theirs_granted start past guests all.0,
+      all_weaken (λ (g : Given). changes_rights (name_of g.order) ≡ true → guests g.caller.user ≡ true)
+          (λ (g : Given). MayChangeRights t g → guests g.caller.user ≡ true) (commands_of t e.event)
+          (λ g on may. on may.changes) all.1,
+    )

@@ -1,16 +1,9 @@
 -- Tables without the output of hidden windows and without what was drawn to others: what is looked up in them.
-use Rattle.std.proofs.Common.{◌≡◌, ℕ, Bool, true, false, List, [], ◌∷◌, ◌++◌, Some, None, suc, refl, ap, sym, ◌∙◌, map}
-use Rattle.std.proofs.Common.{filter, length}
-use Rattle.std.specs.Prelude.{if◌then◌else◌, ◌==◌, ◌||◌, find}
-use Rattle.std.specs.List.{list_any}
-use Rattle.std.specs.Option.{option_map}
-use Rattle.acl.specs.declared.user_id.UserId.{UserId}
-use Rattle.terminal_model.specs.Writing.{Writing}
+use Rattle.session_laws.proofs.Vocabulary.{◌≡◌, ℕ, Bool, true, false, List, [], ◌∷◌, ◌++◌, Some, None, suc, refl, ap}
+use Rattle.session_laws.proofs.Vocabulary.{sym, ◌∙◌, map, filter, length, if◌then◌else◌, ◌==◌, ◌||◌, find, list_any}
+use Rattle.session_laws.proofs.Vocabulary.{option_map, UserId, Writing, Tables, Window, Client, row_of, with_row}
+use Rattle.session_laws.proofs.Vocabulary.{window_at, client_at, with_window, with_client, Caller, Deed}
 use Rattle.terminal_model.specs.Writing as written
-use Rattle.session_model.specs.Tables.{Tables, Window, Client, row_of, with_row, window_at, client_at, with_window}
-use Rattle.session_model.specs.Tables.{with_client}
-use Rattle.session_model.specs.Lines.{Caller}
-use Rattle.session_model.specs.Deeds.{Deed}
 
 -- ---- lists of rows that are cut one by one
 

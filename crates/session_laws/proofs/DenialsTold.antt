@@ -1,44 +1,22 @@
 -- If typed bytes don't reach their window, it is told why.
-use Rattle.session_model.specs.declared.message.StatusMessage.{StatusMessage}
-use Rattle.std.proofs.Common.{◌≡◌, ℕ, Bool, true, false, not, List, [], ◌∷◌, ◌++◌, Option, Some, None, Ok, Err, Result}
-use Rattle.std.proofs.Common.{refl, ap, sym, ◌∙◌, subst, inl, inr, ⊎_elim}
-use Rattle.std.specs.Prelude.{if◌then◌else◌, ◌==◌, ◌&&◌, ◌||◌, take}
-use Rattle.std.specs.List.{AllByRecursion, list_any, flat_map}
-use Rattle.std.specs.Option.{option_map_or}
-use Rattle.std.specs.Str.{bytes_eq}
-use Rattle.std.proofs.lemmas.Slice.Eq.{bytes_eq-Decides}
-use Rattle.acl.specs.declared.user_id.UserId.{UserId}
-use Rattle.acl.specs.declared.bits.Bit.TheVariants.{Execute}
+use Rattle.session_laws.proofs.Vocabulary.{StatusMessage, ◌≡◌, ℕ, Bool, true, false, not, List, [], ◌∷◌, ◌++◌, Option}
+use Rattle.session_laws.proofs.Vocabulary.{Some, None, Ok, Err, Result, refl, ap, sym, ◌∙◌, subst, inl, inr, ⊎_elim}
+use Rattle.session_laws.proofs.Vocabulary.{if◌then◌else◌, ◌==◌, ◌&&◌, ◌||◌, take, AllByRecursion, list_any, flat_map}
+use Rattle.session_laws.proofs.Vocabulary.{option_map_or, bytes_eq, bytes_eq-Decides, UserId, Execute, Order}
+use Rattle.session_laws.proofs.Vocabulary.{ParseFault, Item, bound, line, Act, Verdict, Effect, Say, Refusal, NoWindow}
+use Rattle.session_laws.proofs.Vocabulary.{UnknownUser, EventValue, Keys, Command, Reply, Entry, Tables, Window, Client}
+use Rattle.session_laws.proofs.Vocabulary.{client_at, with_client, focused_window, is_known, may_in, text_of, Caller}
+use Rattle.session_laws.proofs.Vocabulary.{caller_of, line_caller, read_line, checks, first_fault, verdicts}
+use Rattle.session_laws.proofs.Vocabulary.{typing_checks, Answer, Deed, changing, does, typed_bytes, command_item}
+use Rattle.session_laws.proofs.Vocabulary.{taken, step_items, types, says_why, input_in, ordered, message_of, keyed}
+use Rattle.session_laws.proofs.Vocabulary.{reading, keys_outcome, unsaid, says_same, answered, commanded, line_ruling}
+use Rattle.session_laws.proofs.Vocabulary.{refused, Outcome, IsStep, Given, Typed, has_x, stuffed, typed_by_client}
+use Rattle.session_laws.proofs.Vocabulary.{with_order, order_in, ok_of, SomeOf, why_not, why_not_into, IsTold}
+use Rattle.session_laws.proofs.Vocabulary.{DenialIsTold, all_weaken, equal, and_first, and_second, row_serial}
 use Rattle.acl.specs.declared.act.Object.TheVariants as object
 use Rattle.acl.specs.declared.command_name.CommandName.TheVariants as names
-use Rattle.command_lang.specs.declared.command.Command.{Command as Order}
 use Rattle.command_lang.specs.declared.command.Command.TheVariants as command
-use Rattle.command_lang.specs.declared.fault.ParseFault.{ParseFault}
-use Rattle.keys.specs.Grammar.{Item, typed, bound, line}
-use Rattle.acl.specs.declared.act.Act.{Act}
-use Rattle.session_model.specs.declared.verdict.Verdict.{Verdict}
-use Rattle.session_model.specs.declared.event.Effect.{Effect}
-use Rattle.session_model.specs.declared.event.Effect.TheVariants.{Input, Deliver, Say, Size, Gone}
-use Rattle.session_model.specs.declared.event.Peer.TheVariants as peer
-use Rattle.session_model.specs.declared.refusal.Refusal.{Refusal}
-use Rattle.session_model.specs.declared.refusal.Refusal.TheVariants.{NoWindow, UnknownUser}
-use Rattle.session_model.specs.Trace.{EventValue, Keys, Command, Reply, Entry}
-use Rattle.session_model.specs.Tables.{Tables, Window, Client, client_at, with_client, focused_window, is_known}
-use Rattle.session_model.specs.Rights.{may_in}
-use Rattle.session_model.specs.Texts.{text_of}
-use Rattle.session_model.specs.Lines.{Caller, caller_of, line_caller, read_line}
-use Rattle.session_model.specs.Checks.{checks, first_fault, verdicts, typing_checks}
-use Rattle.session_model.specs.Deeds.{Answer, Deed, changing}
-use Rattle.session_model.specs.Commands.{does}
-use Rattle.session_model.specs.Keying.{typed_bytes, command_item, taken, step_items}
-use Rattle.session_model.specs.Answering.{types, says_why, input_in, ordered, message_of, keyed, reading, keys_outcome}
-use Rattle.session_model.specs.Answering.{unsaid, says_same, answered, commanded, line_ruling}
-use Rattle.session_model.specs.Outcomes.{refused, Outcome}
 use Rattle.session_model.specs.Answering as answering
-use Rattle.session_model.specs.Run.{IsStep}
-use Rattle.session_model.specs.Given.{Given, Typed, has_x, stuffed, typed_by_client, with_order, order_in, ok_of}
-use Rattle.session_model.specs.Promises.{SomeOf, why_not, why_not_into, IsTold, DenialIsTold}
-use Rattle.session_laws.proofs.Lists.{all_weaken, equal, and_first, and_second, row_serial}
 use Rattle.session_laws.proofs.Doing.{giving}
 use Rattle.session_laws.proofs.Unread.{typing_clients}
 
@@ -60,11 +38,7 @@ same_say (Say at said) to bytes is =
     let here : to ≡ at = equal to at (and_first (to == at) (bytes_eq bytes said) is) in
     let alike : bytes ≡ said = (bytes_eq-Decides bytes said).0 (and_second (to == at) (bytes_eq bytes said) is) in
     ap (λ n. Say n said) (sym here) ∙ ap (Say to) (sym alike)
-same_say (Input at said) to bytes is = absurd (cc (is))
-same_say (Deliver at said) to bytes is = absurd (cc (is))
-same_say (Size at rows columns) to bytes is = absurd (cc (is))
-same_say (Gone (peer.Window at) why) to bytes is = absurd (cc (is))
-same_say (Gone (peer.Client at) why) to bytes is = absurd (cc (is))
+same_say s to bytes is = absurd (cc (is))
 
 said_there : (to : ℕ) (bytes : List ℕ) (said : List Effect) → list_any (says_same (Say to bytes)) said ≡ true
     → Says to bytes said
@@ -250,11 +224,9 @@ module _ (t : Tables) (c : Client) (said : List Effect) (cs : List Client) (read
       (said ++ unsaid said (ordered (record t { clients = cs }) (reading read c) item).deed.effects) bs.bytes
       (why_not t bs))
       (flat_map (λ g. stuffed t g g.order) (with_order (caller_of t c) (order_in item)))
-  item_tells None = tt
-  item_tells (Some (typed b)) = tt
   item_tells (Some (bound order)) = order_tells order
-  item_tells (Some (line [])) = tt
   item_tells (Some (line (b ∷ bs))) = line_tells (read_line (b ∷ bs))
+  item_tells item = tt
 
 abbrev Told : Tables → ℕ → List Effect → Typed → Type 0
 Told t client effects bs = TellsIn client effects bs.bytes (why_not t bs)

@@ -1,38 +1,16 @@
 -- Each denial names the entry or the holder of the lock that prevents what is asked for.
-use Rattle.std.proofs.Common.{◌≡◌, ℕ, Bool, true, false, not, List, [], ◌∷◌, Option, Some, None, Ok, Err, refl, ap, ◌∙◌}
-use Rattle.std.proofs.Common.{arith}
-use Rattle.std.specs.Prelude.{if◌then◌else◌, ◌==◌, ◌||◌, MatchOption}
-use Rattle.std.specs.List.{list_any, AllByRecursion}
-use Rattle.std.specs.Option.{option_map, option_map_or, option_and_then}
-use Rattle.std.proofs.lemmas.Bool.{or_parts}
-use Rattle.std.proofs.lemmas.Bool.Decides.{nat_tests}
-use Rattle.acl.specs.declared.user_id.UserId.{UserId}
-use Rattle.acl.specs.declared.bits.Bit.{Bit}
-use Rattle.acl.specs.declared.bits.Bit.TheVariants.{Write, Execute}
-use Rattle.acl.specs.declared.act.Object.{Object}
+use Rattle.session_laws.proofs.Vocabulary.{◌≡◌, ℕ, Bool, true, false, not, List, [], ◌∷◌, Option, Some, None, Ok, Err}
+use Rattle.session_laws.proofs.Vocabulary.{refl, ap, ◌∙◌, arith, if◌then◌else◌, ◌==◌, ◌||◌, MatchOption, list_any}
+use Rattle.session_laws.proofs.Vocabulary.{AllByRecursion, option_map, option_map_or, option_and_then, or_parts}
+use Rattle.session_laws.proofs.Vocabulary.{nat_tests, UserId, Bit, Write, Execute, Object, same_user, stops_nobody_but}
+use Rattle.session_laws.proofs.Vocabulary.{Order, name_of, Check, right, unlocked, Needs, EntryDenial, LockDenial}
+use Rattle.session_laws.proofs.Vocabulary.{Refusal, EntryDenied, LockDenied, row_serial, all_append, passes, refusal_of}
+use Rattle.session_laws.proofs.Vocabulary.{first_fault, checks, window_checks, where_needed, typing_checks, Answer}
+use Rattle.session_laws.proofs.Vocabulary.{Deed, number_of, denied_on, entry_denial, lock_denial, NamesTruly}
+use Rattle.session_laws.proofs.Vocabulary.{IsEntryMissing, IsLockHeld, object_named, numbered, Caller, needs, may_in}
+use Rattle.session_laws.proofs.Vocabulary.{has_in, leaders_in, holder_in, Tables, Window, window_at}
 use Rattle.acl.specs.declared.act.Object.TheVariants as object
-use Rattle.acl.specs.Same.{same_user}
-use Rattle.writelock.specs.LockTable.{stops_nobody_but}
-use Rattle.command_lang.specs.declared.command.Command.{Command as Order}
-use Rattle.command_lang.specs.Names.{name_of}
-use Rattle.session_model.specs.declared.check.Check.{Check}
-use Rattle.session_model.specs.declared.check.Check.TheVariants.{Right as right, Unlocked as unlocked}
-use Rattle.command_lang.specs.declared.needs.Needs.{Needs}
-use Rattle.session_model.specs.declared.refusal.EntryDenied.{EntryDenied as EntryDenial}
-use Rattle.session_model.specs.declared.refusal.LockDenied.{LockDenied as LockDenial}
-use Rattle.session_model.specs.declared.refusal.Refusal.{Refusal}
-use Rattle.session_model.specs.declared.refusal.Refusal.TheVariants.{EntryDenied, LockDenied}
-use Rattle.session_laws.proofs.Lists.{row_serial, all_append}
 use Rattle.session_laws.proofs.Doing.{is_plain, Either}
-use Rattle.session_model.specs.Checks.{passes, refusal_of, first_fault, checks, window_checks}
-use Rattle.session_model.specs.Checks.{where_needed, typing_checks}
-use Rattle.session_model.specs.Deeds.{Answer, Deed}
-use Rattle.session_model.specs.Denials.{number_of, denied_on, entry_denial, lock_denial}
-use Rattle.session_model.specs.Denying.{NamesTruly, IsEntryMissing, IsLockHeld, object_named, numbered}
-use Rattle.session_model.specs.Lines.{Caller}
-use Rattle.command_lang.specs.Needs.{needs}
-use Rattle.session_model.specs.Rights.{may_in, has_in, leaders_in, holder_in}
-use Rattle.session_model.specs.Tables.{Tables, Window, window_at}
 
 -- ---- the first check that fails
 

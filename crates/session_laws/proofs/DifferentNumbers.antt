@@ -1,13 +1,8 @@
 -- Windows that are open have different numbers, and so do their serials.
-use Rattle.std.proofs.Common.{◌≡◌, ℕ, Bool, true, false, not, List, [], ◌∷◌, ◌++◌, Option, Some, None, filter, find}
-use Rattle.std.proofs.Common.{is_some, refl, ap, sym, ◌∙◌, arith, subst}
-use Rattle.std.specs.Prelude.{if◌then◌else◌, ◌==◌, ◌||◌, unwrap_or}
-use Rattle.std.specs.List.{list_any, range_with_len}
-use Rattle.std.proofs.lemmas.Bool.Decides.{nat_tests}
-use Rattle.session_model.specs.Tables.{Window, row_of, with_row}
-use Rattle.session_model.specs.Naming.{with_number, has_number, free_number}
-use Rattle.session_model.specs.Sound.{NumbersDiffer}
-use Rattle.session_laws.proofs.Lists.{equal}
+use Rattle.session_laws.proofs.Vocabulary.{◌≡◌, ℕ, Bool, true, false, not, List, [], ◌∷◌, ◌++◌, Option, Some, None}
+use Rattle.session_laws.proofs.Vocabulary.{filter, find, is_some, refl, ap, sym, ◌∙◌, arith, subst, if◌then◌else◌, ◌==◌}
+use Rattle.session_laws.proofs.Vocabulary.{◌||◌, unwrap_or, list_any, range_with_len, nat_tests, Window, row_of}
+use Rattle.session_laws.proofs.Vocabulary.{with_row, with_number, has_number, free_number, NumbersDiffer, equal}
 
 abbrev pub serial_of : Window → ℕ
 serial_of w = w.serial

@@ -1,20 +1,10 @@
 -- A fact of each command's deed follows from facts of the ways in which commands answer.
-use Rattle.std.proofs.Common.{◌≡◌, ℕ, Bool, true, false, List, Option, Some, None, Ok, Err, refl, ap, sym}
-use Rattle.std.specs.Option.{option_and_then}
-use Rattle.acl.specs.declared.act.Act.{Act}
-use Rattle.acl.specs.declared.act.Object.{Object}
-use Rattle.acl.specs.declared.faults.AclFault.{AclFault}
-use Rattle.command_lang.specs.declared.command.Command.{Command as Order}
-use Rattle.session_model.specs.declared.refusal.Refusal.{Refusal}
-use Rattle.session_model.specs.declared.refusal.Refusal.TheVariants.{EntryDenied, LockDenied, Acl, Windows, NoWindow}
-use Rattle.session_model.specs.windows_fault.WindowsFault.TheVariants.{NoSuchWindow}
-use Rattle.session_model.specs.Tables.{Tables, Window, Client, client_at}
-use Rattle.session_model.specs.Lines.{Caller}
+use Rattle.session_laws.proofs.Vocabulary.{◌≡◌, ℕ, Bool, true, false, List, Option, Some, None, Ok, Err, refl, ap, sym}
+use Rattle.session_laws.proofs.Vocabulary.{option_and_then, Act, Object, AclFault, Order, Refusal, EntryDenied}
+use Rattle.session_laws.proofs.Vocabulary.{LockDenied, Acl, Windows, NoWindow, NoSuchWindow, Tables, Window, Client}
+use Rattle.session_laws.proofs.Vocabulary.{client_at, Caller, Deed, Answer, given, unless, refused_if, selects}
+use Rattle.session_laws.proofs.Vocabulary.{caller_client, on_client, Given, row_serial}
 use Rattle.session_model.specs.Deeds as deeds
-use Rattle.session_model.specs.Deeds.{Deed, Answer, given, unless, refused_if, selects}
-use Rattle.session_model.specs.Commands.{caller_client, on_client}
-use Rattle.session_model.specs.Given.{Given}
-use Rattle.session_laws.proofs.Lists.{row_serial}
 
 -- a refusal that is a command's own
 abbrev pub is_plain : Refusal → Bool

@@ -1,25 +1,11 @@
 -- A draw does the same to alike tables for a client whose views stand, and delivers something to both or neither.
-use Rattle.std.proofs.Common.{◌≡◌, ℕ, Bool, true, false, List, [], ◌∷◌, Option, Some, None, refl, ap, sym, ◌∙◌, subst}
-use Rattle.std.specs.Prelude.{if◌then◌else◌}
-use Rattle.std.specs.Option.{option_map}
-use Rattle.acl.specs.declared.user_id.UserId.{UserId}
-use Rattle.acl.specs.History.{followed_by}
-use Rattle.terminal_model.specs.Shows.{View, NeedsDraw, NeedsNoDraw}
-use Rattle.session_model.specs.declared.event.Effect.{Effect}
-use Rattle.session_model.specs.declared.event.Effect.TheVariants.{Input, Deliver, Say, Size, Gone}
-use Rattle.session_model.specs.declared.event.Peer.TheVariants as peer
-use Rattle.session_model.specs.declared.refusal.Refusal.TheVariants.{NoWindow}
-use Rattle.session_model.specs.Trace.{Draw}
-use Rattle.session_model.specs.Tables.{Tables, Client, row_of, client_at, with_client}
-use Rattle.session_model.specs.Deeds.{changing}
-use Rattle.session_model.specs.Outcomes.{Outcome, refused, finished, done}
-use Rattle.session_model.specs.Events.{outcome}
-use Rattle.session_model.specs.Granted.{granted_view}
-use Rattle.session_model.specs.Run.{drawn, drawn_on, with_drawn, DrawsWhereNeeded, IsDraw}
-use Rattle.session_laws.proofs.Lists.{row_serial}
+use Rattle.session_laws.proofs.Vocabulary.{◌≡◌, ℕ, Bool, true, false, List, [], ◌∷◌, Option, Some, None, refl, ap, sym}
+use Rattle.session_laws.proofs.Vocabulary.{◌∙◌, subst, if◌then◌else◌, option_map, UserId, followed_by, View, NeedsDraw}
+use Rattle.session_laws.proofs.Vocabulary.{NeedsNoDraw, Effect, Deliver, NoWindow, Draw, Tables, Client, row_of}
+use Rattle.session_laws.proofs.Vocabulary.{client_at, with_client, changing, Outcome, refused, finished, done, outcome}
+use Rattle.session_laws.proofs.Vocabulary.{granted_view, drawn, drawn_on, with_drawn, DrawsWhereNeeded, IsDraw}
+use Rattle.session_laws.proofs.Vocabulary.{row_serial, is_shown, is_any}
 use Rattle.session_laws.proofs.Leaving.{none_left}
-use Rattle.session_laws.specs.Hidden.{is_shown}
-use Rattle.session_laws.specs.Observed.{is_any}
 use Rattle.session_laws.proofs.Cutting.{put_same, cut_client, cut, client_cut, with_client_cut}
 use Rattle.session_laws.proofs.Viewing.{view_cut}
 
@@ -33,12 +19,7 @@ is_needed : (t : Tables) (c : Client) (effects : List Effect) → DrawsWhereNeed
     → Needed (is_any effects) c.drawn (granted_view t c)
 is_needed t c [] draws = draws
 is_needed t c (Deliver to bytes ∷ []) draws = draws.1
-is_needed t c (Deliver to bytes ∷ f ∷ fs) draws = absurd draws
-is_needed t c (Input w bytes ∷ fs) draws = absurd draws
-is_needed t c (Say to bytes ∷ fs) draws = absurd draws
-is_needed t c (Size w rows columns ∷ fs) draws = absurd draws
-is_needed t c (Gone (peer.Window w) why ∷ fs) draws = absurd draws
-is_needed t c (Gone (peer.Client d) why ∷ fs) draws = absurd draws
+is_needed t c effects draws = absurd draws
 
 needed_once : (a b : Bool) (last : Option View) (v : View) → Needed a last v → Needed b last v → a ≡ b
 needed_once true true last v p q = refl

@@ -1,47 +1,23 @@
 -- Each effect has a cause in the event, and each text that is said is true.
-use Rattle.std.proofs.Common.{◌≡◌, ℕ, Bool, true, false, List, [], ◌∷◌, Option, Some, None, Ok, Err, Result, refl, ap}
-use Rattle.std.proofs.Common.{sym, ◌∙◌, subst, filter, length, inl, inr}
-use Rattle.std.specs.Prelude.{if◌then◌else◌, ◌==◌, take, MatchOption}
-use Rattle.std.specs.List.{AllByRecursion}
-use Rattle.acl.specs.declared.user_id.UserId.{UserId}
-use Rattle.command_lang.specs.declared.command.Command.{Command as Order}
+use Rattle.session_laws.proofs.Vocabulary.{Outcome, all_made, ◌≡◌, ℕ, Bool, true, false, List, [], ◌∷◌, Option, Some}
+use Rattle.session_laws.proofs.Vocabulary.{None, Ok, Err, Result, refl, ap, sym, ◌∙◌, subst, length, inl, inr}
+use Rattle.session_laws.proofs.Vocabulary.{if◌then◌else◌, ◌==◌, take, MatchOption, AllByRecursion, UserId, Order}
+use Rattle.session_laws.proofs.Vocabulary.{ParseFault, Item, bound, line, reads, Effect, Input, Deliver, Say, Gone}
+use Rattle.session_laws.proofs.Vocabulary.{StatusMessage, Refusal, Line, EventValue, Detach, Keys, Command, Output}
+use Rattle.session_laws.proofs.Vocabulary.{Closed, Draw, Reply, Entry, Tables, Window, Client, client_at, with_client}
+use Rattle.session_laws.proofs.Vocabulary.{focused_window, terminal_of, text_of, Caller, caller_of, line_caller}
+use Rattle.session_laws.proofs.Vocabulary.{read_line, checks, first_fault, typing_checks, Answer, Deed, changing, does}
+use Rattle.session_laws.proofs.Vocabulary.{typed_bytes, command_item, taken, step_items, types, says_why, input_in}
+use Rattle.session_laws.proofs.Vocabulary.{ordered, message_of, keyed, with_listed, reading, keys_outcome, outcome}
+use Rattle.session_laws.proofs.Vocabulary.{done, unsaid, granted_view, IsFrame, IsStep, HasEffects, IsDraw}
+use Rattle.session_laws.proofs.Vocabulary.{DrawsWhereNeeded, Given, has_x, with_order, order_in, ok_of, commands_of}
+use Rattle.session_laws.proofs.Vocabulary.{SomeOf, IsOn, IsDoneBy, IsDoneByRight, IsEffectOf, IsFrameTo, NamesTruly}
+use Rattle.session_laws.proofs.Vocabulary.{ReplyNamesTruly, IsTrueSay, TellsByRight, told_by, DenialsName, Asks}
+use Rattle.session_laws.proofs.Vocabulary.{all_append, all_filter, all_weaken, equal, row_serial}
 use Rattle.command_lang.specs.declared.command.Command.TheVariants as command
-use Rattle.command_lang.specs.declared.fault.ParseFault.{ParseFault}
-use Rattle.keys.specs.Grammar.{Item, typed, bound, line}
-use Rattle.terminal_model.specs.Reading.{reads}
-use Rattle.session_model.specs.declared.event.Effect.{Effect}
-use Rattle.session_model.specs.declared.event.Effect.TheVariants.{Input, Deliver, Say, Gone}
 use Rattle.session_model.specs.declared.event.Peer.TheVariants as peer
 use Rattle.session_model.specs.declared.event.Reason.TheVariants as reason
-use Rattle.session_model.specs.declared.message.StatusMessage.{StatusMessage}
-use Rattle.session_model.specs.declared.refusal.Refusal.{Refusal}
-use Rattle.session_model.specs.declared.refusal.Refusal.TheVariants.{Line}
-use Rattle.session_model.specs.Trace.{EventValue, Detach, Keys, Command, Output, Closed, Draw, Reply, Entry}
-use Rattle.session_model.specs.Tables.{Tables, Window, Client, window_at, client_at, with_client, focused_window}
-use Rattle.session_model.specs.Tables.{is_known}
-use Rattle.session_model.specs.Terminals.{terminal_of}
-use Rattle.session_model.specs.Texts.{text_of}
-use Rattle.session_model.specs.Lines.{Caller, caller_of, line_caller, read_line}
-use Rattle.session_model.specs.Checks.{checks, first_fault, typing_checks}
-use Rattle.session_model.specs.Deeds.{Answer, Deed, changing, parts, closes}
-use Rattle.session_model.specs.Commands.{does}
-use Rattle.session_model.specs.Keying.{typed_bytes, command_item, taken, step_items}
-use Rattle.session_model.specs.Answering.{types, says_why, input_in, ordered, message_of, keyed, with_listed, reading}
-use Rattle.session_model.specs.Answering.{keys_outcome}
-use Rattle.session_model.specs.Events.{outcome}
-use Rattle.session_model.specs.Outcomes.{refused, finished, done}
 use Rattle.session_model.specs.Answering as answering
-use Rattle.session_model.specs.Answering.{unsaid}
-use Rattle.session_model.specs.Comings.{outputs}
-use Rattle.session_model.specs.Granted.{granted_view}
-use Rattle.session_model.specs.Framed.{IsFrame}
-use Rattle.session_model.specs.Run.{IsStep, HasEffects, IsDraw, DrawsWhereNeeded}
-use Rattle.session_model.specs.Given.{Given, has_x, with_order, order_in, ok_of, commands_of}
-use Rattle.session_model.specs.Promises.{SomeOf, IsOn, IsDoneBy, IsDoneByRight, IsEffectOf, IsFrameTo}
-use Rattle.session_model.specs.Denying.{NamesTruly, ReplyNamesTruly, IsTrueSay, TellsByRight, told_by, DenialsName}
-use Rattle.session_model.specs.Denying.{Asks}
-use Rattle.session_laws.proofs.Lists.{all_append, all_map, all_filter, all_of, all_weaken, all_passed, equal}
-use Rattle.session_laws.proofs.Lists.{row_serial}
 use Rattle.session_laws.proofs.Doing.{giving, Either}
 use Rattle.session_laws.proofs.CommandEffects.{HasDone, done_by}
 use Rattle.session_laws.proofs.Denying.{OnFault, plain_names}
@@ -93,35 +69,6 @@ line_fits t user number bytes g given has f is =
       frame_done t
           event g given has f is,
     )
-
-deed_fits : (t : Tables) (event : EventValue) (k : Caller) (c : Order) (a : Answer) (d : Deed) → a ≡ Ok d
-    → Either (HasDone t k c) a
-    → ((f : Effect) → IsDoneBy t (giving k c) c f → Fits t event f) → AllByRecursion (Fits t event) d.effects
-deed_fits t event k c (Ok e) d is done fits =
-    let same : e ≡ d = cc (is) in
-    subst (λ (x : Deed). AllByRecursion (Fits t event) x.effects) same
-    (all_weaken (IsDoneBy t (giving k c) c) (Fits t event) e.effects fits done.effects)
-deed_fits t event k c (Err r) d is done fits = absurd (cc (is))
-
-command_fits : (t : Tables) (user : UserId) (number : Option ℕ) (bytes : List ℕ)
-    → AllByRecursion (Fits t (Command user number bytes)) (outcome t (Command user number bytes)).effects
-command_fits t user number bytes =
-    let event : EventValue = Command user number bytes in
-    let k : Caller = line_caller t user number in
-    on (is_known t user) (read_line bytes) refl refl where
-      on : (b : Bool) (r : Result Order ParseFault) → is_known t user ≡ b → read_line bytes ≡ r
-          → AllByRecursion (Fits t (Command user number bytes))
-          (if b then answering.commanded t (answering.line_ruling t (line_caller t user number) r) else refused t []
-          Rattle.session_model.specs.declared.refusal.Refusal.TheVariants.UnknownUser).effects
-      on b r known read =
-          let event : EventValue = Command user number bytes in
-          let k : Caller = line_caller t user number in
-          outcomes.by_line (λ o. AllByRecursion (Fits t event) o.effects) t k b r (λ vs f. tt)
-          (λ c d is_true is_command passes is. deed_fits t event k c (does t k c) d is (done_by t k c)
-          (line_fits t user number bytes (giving k c)
-          (line_given t user number bytes b r known read ∙ ap (λ x. if x then with_order k (ok_of r) else []) is_true
-          ∙ ap (λ x. with_order k (ok_of x)) is_command)
-          (passed_has_x t k c passes)))
 
 -- ---- the keys of a client
 
@@ -214,11 +161,9 @@ module _ (t : Tables) (client : ℕ) (bytes : List ℕ) (c : Client) (is : clien
       → commands_of t (Keys client bytes) ≡ with_order (caller_of t c) (order_in item)
       → AllByRecursion (Fits t (Keys client bytes))
       (ordered (record t { clients = cs }) (reading read c) item).deed.effects
-  item_fits cs same read None given = tt
-  item_fits cs same read (Some (typed b)) given = tt
   item_fits cs same read (Some (bound order)) given = order_fits cs same order given read
-  item_fits cs same read (Some (line [])) given = tt
   item_fits cs same read (Some (line (b ∷ bs))) given = line_read_fits cs same read (read_line (b ∷ bs)) given
+  item_fits cs same read item given = tt
 
   typing_fits : (u : Tables) (read bs : List ℕ)
       → first_fault u (typing_checks c.user (focused_window u (reading read c))) ≡ first_fault t
@@ -265,41 +210,29 @@ input_fits : (t : Tables) (at : ℕ) (bytes rs : List ℕ) (w : ℕ) (b : Bool) 
 input_fits t at bytes rs w true same = tt
 input_fits t at bytes rs w false same = ((same, tt, tt), tt)
 
-pub fits : (t : Tables) (event : EventValue) → AllByRecursion (Fits t event) (outcome t event).effects
-fits t (Detach client) =
-    outcomes.found (λ o. AllByRecursion (Fits t (Detach client)) o.effects) t
-    (λ c. finished t [] done (parts (λ d. d.serial == client) reason.Detached t)) (client_at t client) tt
-    (λ c is. all_map (Fits t (Detach client)) (λ (d : Client). Gone (peer.Client d.serial) reason.Detached)
-    (filter (λ (d : Client). d.serial == client) t.clients)
-    (all_passed (λ (d : Client). Fits t (Detach client) (Gone (peer.Client d.serial) reason.Detached))
+happened : (t : Tables) (event : EventValue) (o : Outcome) → outcomes.Happens t event o
+    → AllByRecursion (Fits t event) o.effects
+happened t _ _ (outcomes.detached client c at) =
+    all_made (Fits t (Detach client)) (λ (d : Client). Gone (peer.Client d.serial) reason.Detached)
     (λ (d : Client). d.serial == client) t.clients
-    (all_of
-    (λ (d : Client). (d.serial == client) ≡ true → Fits t (Detach client) (Gone (peer.Client d.serial) reason.Detached))
-    t.clients
-    (λ d same. (ap (λ n. Gone (peer.Client n) reason.Detached) (equal d.serial client same), tt, tt)))))
-fits t (Keys client bytes) =
-    outcomes.found (λ o. AllByRecursion (Fits t (Keys client bytes)) o.effects) t
-    (λ c. keys_outcome t c (take (taken c.keys bytes) bytes)) (client_at t client) tt
-    (λ c is. keys_fits t client bytes c is)
-fits t (Command user number bytes) = command_fits t user number bytes
-fits t (Output window bytes) =
-    outcomes.found (λ o. AllByRecursion (Fits t (Output window bytes)) o.effects) t
-    (λ v. finished t [] done (outputs t v bytes)) (window_at t window) tt
-    (λ v is. input_fits t window bytes (reads (terminal_of v) bytes).reports v.serial
-    (length (reads (terminal_of v) bytes).reports == 0)
-    (row_serial (λ (x : Window). x.serial) t.windows window v is))
-fits t (Closed window) =
-    outcomes.found (λ o. AllByRecursion (Fits t (Closed window)) o.effects) t
-    (λ v. finished t [] done (closes (λ x. x.serial == window) reason.Detached t)) (window_at t window) tt
-    (λ v is. all_map (Fits t (Closed window)) (λ (x : Window). Gone (peer.Window x.serial) reason.Detached)
-    (filter (λ (x : Window). x.serial == window) t.windows)
-    (all_passed (λ (x : Window). Fits t (Closed window) (Gone (peer.Window x.serial) reason.Detached))
+    (λ d same. (ap (λ n. Gone (peer.Client n) reason.Detached) (equal d.serial client same), tt, tt))
+happened t _ _ (outcomes.keyed client bytes c at) = keys_fits t client bytes c at
+happened t _ _ (outcomes.obeyed user number bytes c d known read passes is) =
+    let k : Caller = line_caller t user number in
+    all_weaken (IsDoneBy t (giving k c) c) (Fits t (Command user number bytes)) d.effects
+    (line_fits t user number bytes (giving k c) (line_given t user number bytes true (Ok c) known read)
+    (passed_has_x t k c passes)) (subst (Either (HasDone t k c)) is (done_by t k c)).effects
+happened t _ _ (outcomes.wrote window bytes v at) =
+    input_fits t window bytes (reads (terminal_of v) bytes).reports v.serial
+    (length (reads (terminal_of v) bytes).reports == 0) (row_serial (λ (x : Window). x.serial) t.windows window v at)
+happened t _ _ (outcomes.closed window v at) =
+    all_made (Fits t (Closed window)) (λ (x : Window). Gone (peer.Window x.serial) reason.Detached)
     (λ (x : Window). x.serial == window) t.windows
-    (all_of
-    (λ (x : Window). (x.serial == window) ≡ true → Fits t (Closed window) (Gone (peer.Window x.serial) reason.Detached))
-    t.windows
-    (λ x same. (ap (λ n. Gone (peer.Window n) reason.Detached) (equal x.serial window same), tt, tt)))))
-fits t event = subst (λ es. AllByRecursion (Fits t event) es) (sym (outcomes.quiet t event refl)) tt
+    (λ x same. (ap (λ n. Gone (peer.Window n) reason.Detached) (equal x.serial window same), tt, tt))
+happened t _ _ h = tt
+
+pub fits : (t : Tables) (event : EventValue) → AllByRecursion (Fits t event) (outcome t event).effects
+fits t event = happened t event (outcome t event) (outcomes.happens t event)
 
 drawn_fits : (t : Tables) (client : ℕ) (effects : List Effect) (o : Option Client) → client_at t client ≡ o
     → MatchOption o (effects ≡ []) (IsDraw t effects) → AllByRecursion (Fits t (Draw client)) effects

@@ -1,27 +1,17 @@
 -- Which acts an event has that gives no command, and what it leaves unchanged.
-use Rattle.std.proofs.Common.{◌≡◌, ◌≤◌, ℕ, ◌+◌, Bool, true, false, List, [], ◌∷◌, ◌++◌, Option, Some, None, refl, ap}
-use Rattle.std.proofs.Common.{sym, subst, arith}
-use Rattle.std.specs.Prelude.{if◌then◌else◌, ◌==◌, ◌||◌}
-use Rattle.std.specs.List.{AllByRecursion}
-use Rattle.std.specs.Option.{option_map_or}
-use Rattle.acl.specs.declared.user_id.UserId.{UserId}
-use Rattle.acl.specs.declared.act.Act.{Act}
+use Rattle.session_laws.proofs.Vocabulary.{all_made, ◌≡◌, ◌≤◌, ℕ, ◌+◌, Bool, true, false, List, [], ◌∷◌, ◌++◌, Option}
+use Rattle.session_laws.proofs.Vocabulary.{Some, None, refl, ap, sym, subst, arith, if◌then◌else◌, ◌==◌, ◌||◌}
+use Rattle.session_laws.proofs.Vocabulary.{AllByRecursion, option_map_or, UserId, Act, followed_by, Effect, Tables}
+use Rattle.session_laws.proofs.Vocabulary.{Window, Client, client_at, with_client, focused, is_in_focus, Deed, changing}
+use Rattle.session_laws.proofs.Vocabulary.{parts, closes, entering, outcome, Outcome, left_acts_of, left_acts, attaches}
+use Rattle.session_laws.proofs.Vocabulary.{new_client, opens, new_window, outputs, IsStep, after, drawn, drawn_on}
+use Rattle.session_laws.proofs.Vocabulary.{EventValue, Attach, Detach, Keys, Command, Open, Output, Closed, Draw, Entry}
+use Rattle.session_laws.proofs.Vocabulary.{equal, all_append, OfClient, OfNobody, giver_of, client_user, user_by}
+use Rattle.session_laws.proofs.Vocabulary.{user_of}
 use Rattle.acl.specs.declared.act.Act.TheVariants as act
-use Rattle.acl.specs.History.{followed_by}
-use Rattle.session_model.specs.declared.event.Effect.{Effect}
 use Rattle.session_model.specs.declared.event.Reason.TheVariants as reason
-use Rattle.session_model.specs.Tables.{Tables, Window, Client, window_at, client_at, with_client, focused, is_in_focus}
-use Rattle.session_model.specs.Checks.{first_fault, verdicts}
-use Rattle.session_model.specs.Deeds.{Deed, changing, parts, closes, entering}
-use Rattle.session_model.specs.Events.{outcome}
-use Rattle.session_model.specs.Outcomes.{Outcome, left_acts_of, left_acts, reply_of, finished, done, where_passed}
-use Rattle.session_model.specs.Comings.{attach_checks, attaches, new_client, open_checks, opens, new_window, outputs}
-use Rattle.session_model.specs.Run.{IsStep, after, drawn, drawn_on}
-use Rattle.session_model.specs.Trace.{EventValue, Attach, Detach, Keys, Command, Open, Output, Closed, Draw, Entry}
-use Rattle.session_laws.proofs.Lists.{equal, all_of, all_map, all_passed, all_append}
 use Rattle.session_laws.proofs.Outcomes as outcomes
-use Rattle.session_laws.proofs.Outcomes.{Change, change_of, Changes, changes}
-use Rattle.session_laws.specs.Locking.{OfClient, OfNobody, giver_of, client_user, user_by, user_of}
+use Rattle.session_laws.proofs.Outcomes.{Change, change_of}
 
 -- whether an event gives commands
 abbrev pub gives_commands : EventValue → Bool
@@ -111,64 +101,36 @@ pub changed_by : (t : Tables) (event : EventValue) (x : Change) → change_of ev
     → user_of t event ≡ client_user t x.client
 changed_by t event x is = ap (user_by t) (given_by event x is)
 
-changed : (t : Tables) (event : EventValue) (x : Change) → Changes event x → PlainTo t event (outcome t event)
-changed t event x f =
-    subst (PlainTo t event) (sym (f.happens t))
-    (outcomes.found (PlainTo t event) t (λ c. where_passed t x.checks done (changing (with_client t (x.row c))))
-    (client_at t x.client) (still t event)
-    (λ c is. outcomes.passed (PlainTo t event) t (verdicts t x.checks) (first_fault t x.checks) done
-    (changing (with_client t (x.row c)))
-    (λ r at. still t event)
-    (λ at. made t event (changing (with_client t (x.row c))) tt refl refl refl (le_same t.next_window))))
+happened : (t : Tables) (event : EventValue) (o : Outcome) → outcomes.Happens t event o → gives_commands event ≡ false
+    → PlainTo t event o
+happened t _ _ (outcomes.failed event vs r why) not = still t event
+happened t _ _ (outcomes.changed event x c is f at) not =
+    made t event (changing (with_client t (x.row c))) tt refl refl refl (le_same t.next_window)
+happened t _ _ (outcomes.attached user rows columns passes) not =
+    let c : Client = new_client t user rows columns in
+    made t (Attach user rows columns) (attaches t c) ((refl, refl), enters_in t user rows columns (focused c))
+    refl refl refl (le_same t.next_window)
+happened t _ _ (outcomes.detached client c at) not =
+    made t (Detach client) (parts (λ d. d.serial == client) reason.Detached t)
+    (all_made (IsActIn t (Detach client)) (λ (d : Client). act.Parted d.serial) (λ d. d.serial == client) t.clients
+    (λ d goes. equal d.serial client goes))
+    refl refl refl (le_same t.next_window)
+happened t _ _ (outcomes.opened user rows columns keep title passes) not =
+    made t (Open user rows columns keep title) (opens t user (new_window t rows columns keep title)) ((refl, refl), tt)
+    refl refl refl (le_more t.next_window)
+happened t _ _ (outcomes.wrote window bytes v at) not =
+    made t (Output window bytes) (outputs t v bytes) tt refl refl refl (le_same t.next_window)
+happened t _ _ (outcomes.closed window v at) not =
+    made t (Closed window) (closes (λ x. x.serial == window) reason.Detached t)
+    (all_made (IsActIn t (Closed window)) (λ (w : Window). act.Closed w.serial) (λ w. w.serial == window) t.windows
+    (λ w goes. equal w.serial window goes))
+    refl refl refl (le_same t.next_window)
+happened t _ _ (outcomes.drew client c at) not =
+    made t (Draw client) (changing t) tt refl refl refl (le_same t.next_window)
+happened t _ _ h not = absurd (cc (not))
 
 plain : (t : Tables) (event : EventValue) → gives_commands event ≡ false → PlainTo t event (outcome t event)
-plain t (Attach user rows columns) not =
-    let c : Client = new_client t user rows columns in
-    outcomes.passed (PlainTo t (Attach user rows columns)) t (verdicts t (attach_checks t user rows columns))
-    (first_fault t (attach_checks t user rows columns)) (reply_of 0 t.next_client 0 None) (attaches t c)
-    (λ r is. still t (Attach user rows columns))
-    (λ is. made t (Attach user rows columns) (attaches t c) ((refl, refl), enters_in t user rows columns (focused c))
-    refl refl refl (le_same t.next_window))
-plain t (Detach client) not =
-    outcomes.found (PlainTo t (Detach client)) t
-    (λ c. finished t [] done (parts (λ d. d.serial == client) reason.Detached t)) (client_at t client)
-    (still t (Detach client))
-    (λ c is. made t (Detach client) (parts (λ d. d.serial == client) reason.Detached t)
-    (all_map (IsActIn t (Detach client)) (λ (d : Client). act.Parted d.serial) _
-    (all_passed (λ (d : Client). d.serial ≡ client) (λ d. d.serial == client) t.clients
-    (all_of (λ (d : Client). (d.serial == client) ≡ true → d.serial ≡ client) t.clients
-    (λ d goes. equal d.serial client goes))))
-    refl refl refl (le_same t.next_window))
-plain t (Keys client bytes) not = absurd (cc (not))
-plain t (Command user number bytes) not = absurd (cc (not))
-plain t (Open user rows columns keep title) not =
-    let v : Window = new_window t rows columns keep title in
-    outcomes.passed (PlainTo t (Open user rows columns keep title)) t
-    (verdicts t (open_checks t user rows columns keep title))
-    (first_fault t (open_checks t user rows columns keep title)) (reply_of 0 v.serial v.number None)
-    (opens t user v)
-    (λ r is. still t (Open user rows columns keep title))
-    (λ is. made t (Open user rows columns keep title) (opens t user v) ((refl, refl), tt) refl refl refl
-    (le_more t.next_window))
-plain t (Output window bytes) not =
-    outcomes.found (PlainTo t (Output window bytes)) t (λ v. finished t [] done (outputs t v bytes))
-    (window_at t window) (still t (Output window bytes))
-    (λ v is. made t (Output window bytes) (outputs t v bytes) tt refl refl refl (le_same t.next_window))
-plain t (Closed window) not =
-    outcomes.found (PlainTo t (Closed window)) t
-    (λ v. finished t [] done (closes (λ x. x.serial == window) reason.Detached t)) (window_at t window)
-    (still t (Closed window))
-    (λ v is. made t (Closed window) (closes (λ x. x.serial == window) reason.Detached t)
-    (all_map (IsActIn t (Closed window)) (λ (w : Window). act.Closed w.serial) _
-    (all_passed (λ (w : Window). w.serial ≡ window) (λ w. w.serial == window) t.windows
-    (all_of (λ (w : Window). (w.serial == window) ≡ true → w.serial ≡ window) t.windows
-    (λ w goes. equal w.serial window goes))))
-    refl refl refl (le_same t.next_window))
-plain t (Draw client) not =
-    outcomes.found (PlainTo t (Draw client)) t (λ c. finished t [] done (changing t)) (client_at t client)
-    (still t (Draw client))
-    (λ c is. made t (Draw client) (changing t) tt refl refl refl (le_same t.next_window))
-plain t event not = changed t event _ (changes event _ refl)
+plain t event not = happened t event (outcome t event) (outcomes.happens t event) not
 
 -- a draw changes only clients
 drawn_plain : (t : Tables) (event : EventValue) (acts : List Act) (o : Option Client) (effects : List Effect)

@@ -1,39 +1,22 @@
 -- A step has at most 256 effects.
-use Rattle.session_model.specs.declared.message.StatusMessage.{StatusMessage}
-use Rattle.std.proofs.Common.{◌≡◌, ℕ, ◌+◌, ◌≤◌, List, [], ◌∷◌, ◌++◌, Option, Some, None, Ok, Err, Result, refl, ap, sym}
-use Rattle.std.proofs.Common.{subst, length, take, arith}
-use Rattle.std.specs.Prelude.{◌==◌, MatchOption}
-use Rattle.command_lang.specs.declared.command.Command.{Command as Order}
-use Rattle.command_lang.specs.declared.fault.ParseFault.{ParseFault}
-use Rattle.keys.specs.Grammar.{Item, typed, bound, line}
-use Rattle.terminal_model.specs.Reading.{reads}
-use Rattle.session_model.specs.declared.event.Effect.{Effect}
-use Rattle.session_model.specs.declared.event.Effect.TheVariants.{Deliver}
+use Rattle.session_laws.proofs.Vocabulary.{StatusMessage, ◌≡◌, ℕ, ◌+◌, ◌≤◌, List, [], ◌∷◌, ◌++◌, Option, Some, None, Ok}
+use Rattle.session_laws.proofs.Vocabulary.{Err, Result, refl, ap, sym, subst, length, take, arith, ◌==◌, MatchOption}
+use Rattle.session_laws.proofs.Vocabulary.{Order, ParseFault, Item, bound, line, reads, Effect, Deliver, Refusal}
+use Rattle.session_laws.proofs.Vocabulary.{EventValue, Draw, Entry, Tables, Window, Client, window_at, client_at}
+use Rattle.session_laws.proofs.Vocabulary.{with_client, focused, focused_window, terminal_of, Caller, caller_of}
+use Rattle.session_laws.proofs.Vocabulary.{line_caller, read_line, checks, first_fault, typing_checks, Deed, Answer}
+use Rattle.session_laws.proofs.Vocabulary.{changing, parts, closes, does, typed_bytes, command_item, taken, step_items}
+use Rattle.session_laws.proofs.Vocabulary.{types, says_why, input_in, ordered, keyed, with_listed, message_of, reading}
+use Rattle.session_laws.proofs.Vocabulary.{unsaid, keys_outcome, outcome, Outcome, outputs, IsStep, HasEffects, IsDraw}
+use Rattle.session_laws.proofs.Vocabulary.{DrawsWhereNeeded, AreSound}
 use Rattle.session_model.specs.declared.event.Reason.TheVariants as reason
-use Rattle.session_model.specs.declared.refusal.Refusal.{Refusal}
-use Rattle.session_model.specs.Trace.{EventValue, Detach, Keys, Command, Output, Closed, Draw, Entry}
-use Rattle.session_model.specs.Tables.{Tables, Window, Client, window_at, client_at, with_client, focused}
-use Rattle.session_model.specs.Tables.{focused_window, is_known}
-use Rattle.session_model.specs.Terminals.{terminal_of}
-use Rattle.session_model.specs.Lines.{Caller, caller_of, line_caller, read_line}
-use Rattle.session_model.specs.Checks.{checks, first_fault, typing_checks}
-use Rattle.session_model.specs.Deeds.{Deed, Answer, changing, parts, closes}
-use Rattle.session_model.specs.Commands.{does}
-use Rattle.session_model.specs.Keying.{typed_bytes, command_item, taken, step_items}
-use Rattle.session_model.specs.Answering.{types, says_why, input_in, ordered, keyed, with_listed, message_of, reading}
-use Rattle.session_model.specs.Answering.{unsaid, keys_outcome}
-use Rattle.session_model.specs.Events.{outcome}
-use Rattle.session_model.specs.Outcomes.{finished, done, Outcome}
-use Rattle.session_model.specs.Comings.{outputs}
 use Rattle.session_model.specs.Answering as answering
-use Rattle.session_model.specs.Run.{IsStep, HasEffects, IsDraw, DrawsWhereNeeded}
-use Rattle.session_model.specs.Sound.{AreSound}
 use Rattle.session_laws.proofs.Doing.{Either}
 use Rattle.session_laws.proofs.Moving.{DeedMoves}
 use Rattle.session_laws.proofs.CommandMoves.{moves, only_parts, closes_moves, input_few, length_append, length_filter}
 use Rattle.session_laws.proofs.CommandMoves.{length_ids}
 use Rattle.session_laws.proofs.SoundMoves.{differ}
-use Rattle.session_laws.proofs.Settling.{focus_row, line_row, deed_moves, ids_same}
+use Rattle.session_laws.proofs.Settling.{focus_row, line_row, ids_same}
 use Rattle.session_laws.proofs.Unread.{typing_clients}
 use Rattle.session_laws.proofs.Outcomes as outcomes
 
@@ -96,11 +79,9 @@ read_few v d (Ok order) = order_few v d order
 
 item_few : (v : Tables) (d : Client) (item : Option Item)
     → length (ordered v d item).deed.effects ≤ length v.windows + length v.clients + 2
-item_few v d None = omega arith
-item_few v d (Some (typed b)) = omega arith
 item_few v d (Some (bound order)) = order_few v d order
-item_few v d (Some (line [])) = omega arith
 item_few v d (Some (line (b ∷ bs))) = read_few v d (read_line (b ∷ bs))
+item_few v d item = omega arith
 
 keys_few : (t : Tables) (client : ℕ) (bytes : List ℕ) (c : Client) → client_at t client ≡ Some c
     → Few t (keys_outcome t c (take (taken c.keys bytes) bytes))
@@ -124,30 +105,23 @@ keys_few t client bytes c is =
 
 -- ---- events
 
-few : (t : Tables) (event : EventValue) → AreSound t → Few t (outcome t event)
-few t (Detach client) s =
-    outcomes.found (Few t) t (λ c. finished t [] done (parts (λ d. d.serial == client) reason.Detached t))
-    (client_at t client) (none_few t)
-    (λ c is. deed_few t (parts (λ d. d.serial == client) reason.Detached t)
-    (only_parts t (λ p. p.0 == client) reason.Detached))
-few t (Keys client bytes) s =
-    outcomes.found (Few t) t (λ c. keys_outcome t c (take (taken c.keys bytes) bytes)) (client_at t client) (none_few t)
-    (λ c is. keys_few t client bytes c is)
-few t (Command user number bytes) s =
-    outcomes.by_line (Few t) t (line_caller t user number) (is_known t user) (read_line bytes) (λ vs f. none_few t)
-    (λ c d known read passes is. deed_few t d (deed_moves t (does t (line_caller t user number) c) d is
+happened : (t : Tables) (event : EventValue) (o : Outcome) → outcomes.Happens t event o → AreSound t → Few t o
+happened t _ _ (outcomes.detached client c at) s = deed_few t (parts (λ d. d.serial == client) reason.Detached t)
+    (only_parts t (λ p. p.0 == client) reason.Detached)
+happened t _ _ (outcomes.keyed client bytes c at) s = keys_few t client bytes c at
+happened t _ _ (outcomes.obeyed user number bytes c d known read passes is) s =
+    deed_few t d (subst (Either (DeedMoves t)) is
     (moves t (line_caller t user number)
-    (λ w at. line_row t number w (differ t.windows t.next_window s.windows_rise) at) c)))
-few t (Output window bytes) s =
-    outcomes.found (Few t) t (λ v. finished t [] done (outputs t v bytes)) (window_at t window) (none_few t)
-    (λ v is. let le : length (outputs t v bytes).effects ≤ 1 = input_few v.serial (reads (terminal_of v) bytes).reports
-    (length (reads (terminal_of v) bytes).reports == 0) in omega (arith, le))
-few t (Closed window) s =
-    outcomes.found (Few t) t (λ v. finished t [] done (closes (λ x. x.serial == window) reason.Detached t))
-    (window_at t window) (none_few t)
-    (λ v is. deed_few t (closes (λ x. x.serial == window) reason.Detached t)
-    (closes_moves t (λ n. n == window) reason.Detached))
-few t event s = subst (λ (es : List Effect). IsFew t (length es)) (sym (outcomes.quiet t event refl)) (none_few t)
+    (λ w at. line_row t number w (differ t.windows t.next_window s.windows_rise) at) c))
+happened t _ _ (outcomes.wrote window bytes v at) s =
+    let le : length (outputs t v bytes).effects ≤ 1 = input_few v.serial (reads (terminal_of v) bytes).reports
+    (length (reads (terminal_of v) bytes).reports == 0) in omega (arith, le)
+happened t _ _ (outcomes.closed window v at) s = deed_few t (closes (λ x. x.serial == window) reason.Detached t)
+    (closes_moves t (λ n. n == window) reason.Detached)
+happened t _ _ h s = none_few t
+
+few : (t : Tables) (event : EventValue) → AreSound t → Few t (outcome t event)
+few t event s = happened t event (outcome t event) (outcomes.happens t event) s
 
 drawn_few : (t : Tables) (effects : List Effect) (o : Option Client) → MatchOption o (effects ≡ []) (IsDraw t effects)
     → length effects ≤ 1

@@ -1,22 +1,15 @@
 -- Windows, users and objects are found in cut tables as in these, and lists read the same.
-use Rattle.std.proofs.Common.{◌≡◌, ℕ, Bool, true, false, not, List, [], ◌∷◌, ◌++◌, Option, Some, None, refl, ap, ◌∙◌}
-use Rattle.std.proofs.Common.{map, filter}
-use Rattle.std.specs.Prelude.{if◌then◌else◌, ◌==◌, ◌||◌, nat_lt, find, codes, decimal}
-use Rattle.std.specs.List.{list_any, range_with_len}
-use Rattle.std.specs.Option.{option_map, option_or, option_and_then}
-use Rattle.std.specs.Str.{bytes_eq}
-use Rattle.acl.specs.declared.user_id.UserId.{UserId}
+use Rattle.session_laws.proofs.Vocabulary.{◌≡◌, ℕ, Bool, true, false, not, List, [], ◌∷◌, ◌++◌, Option, Some, None}
+use Rattle.session_laws.proofs.Vocabulary.{refl, ap, ◌∙◌, map, filter, if◌then◌else◌, nat_lt, find, codes, decimal}
+use Rattle.session_laws.proofs.Vocabulary.{list_any, range_with_len, option_map, option_or, option_and_then, bytes_eq}
+use Rattle.session_laws.proofs.Vocabulary.{UserId, command_named, spelled, Tables, Window, Client, window_at, focused}
+use Rattle.session_laws.proofs.Vocabulary.{focused_window, shows, is_in_focus, lower, lowest, higher, highest}
+use Rattle.session_laws.proofs.Vocabulary.{with_number, has_number, window_named, window_after, window_before}
+use Rattle.session_laws.proofs.Vocabulary.{free_number, every_window, every_command, is_wide, wide_objects}
+use Rattle.session_laws.proofs.Vocabulary.{item_objects, objects_of, by_number, in_order, window_item, windows_text}
+use Rattle.session_laws.proofs.Vocabulary.{separated, number_text, focus_text, client_item, clients_text, number_of}
 use Rattle.acl.specs.declared.act.Object.TheVariants as object
 use Rattle.acl.specs.Names.{name_of}
-use Rattle.command_lang.specs.Names.{command_named}
-use Rattle.session_model.specs.Naming.{spelled}
-use Rattle.session_model.specs.Tables.{Tables, Window, Client, window_at, focused, focused_window, shows, is_in_focus}
-use Rattle.session_model.specs.Naming.{lower, lowest, higher, highest, with_number, has_number, window_named}
-use Rattle.session_model.specs.Naming.{window_after, window_before, free_number, every_window, every_command, is_wide}
-use Rattle.session_model.specs.Naming.{wide_objects, item_objects, objects_of}
-use Rattle.session_model.specs.Texts.{by_number, in_order, window_item, windows_text, separated, number_text}
-use Rattle.session_model.specs.Texts.{focus_text, client_item, clients_text}
-use Rattle.session_model.specs.Denials.{number_of}
 use Rattle.session_laws.proofs.Cutting.{map_all, read_all, filter_cut, any_cut, find_cut, cut_window, cut_client, cut}
 use Rattle.session_laws.proofs.Cutting.{window_cut}
 

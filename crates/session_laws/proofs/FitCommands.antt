@@ -1,24 +1,12 @@
 -- Commands keep window numbers below 40, and regions show open windows or nothing.
-use Rattle.std.proofs.Common.{◌≡◌, ℕ, ◌<◌, Bool, true, false, not, List, [], ◌∷◌, Option, Some, None, refl, ap, sym}
-use Rattle.std.proofs.Common.{◌∙◌, subst, map, filter, ⊎_elim, arith}
-use Rattle.std.specs.Prelude.{if◌then◌else◌, ◌==◌, ◌||◌, MatchOption}
-use Rattle.std.specs.List.{AllByRecursion}
-use Rattle.std.specs.Option.{option_and_then}
-use Rattle.std.proofs.lemmas.Bool.Decides.{nat_tests}
-use Rattle.acl.specs.declared.user_id.UserId.{UserId}
-use Rattle.acl.specs.Names.{named_by}
-use Rattle.command_lang.specs.declared.command.Command.{Command as Order}
-use Rattle.regions.specs.declared.shown.Shown.{Shown}
-use Rattle.regions.specs.Layouts.{Arrangement, emptied}
-use Rattle.session_model.specs.declared.event.Reason.{Reason}
-use Rattle.session_model.specs.declared.event.Reason.TheVariants.{Killed, Quit}
-use Rattle.session_model.specs.declared.message.StatusMessage.{StatusMessage}
+use Rattle.session_laws.proofs.Vocabulary.{◌≡◌, ℕ, ◌<◌, Bool, true, false, not, List, [], ◌∷◌, Option, Some, None, refl}
+use Rattle.session_laws.proofs.Vocabulary.{ap, sym, ◌∙◌, subst, map, filter, ⊎_elim, if◌then◌else◌, ◌==◌, ◌||◌}
+use Rattle.session_laws.proofs.Vocabulary.{MatchOption, AllByRecursion, option_and_then, UserId, named_by, Order, Shown}
+use Rattle.session_laws.proofs.Vocabulary.{Arrangement, emptied, Reason, Killed, Quit, StatusMessage, Tables, Window}
+use Rattle.session_laws.proofs.Vocabulary.{Client, client_at, with_window, with_client, with_layout, Caller, Deed}
+use Rattle.session_laws.proofs.Vocabulary.{removes, closes, without_window, without_windows, hearing, does}
+use Rattle.session_laws.proofs.Vocabulary.{caller_client, other_way, all_weaken, all_map, all_filter, some_row}
 use Rattle.session_model.specs.declared.message.StatusMessage.TheVariants as message
-use Rattle.session_model.specs.Tables.{Tables, Window, Client, client_at, with_window, with_client, with_layout}
-use Rattle.session_model.specs.Lines.{Caller}
-use Rattle.session_model.specs.Deeds.{Deed, removes, closes, without_window, without_windows, hearing}
-use Rattle.session_model.specs.Commands.{does, caller_client}
-use Rattle.session_laws.proofs.Lists.{all_weaken, all_map, all_filter, some_row}
 use Rattle.session_laws.proofs.DifferentNumbers.{serial_of}
 use Rattle.session_laws.proofs.Doing.{Either}
 use Rattle.session_laws.proofs.Moving.{serials}
@@ -96,9 +84,6 @@ module _ (kept : List ℕ) where
   abbrev Among : List ℕ → Client → Type 0
   Among gone c = AllByRecursion (λ (s : Shown). AmongOf gone s.window) c.layout.shown
 
-  other : (n m : ℕ) → (n == m) ≡ false → (m == n) ≡ false
-  other n m is = grind (arith, nat_tests, is)
-
   emptied_among : (m : ℕ) (gone : List ℕ) (o : Option ℕ) (back : ℕ) → AmongOf (m ∷ gone) o
       → AmongOf gone (emptied m (record { window = o; back = back })).window
   emptied_among m gone None back is = tt
@@ -108,7 +93,7 @@ module _ (kept : List ℕ) where
         (if b then record { window = None; back = back } else
         (let s : Shown = record { window = Some n; back = back } in s)).window
     on true at = tt
-    on false at = sym (ap (λ b. (b || has gone n) || has kept n) (other n m at)) ∙ is
+    on false at = sym (ap (λ b. (b || has gone n) || has kept n) (other_way n m at)) ∙ is
 
   page_among : (m : ℕ) (gone : List ℕ) (shown : List Shown)
       → AllByRecursion (λ (s : Shown). AmongOf (m ∷ gone) s.window) shown
@@ -193,8 +178,6 @@ module _ (t : Tables) (k : Caller) (h : Holds t) (row : (w : Window) → k.windo
       (shows (has (serials t)) (has_there t.windows) (own_page t k.client c is h)) h
 
   deed_holds : (c : Order) (d : Deed) → is_small c ≡ true → shapes.Shape t k c d → HoldsBy d
-  deed_holds c d small (shapes.lists bytes none tells) = h
-  deed_holds c d small (shapes.acts all none acted) = h
   deed_holds c d small (shapes.enters_page x l of at shows) = paged x l at shows
   deed_holds c d small (shapes.keeps_page x l of at shows same) = paged x l at shows
   deed_holds c d small (shapes.writes_to w what one at) = own_window w _ at refl
@@ -208,11 +191,11 @@ module _ (t : Tables) (k : Caller) (h : Holds t) (row : (w : Window) → k.windo
   deed_holds c d small (shapes.titled w bytes is at) = own_window w _ at refl
   deed_holds c d small (shapes.numbered w n is at free) = holds_window t (record w { number = n })
       (small_below n (sym (ap is_small is) ∙ small)) h
-  deed_holds c d small (shapes.typed w bytes is at) = h
   deed_holds c d small (shapes.detached x is at) = holds_fewer t _ h
   deed_holds c d small (shapes.killed w is at) = holds_closed t _ Killed h
   deed_holds c d small (shapes.quits is) = holds_fewer (closes (λ w. true) Quit t).tables (λ x. not true)
       (holds_closed t (λ w. true) Quit h)
+  deed_holds c d small kind = h
 
   pub holds : (c : Order) → is_small c ≡ true → Either HoldsBy (does t k c)
   holds c small = shapes.by_shape HoldsBy t k c (λ d is. deed_holds c d small is)

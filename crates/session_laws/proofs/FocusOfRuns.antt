@@ -1,50 +1,25 @@
 -- The window in a client's focus is the one that its user entered last by the client's own steps.
-use Rattle.std.proofs.Common.{◌≡◌, ℕ, ◌<◌, Bool, true, false, not, List, [], ◌∷◌, ◌++◌, Option, Some, None, Ok, Err}
-use Rattle.std.proofs.Common.{Result, refl, ap, sym, ◌∙◌, subst, take, filter, inl, inr, ⊎_elim, arith}
-use Rattle.std.specs.Prelude.{◌⊎◌, if◌then◌else◌, ◌==◌, ◌||◌}
-use Rattle.std.specs.List.{AllByRecursion}
-use Rattle.std.specs.Option.{option_or}
-use Rattle.std.proofs.lemmas.Bool.Decides.{nat_tests}
-use Rattle.acl.specs.declared.edition.Edition.{Edition}
-use Rattle.acl.specs.declared.user_id.UserId.{UserId}
-use Rattle.acl.specs.declared.act.Act.{Act}
+use Rattle.session_laws.proofs.Vocabulary.{◌≡◌, ℕ, ◌<◌, Bool, true, false, not, List, [], ◌∷◌, ◌++◌, Option, Some, None}
+use Rattle.session_laws.proofs.Vocabulary.{Ok, Err, Result, refl, ap, sym, ◌∙◌, subst, take, filter, inl, inr, ⊎_elim}
+use Rattle.session_laws.proofs.Vocabulary.{arith, ◌⊎◌, if◌then◌else◌, ◌==◌, ◌||◌, AllByRecursion, option_or, nat_tests}
+use Rattle.session_laws.proofs.Vocabulary.{Edition, UserId, Act, Order, ParseFault, Item, bound, line, View, Effect}
+use Rattle.session_laws.proofs.Vocabulary.{StatusMessage, Text, Refusal, Line, EventValue, Attach, Keys, Draw, Reply}
+use Rattle.session_laws.proofs.Vocabulary.{Entry, Trace, Tables, Window, Client, fresh, row_of, with_row, client_at}
+use Rattle.session_laws.proofs.Vocabulary.{with_client, focused, is_in_focus, text_of, caller_of, line_caller}
+use Rattle.session_laws.proofs.Vocabulary.{read_line, checks, first_fault, Deed, Answer, changing, entering, hearing}
+use Rattle.session_laws.proofs.Vocabulary.{does, taken, step_items, typed_bytes, command_item, outcome, Outcome}
+use Rattle.session_laws.proofs.Vocabulary.{finished, done, left_acts_of, left_acts, new_client, reading, types, told}
+use Rattle.session_laws.proofs.Vocabulary.{ordered, keyed, with_listed, message_of, keys_outcome, by_line, granted_view}
+use Rattle.session_laws.proofs.Vocabulary.{SomeOf, unread, drawn, drawn_on, with_drawn, after, IsStep, IsRun, IsRunFrom}
+use Rattle.session_laws.proofs.Vocabulary.{tables_from, tables_of, Rises, AreSound, client_serials, entered_by}
+use Rattle.session_laws.proofs.Vocabulary.{is_own_step, entered_in, last_entered, all_weaken, all_append, some_map}
+use Rattle.session_laws.proofs.Vocabulary.{some_mapped, some_row, row_serial, itself, some_elim}
 use Rattle.acl.specs.declared.act.Act.TheVariants as act
-use Rattle.command_lang.specs.declared.command.Command.{Command as Order}
-use Rattle.command_lang.specs.declared.fault.ParseFault.{ParseFault}
-use Rattle.keys.specs.Grammar.{Item, typed, bound, line}
-use Rattle.terminal_model.specs.Shows.{View}
-use Rattle.session_model.specs.declared.event.Effect.{Effect}
-use Rattle.session_model.specs.declared.message.StatusMessage.{StatusMessage}
-use Rattle.session_model.specs.declared.message.StatusMessage.TheVariants.{Text}
-use Rattle.session_model.specs.declared.refusal.Refusal.{Refusal}
-use Rattle.session_model.specs.declared.refusal.Refusal.TheVariants.{Line}
-use Rattle.session_model.specs.Trace.{EventValue, Attach, Keys, Draw, Reply, Entry, Trace}
-use Rattle.session_model.specs.Tables.{Tables, Window, Client, fresh, row_of, with_row, client_at, with_client, focused}
-use Rattle.session_model.specs.Tables.{is_in_focus}
-use Rattle.session_model.specs.Texts.{text_of}
-use Rattle.session_model.specs.Lines.{Caller, caller_of, line_caller, read_line}
-use Rattle.session_model.specs.Checks.{checks, first_fault}
-use Rattle.session_model.specs.Deeds.{Deed, Answer, changing, entering, hearing}
-use Rattle.session_model.specs.Commands.{does}
-use Rattle.session_model.specs.Keying.{taken, step_items, typed_bytes, command_item}
-use Rattle.session_model.specs.Events.{outcome}
-use Rattle.session_model.specs.Outcomes.{Outcome, finished, done, left_acts_of, left_acts}
-use Rattle.session_model.specs.Comings.{new_client}
-use Rattle.session_model.specs.Answering.{reading, types, told, ordered, keyed, with_listed, message_of, keys_outcome}
-use Rattle.session_model.specs.Answering.{by_line}
-use Rattle.session_model.specs.Granted.{granted_view}
-use Rattle.session_model.specs.Promises.{SomeOf, unread}
-use Rattle.session_model.specs.Run.{drawn, drawn_on, with_drawn, after, IsStep, IsRun, IsRunFrom, tables_from}
-use Rattle.session_model.specs.Run.{tables_of}
-use Rattle.session_model.specs.Sound.{Rises, AreSound, client_serials}
-use Rattle.session_laws.specs.Focus.{entered_by, is_own_step, entered_in, last_entered}
-use Rattle.session_laws.proofs.Lists.{all_weaken, all_append, some_map, some_mapped, some_row, row_serial, itself}
 use Rattle.session_laws.proofs.Doing.{Either}
 use Rattle.session_laws.proofs.Unread.{SameClients, typing_clients, row_at}
 use Rattle.session_laws.proofs.Settling.{told_same, ids_same}
 use Rattle.session_laws.proofs.SoundMoves.{client_firsts, firsts}
 use Rattle.session_laws.proofs.Sounding.{run_sound, fresh_sound}
-use Rattle.session_laws.proofs.ClientsOfRuns.{some_elim}
 use Rattle.session_laws.proofs.Showing.{some_has, all_row}
 use Rattle.session_laws.proofs.CommandFocus.{GoesOn, AllGoOn, alike, Same, Kept, kept_same, kept_fewer, kept_go}
 use Rattle.session_laws.proofs.CommandFocus.{without_kept, row_goes, entered_of, HasGone, none_if, gone}
@@ -124,11 +99,9 @@ module _ (t : Tables) (c : Client) (read : List ℕ) (s : AreSound t) (cs : List
   read_gone (Ok order) = order_gone order
 
   item_gone : (item : Option Item) → InDeed (ordered v (reading read c) item).deed
-  item_gone None = nothing_gone
-  item_gone (Some (typed b)) = nothing_gone
   item_gone (Some (bound order)) = order_gone order
-  item_gone (Some (line [])) = nothing_gone
   item_gone (Some (line (b ∷ bs))) = read_gone (read_line (b ∷ bs))
+  item_gone item = nothing_gone
 
   -- the clients before keys were read have the same windows in focus
   before_read : (f : ℕ → Option (UserId × ℕ)) (ds : List Client) → AllGoOn cs f ds → AllGoOn t.clients f ds
@@ -216,10 +189,6 @@ attached t user rows columns s =
       off : (n next : ℕ) → n < next → (next == n) ≡ false
       off n next lt = grind (arith, nat_tests, lt)
 
-deed_gone : (t : Tables) (k : Caller) (a : Answer) (d : Deed) → a ≡ Ok d → Either (HasGone t k) a → HasGone t k d
-deed_gone t k (Ok e) d is h = let same : e ≡ d = cc (is) in subst (HasGone t k) same h
-deed_gone t k (Err r) d is h = absurd (cc (is))
-
 -- the rows after one client's row is changed
 row_changed : (t : Tables) (c d : Client) → client_at t c.serial ≡ Some c → Same c d → AreSound t
     → Rows t (λ n. None) (with_client t d).clients
@@ -251,13 +220,11 @@ happened t _ _ s (outcomes.detached client c at) = kept_rows t _
 happened t _ _ s (outcomes.keyed client bytes c at) = old_rows t _ _ (keys_gone t client bytes c at s)
 happened t _ _ s (outcomes.obeyed user number bytes c d known read passes is) =
     old_rows t (λ n. None) d.tables.clients
-    (deed_gone t (line_caller t user number) (does t (line_caller t user number) c) d is
+    (subst (Either (HasGone t (line_caller t user number))) is
     (gone t (line_caller t user number) s.clients_rise c)).all
-happened t _ _ s (outcomes.opened user rows columns keep title passes) = still t
-happened t _ _ s (outcomes.wrote window bytes w at) = still t
 happened t _ _ s (outcomes.closed window w at) = kept_rows t _
     (without_kept t.clients (filter (λ (v : Window). v.serial == window) t.windows) t.clients (kept_same t.clients))
-happened t _ _ s (outcomes.drew client c at) = still t
+happened t _ _ s kind = still t
 
 outcome_gone : (t : Tables) (event : EventValue) → AreSound t → InOutcome t event (outcome t event)
 outcome_gone t event s = happened t event (outcome t event) s (outcomes.happens t event)

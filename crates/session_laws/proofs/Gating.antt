@@ -1,38 +1,16 @@
 -- Rights change only by a list command that is granted.
-use Rattle.std.proofs.Common.{◌≡◌, Bool, true, false, not, List, [], ◌∷◌, Option, Some, None, refl, ap, sym, ◌∙◌, subst}
-use Rattle.std.proofs.Common.{inl, inr, ⊎_elim}
-use Rattle.std.specs.Prelude.{if◌then◌else◌, ◌⊎◌, is_some}
-use Rattle.std.specs.List.{AllByRecursion}
-use Rattle.acl.specs.declared.act.Act.{Act}
+use Rattle.session_laws.proofs.Vocabulary.{◌≡◌, Bool, true, false, not, List, Option, Some, None, refl, ap, sym, ◌∙◌}
+use Rattle.session_laws.proofs.Vocabulary.{subst, inl, inr, if◌then◌else◌, ◌⊎◌, Act, Execute, followed_by, Order}
+use Rattle.session_laws.proofs.Vocabulary.{name_of, Effect, Verdict, Refusal, NotMultiuser, Tables, first_fault}
+use Rattle.session_laws.proofs.Vocabulary.{checks_by, left_acts, Given, commands_of, Caller, needs, KeepsPromise}
+use Rattle.session_laws.proofs.Vocabulary.{may_in, IsStep, after, EventValue, Keys, Command, Reply, Entry, some_or}
+use Rattle.session_laws.proofs.Vocabulary.{KeysDoTheirRows, StepsKeepPromise, CommandsDoTheirRows, CommandsAreRefusedSo}
+use Rattle.session_laws.proofs.Vocabulary.{contradicts, all_weaken, all_append, changes_rights, SameRights}
+use Rattle.session_laws.proofs.Vocabulary.{MayChangeRights, RightsAreGated}
 use Rattle.acl.specs.declared.act.Act.TheVariants as act
-use Rattle.acl.specs.declared.bits.Bit.TheVariants.{Execute}
 use Rattle.acl.specs.declared.act.Object.TheVariants as object
-use Rattle.acl.specs.History.{followed_by}
-use Rattle.command_lang.specs.declared.command.Command.{Command as Order}
 use Rattle.command_lang.specs.declared.command.Command.TheVariants as command
-use Rattle.command_lang.specs.Names.{name_of}
-use Rattle.session_model.specs.declared.event.Effect.{Effect}
-use Rattle.session_model.specs.declared.verdict.Verdict.{Verdict}
-use Rattle.session_model.specs.declared.refusal.Refusal.{Refusal}
-use Rattle.session_model.specs.declared.refusal.Refusal.TheVariants.{NotMultiuser}
-use Rattle.session_model.specs.Tables.{Tables}
-use Rattle.session_model.specs.Checks.{first_fault, checks_by}
-use Rattle.session_model.specs.Commands.{does}
-use Rattle.session_model.specs.Deeds.{Answer}
-use Rattle.session_model.specs.Outcomes.{left_acts}
-use Rattle.session_model.specs.Given.{Given, commands_of}
-use Rattle.session_model.specs.Lines.{Caller}
-use Rattle.command_lang.specs.Needs.{needs}
-use Rattle.session_model.specs.Promises.{SomeOf}
-use Rattle.session_model.specs.Keeps.{KeepsPromise}
-use Rattle.session_model.specs.Rights.{may_in}
-use Rattle.session_model.specs.Run.{IsStep, after}
-use Rattle.session_model.specs.Trace.{EventValue, Keys, Command, Reply, Entry}
-use Rattle.session_laws.specs.Keyed.{KeysDoTheirRows}
-use Rattle.session_laws.specs.Laws.{StepsKeepPromise, CommandsDoTheirRows, CommandsAreRefusedSo}
-use Rattle.session_laws.proofs.Lists.{contradicts, all_weaken, all_append}
 use Rattle.session_laws.proofs.Doing.{Either}
-use Rattle.session_laws.specs.Changing.{changes_rights, SameRights, MayChangeRights, RightsAreGated}
 use Rattle.session_laws.proofs.Listing.{is_listing}
 use Rattle.session_laws.proofs.Histories.{NoListing, same_rights}
 use Rattle.session_laws.proofs.CommandActs.{IsActOf, IsRow, row_of}
@@ -45,6 +23,9 @@ pub record Below : Type 0 where
   pub done : CommandsDoTheirRows
   pub refused : CommandsAreRefusedSo
   pub keyed : KeysDoTheirRows
+
+pub below : StepsKeepPromise → CommandsDoTheirRows → CommandsAreRefusedSo → KeysDoTheirRows → Below
+below keep done refused keyed = record { keep = keep; done = done; refused = refused; keyed = keyed }
 
 -- ---- each event
 
@@ -79,14 +60,8 @@ steps_of laws t e step = on (gives_commands e.event) refl where
 
 pub row_did : (t : Tables) (e : Entry) (g : Given) → (d : Did t e g)
     → IsRow (with_clients t d.clients) g.caller g.order d.deed
-row_did t e g d = on (does (with_clients t d.clients) g.caller g.order) d.does_it
-    (row_of (with_clients t d.clients) g.caller d.by g.order) where
-      on : (a : Answer) → a ≡ Rattle.std.specs.Prelude.Ok d.deed
-          → Either (IsRow (with_clients t d.clients) g.caller g.order) a
-          → IsRow (with_clients t d.clients) g.caller g.order d.deed
-      on (Rattle.std.specs.Prelude.Ok x) is r = subst (IsRow (with_clients t d.clients) g.caller g.order)
-          (let same : x ≡ d.deed = cc (is) in same) r
-      on (Rattle.std.specs.Prelude.Err f) is r = absurd (cc (is))
+row_did t e g d = subst (Either (IsRow (with_clients t d.clients) g.caller g.order)) d.does_it
+    (row_of (with_clients t d.clients) g.caller d.by g.order)
 
 -- ---- which acts are on lists
 
@@ -172,21 +147,17 @@ pub plain_rights : (t : Tables) (e : Entry) → Plain t e.event e.acts (after t 
 plain_rights t e p = same_rights t (after t e) e.acts p.owner p.edition p.acts_are
     (all_weaken (IsActIn t e.event) (λ a. is_listing a ≡ false) e.acts (plain_listing t e.event) p.acts_in)
 
--- one of a step's commands may change rights, or rights are unchanged
-some_rights : (t : Tables) (e : Entry) (gs : List Given) → SomeOf (Did t e) gs
-    → SameRights t (after t e) e.acts ⊎ SomeOf (MayChangeRights t) gs
-some_rights t e [] some = absurd some
-some_rights t e (g ∷ gs) (inl did) = on (changes_rights (name_of g.order)) refl where
-  on : (b : Bool) → changes_rights (name_of g.order) ≡ b
-      → SameRights t (after t e) e.acts ⊎ SomeOf (MayChangeRights t) (g ∷ gs)
-  on true is = inr (inl (may_change t e g is did))
+-- a command may change rights, or rights are unchanged
+did_gated : (t : Tables) (e : Entry) (g : Given) → Did t e g → SameRights t (after t e) e.acts ⊎ MayChangeRights t g
+did_gated t e g did = on (changes_rights (name_of g.order)) refl where
+  on : (b : Bool) → changes_rights (name_of g.order) ≡ b → SameRights t (after t e) e.acts ⊎ MayChangeRights t g
+  on true is = inr (may_change t e g is did)
   on false is = inl (did_rights t e g is did)
-some_rights t e (g ∷ gs) (inr later) = ⊎_elim (λ (same : SameRights t (after t e) e.acts). inl same)
-    (λ (some : SomeOf (MayChangeRights t) gs). inr (inr some)) (some_rights t e gs later)
 
 pub gated : Below → (t : Tables) (e : Entry) → IsStep t e → RightsAreGated t e
 gated laws t e step = on (steps_of laws t e step) where
   on : Steps t e → RightsAreGated t e
   on (inl p) = inl (plain_rights t e p)
   on (inr (inl rests)) = inl (rests_rights t e rests)
-  on (inr (inr some)) = some_rights t e (commands_of t e.event) some
+  on (inr (inr some)) = some_or (Did t e) (MayChangeRights t) (SameRights t (after t e) e.acts) (commands_of t e.event)
+      (did_gated t e) some

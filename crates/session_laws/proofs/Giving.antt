@@ -1,20 +1,13 @@
 -- Acts give write locks only to users who may write.
-use Rattle.std.proofs.Common.{◌≡◌, ℕ, Bool, true, false, not, List, [], ◌∷◌, Option, Some, None, refl, ap, sym, ◌∙◌}
-use Rattle.std.proofs.Common.{subst, inl, inr, ⊎_elim}
-use Rattle.std.specs.Prelude.{if◌then◌else◌, ◌==◌, ◌||◌, ◌&&◌, ◌⊎◌, is_none}
-use Rattle.std.specs.List.{AllByRecursion, list_any}
-use Rattle.acl.specs.declared.edition.Edition.{Edition}
-use Rattle.acl.specs.declared.user_id.UserId.{UserId}
-use Rattle.acl.specs.declared.bits.Bit.TheVariants.{Write}
-use Rattle.acl.specs.declared.act.Act.{Act}
+use Rattle.session_laws.proofs.Vocabulary.{◌≡◌, ℕ, Bool, true, false, not, List, [], ◌∷◌, Option, Some, None, refl, ap}
+use Rattle.session_laws.proofs.Vocabulary.{sym, ◌∙◌, subst, inl, inr, ⊎_elim, if◌then◌else◌, ◌==◌, ◌||◌, ◌&&◌, ◌⊎◌}
+use Rattle.session_laws.proofs.Vocabulary.{is_none, AllByRecursion, list_any, Edition, UserId, Write, Act, same_user}
+use Rattle.session_laws.proofs.Vocabulary.{History, followed_by, may, has, decided, holder, kept, releases, ends}
+use Rattle.session_laws.proofs.Vocabulary.{or_else, is_off, is_auto, is_on, mode_of, default_of, equal, and_first}
+use Rattle.session_laws.proofs.Vocabulary.{and_second, opens_window, opened_by}
 use Rattle.acl.specs.declared.act.Act.TheVariants as act
 use Rattle.acl.specs.declared.act.Object.TheVariants as object
-use Rattle.acl.specs.Same.{same_user}
-use Rattle.acl.specs.History.{History, followed_by, may, has, leaders_of, decided}
-use Rattle.writelock.specs.Holding.{holder, given, kept, releases, ends, or_else, is_off, is_auto, is_on, mode_of}
-use Rattle.writelock.specs.Holding.{default_of}
-use Rattle.session_laws.proofs.Lists.{equal, and_first, and_second}
-use Rattle.session_laws.specs.Changing.{opens_window, opened_by}
+use Rattle.writelock.specs.Holding.{given}
 
 module _ (edition : Edition) (owner : UserId) (P : UserId → Type 0) (base : History) where
   abbrev pub writes : History → UserId → ℕ → Bool
@@ -180,7 +173,6 @@ module _ (edition : Edition) (owner : UserId) (P : UserId → Type 0) (base : Hi
         last true true false x is = absurd (cc (is))
         last true false c x is = absurd (cc (is))
         last false b c x is = absurd (cc (is))
-  own_one user p h (act.Opened by v) based is w u held at = absurd is
   own_one user p h (act.Closed v) based is w u held at = absurd (cc (at))
   own_one user p h (act.Attached client v) based is w u held at = absurd (cc (at))
   own_one user p h (act.Parted client) based is w u held at = absurd (cc (at))

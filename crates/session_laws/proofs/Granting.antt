@@ -1,56 +1,28 @@
 -- A command acts exactly if x is granted.
-use Rattle.std.proofs.Common.{◌≡◌, ℕ, Bool, true, false, not, List, [], ◌∷◌, ◌++◌, Option, Some, None, Ok, Err, Result}
-use Rattle.std.proofs.Common.{refl, ap, sym, ◌∙◌, arith, subst}
-use Rattle.std.specs.Prelude.{if◌then◌else◌, ◌==◌, ◌||◌, take}
-use Rattle.std.specs.List.{AllByRecursion}
-use Rattle.std.specs.Option.{option_map, option_map_or, is_some}
-use Rattle.std.proofs.lemmas.Bool.Decides.{nat_tests}
-use Rattle.acl.specs.declared.user_id.UserId.{UserId}
-use Rattle.acl.specs.declared.act.Act.{Act}
-use Rattle.acl.specs.declared.bits.Bit.TheVariants.{Write, Execute}
+use Rattle.session_laws.proofs.Vocabulary.{◌≡◌, ℕ, Bool, true, false, not, List, [], ◌∷◌, ◌++◌, Option, Some, None, Ok}
+use Rattle.session_laws.proofs.Vocabulary.{Err, Result, refl, ap, sym, ◌∙◌, arith, subst, if◌then◌else◌, ◌==◌, ◌||◌}
+use Rattle.session_laws.proofs.Vocabulary.{take, AllByRecursion, option_map, option_map_or, nat_tests, UserId, Act}
+use Rattle.session_laws.proofs.Vocabulary.{Write, Execute, followed_by, Order, name_of, ParseFault, Item, bound, line}
+use Rattle.session_laws.proofs.Vocabulary.{Check, right, unlocked, must, Needs, Effect, Input, StatusMessage, Text}
+use Rattle.session_laws.proofs.Vocabulary.{Refusal, EntryDenied, NoWindow, NotMultiuser, UnknownUser, Verdict}
+use Rattle.session_laws.proofs.Vocabulary.{row_serial, all_append, all_filter, all_weaken, and_first, and_second}
+use Rattle.session_laws.proofs.Vocabulary.{contradicts, passes, refusal_of, first_fault, verdicts, checks}
+use Rattle.session_laws.proofs.Vocabulary.{window_checks, where_needed, typing_checks, does, ruling, Answer, Deed}
+use Rattle.session_laws.proofs.Vocabulary.{changing, hearing, lock_denial, types, says, told, keyed, ordered, by_line}
+use Rattle.session_laws.proofs.Vocabulary.{line_ruling, reading, message_of, answered, commanded, keys_outcome, unsaid}
+use Rattle.session_laws.proofs.Vocabulary.{outcome, refused, Outcome, left_acts, has_x, has_x_on, Given, with_order}
+use Rattle.session_laws.proofs.Vocabulary.{order_in, ok_of, commands_of, typed_bytes, command_item, taken, step_items}
+use Rattle.session_laws.proofs.Vocabulary.{Caller, caller_of, line_caller, read_line, needs, wants_x, reply_wants_x}
+use Rattle.session_laws.proofs.Vocabulary.{OnlyRead, is_answer_to, ActsAsGranted, CommandsAct, may_in, holder_in}
+use Rattle.session_laws.proofs.Vocabulary.{IsStep, after, is_known, Tables, Window, Client, client_at, with_client}
+use Rattle.session_laws.proofs.Vocabulary.{focused_window, text_of, EventValue, Keys, Command, Draw, Reply, Entry}
+use Rattle.std.specs.Option.{is_some}
 use Rattle.acl.specs.declared.act.Object.TheVariants as object
-use Rattle.acl.specs.History.{followed_by}
-use Rattle.command_lang.specs.declared.command.Command.{Command as Order}
-use Rattle.command_lang.specs.Names.{name_of}
-use Rattle.command_lang.specs.declared.fault.ParseFault.{ParseFault}
-use Rattle.keys.specs.Grammar.{Item, typed, bound, line}
-use Rattle.session_model.specs.declared.check.Check.{Check}
-use Rattle.session_model.specs.declared.check.Check.TheVariants.{Right as right, Unlocked as unlocked, Must as must}
-use Rattle.command_lang.specs.declared.needs.Needs.{Needs}
-use Rattle.session_model.specs.declared.event.Effect.{Effect}
-use Rattle.session_model.specs.declared.event.Effect.TheVariants.{Input}
-use Rattle.session_model.specs.declared.message.StatusMessage.{StatusMessage}
-use Rattle.session_model.specs.declared.message.StatusMessage.TheVariants.{Text}
-use Rattle.session_model.specs.declared.refusal.Refusal.{Refusal}
-use Rattle.session_model.specs.declared.refusal.Refusal.TheVariants.{EntryDenied, LockDenied, NoWindow, NotMultiuser}
-use Rattle.session_model.specs.declared.refusal.Refusal.TheVariants.{UnknownUser}
-use Rattle.session_model.specs.declared.verdict.Verdict.{Verdict}
-use Rattle.session_laws.proofs.Lists.{row_serial, all_append, all_filter, all_weaken, and_first, and_second}
-use Rattle.session_laws.proofs.Lists.{contradicts}
 use Rattle.session_laws.proofs.Doing.{is_plain}
 use Rattle.session_laws.proofs.Shapes.{own}
 use Rattle.session_laws.proofs.Unread.{read_row, row_at, typing_told, nobody_left}
 use Rattle.session_laws.proofs.Denying.{OnFault, MatchAnswer, Each, on_fault, ruled_answer}
 use Rattle.session_laws.proofs.Passing.{passed_has_x}
-use Rattle.session_model.specs.Checks.{passes, refusal_of, first_fault, verdicts, checks, window_checks, where_needed}
-use Rattle.session_model.specs.Checks.{typing_checks}
-use Rattle.session_model.specs.Commands.{does, ruling}
-use Rattle.session_model.specs.Deeds.{Answer, Deed, changing, hearing}
-use Rattle.session_model.specs.Denials.{lock_denial}
-use Rattle.session_model.specs.Answering.{types, says, told, keyed, ordered, by_line, line_ruling, reading, message_of}
-use Rattle.session_model.specs.Answering.{answered, commanded, keys_outcome, unsaid}
-use Rattle.session_model.specs.Events.{outcome}
-use Rattle.session_model.specs.Outcomes.{refused, Outcome, left_acts}
-use Rattle.session_model.specs.Given.{has_x, has_x_on, Given, with_order, order_in, ok_of, commands_of}
-use Rattle.session_model.specs.Keying.{typed_bytes, command_item, taken, step_items}
-use Rattle.session_model.specs.Lines.{Caller, caller_of, line_caller, read_line}
-use Rattle.command_lang.specs.Needs.{needs}
-use Rattle.session_model.specs.Promises.{wants_x, reply_wants_x, OnlyRead, is_answer_to, ActsAsGranted, CommandsAct}
-use Rattle.session_model.specs.Rights.{may_in, holder_in}
-use Rattle.session_model.specs.Run.{IsStep, after}
-use Rattle.session_model.specs.Tables.{is_known, Tables, Window, Client, client_at, with_client, focused_window}
-use Rattle.session_model.specs.Texts.{text_of}
-use Rattle.session_model.specs.Trace.{EventValue, Keys, Command, Draw, Reply, Entry}
 
 -- ---- a command with x isn't refused for a missing x
 
@@ -99,7 +71,6 @@ checks_granted t k c has =
 
 plain_other : (r : Refusal) → is_plain r ≡ true → wants_x r ≡ false
 plain_other (EntryDenied d) is = absurd (cc (is))
-plain_other (LockDenied d) is = refl
 plain_other _ is = refl
 
 answered_other : (t : Tables) (vs : List Verdict) (a : Answer) → MatchAnswer NotX (λ d. Unit {0}) a
@@ -215,11 +186,9 @@ module _ (t : Tables) (client : ℕ) (bytes : List ℕ) (c : Client) (is : clien
       (λ g. has_x t g ≡ false
       → Refused t (Keys client bytes) (ordered (record t { clients = cs }) (reading read c) item).deed)
       (with_order (caller_of t c) (order_in item))
-  item_refused cs read None only = tt
-  item_refused cs read (Some (typed b)) only = tt
   item_refused cs read (Some (bound order)) only = (order_refused cs read order only, tt)
-  item_refused cs read (Some (line [])) only = tt
   item_refused cs read (Some (line (b ∷ bs))) only = line_refused cs read (read_line (b ∷ bs)) only
+  item_refused cs read item only = tt
 
   types_answer : (u : Tables) (d : Client) (bs : List ℕ) → d.serial ≡ c.serial
       → AllByRecursion (λ f. is_answer_to (Keys client bytes) f ≡ true) (types u d bs).effects

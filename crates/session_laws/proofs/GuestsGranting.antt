@@ -1,24 +1,13 @@
 -- Tables of the same windows and rights grant the same views, but for the list of clients.
-use Rattle.std.proofs.Common.{◌≡◌, ℕ, false, List, [], ◌∷◌, ◌++◌, Option, Some, None, refl, ap, ◌∙◌, map}
-use Rattle.std.specs.Prelude.{if◌then◌else◌, codes, decimal}
-use Rattle.acl.specs.declared.user_id.UserId.{UserId}
-use Rattle.acl.specs.declared.bits.Bit.{Bit}
-use Rattle.acl.specs.declared.bits.Bit.TheVariants.{Read}
-use Rattle.acl.specs.declared.act.Object.{Object}
+use Rattle.session_laws.proofs.Vocabulary.{◌≡◌, ℕ, false, List, [], ◌∷◌, ◌++◌, Option, Some, None, refl, ap, ◌∙◌, map}
+use Rattle.session_laws.proofs.Vocabulary.{if◌then◌else◌, codes, decimal, UserId, Bit, Read, Object, items, Shown}
+use Rattle.session_laws.proofs.Vocabulary.{StatusMessage, Window, Client, Tables, row_of, focused, is_window, may_in}
+use Rattle.session_laws.proofs.Vocabulary.{open_line, terminal_of, window_item, in_order, separated, granted_view}
+use Rattle.session_laws.proofs.Vocabulary.{part_shown, part_of_window, window_read, message_text, status_text}
+use Rattle.session_laws.proofs.Vocabulary.{layout_of, lists_clients}
 use Rattle.acl.specs.declared.act.Object.TheVariants as object
-use Rattle.keys.specs.Grammar.{items}
-use Rattle.regions.specs.declared.shown.Shown.{Shown}
 use Rattle.view.specs.Granted as view
-use Rattle.session_model.specs.declared.message.StatusMessage.{StatusMessage}
 use Rattle.session_model.specs.declared.message.StatusMessage.TheVariants as message
-use Rattle.session_model.specs.Tables.{Window, Client, Tables, row_of, focused, is_window}
-use Rattle.session_model.specs.Rights.{may_in}
-use Rattle.session_model.specs.Keying.{open_line}
-use Rattle.session_model.specs.Terminals.{terminal_of}
-use Rattle.session_model.specs.Texts.{window_item, in_order, separated}
-use Rattle.session_model.specs.Granted.{granted_view, part_shown, part_of_window, window_read, message_text}
-use Rattle.session_model.specs.Granted.{status_text, layout_of}
-use Rattle.session_laws.specs.Watching.{lists_clients}
 
 module _ (t u : Tables) (windows : u.windows ≡ t.windows)
     (rights : (v : UserId) (bit : Bit) (o : Object) → may_in u v bit o ≡ may_in t v bit o) where
@@ -50,14 +39,13 @@ module _ (t u : Tables) (windows : u.windows ≡ t.windows)
       (rights v Read (object.Window w.serial))
 
   message_same : (c : Client) (m : StatusMessage) → lists_clients m ≡ false → message_text u c m ≡ message_text t c m
-  message_same c message.Silence plain = refl
-  message_same c (message.Text bytes) plain = refl
   message_same c message.AllWindows plain =
       ap (separated (codes "  "))
       (all_same (window_item u c.user (focused c)) (window_item t c.user (focused c)) (in_order u.windows)
       (item_same c.user (focused c))
       ∙ ap (λ ws. map (window_item t c.user (focused c)) (in_order ws)) windows)
   message_same c message.AllClients plain = absurd (cc (plain))
+  message_same c m plain = refl
 
   status_same : (c : Client) → lists_clients c.message ≡ false → status_text u c ≡ status_text t c
   status_same c plain = on (open_line (items c.keys).1) where

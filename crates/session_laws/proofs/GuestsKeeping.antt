@@ -1,42 +1,19 @@
 -- The holder of a lock keeps it in the steps of others, except for the ways that the law lists.
-use Rattle.std.proofs.Common.{◌≡◌, ℕ, Bool, true, false, List, [], ◌∷◌, ◌++◌, Some, None, Ok, Err, refl, ap, sym, ◌∙◌}
-use Rattle.std.proofs.Common.{subst, inl, inr}
-use Rattle.std.specs.Prelude.{◌⊎◌}
-use Rattle.std.specs.List.{AllByRecursion}
-use Rattle.acl.specs.declared.user_id.UserId.{UserId}
-use Rattle.acl.specs.declared.bits.Bit.TheVariants.{Write, Execute}
-use Rattle.acl.specs.declared.act.Act.{Act}
+use Rattle.session_laws.proofs.Vocabulary.{◌≡◌, ℕ, Bool, true, false, List, [], ◌∷◌, ◌++◌, Some, None, refl, ap, sym}
+use Rattle.session_laws.proofs.Vocabulary.{◌∙◌, subst, inl, inr, ◌⊎◌, AllByRecursion, UserId, Write, Execute, Act}
+use Rattle.session_laws.proofs.Vocabulary.{followed_by, same_user, same_user-true, holder, Order, name_of, needs}
+use Rattle.session_laws.proofs.Vocabulary.{first_fault, checks_by, left_acts, Given, commands_of, SomeOf, may_in}
+use Rattle.session_laws.proofs.Vocabulary.{holder_in, IsStep, after, AreFit, Tables, Entry, not_so, all_weaken, stood}
+use Rattle.session_laws.proofs.Vocabulary.{user_of, HoldersMayWrite, LosesIn, FreesBy, Frees, IsFreed, LocksStayIn}
 use Rattle.acl.specs.declared.act.Object.TheVariants as object
-use Rattle.acl.specs.History.{followed_by}
-use Rattle.acl.specs.Same.{same_user}
-use Rattle.acl.proofs.StandsForLemmas.{same_user-true}
-use Rattle.writelock.specs.Holding.{holder}
-use Rattle.command_lang.specs.declared.command.Command.{Command as Order}
 use Rattle.command_lang.specs.declared.command.Command.TheVariants as command
-use Rattle.command_lang.specs.Names.{name_of}
-use Rattle.command_lang.specs.Needs.{needs}
-use Rattle.session_model.specs.Checks.{first_fault, checks_by}
-use Rattle.session_model.specs.Commands.{does}
-use Rattle.session_model.specs.Deeds.{Deed, Answer}
-use Rattle.session_model.specs.Outcomes.{left_acts}
-use Rattle.session_model.specs.Given.{Given, commands_of}
-use Rattle.session_model.specs.Promises.{SomeOf}
-use Rattle.session_model.specs.Rights.{may_in, holder_in}
-use Rattle.session_model.specs.Run.{IsStep, after}
-use Rattle.session_model.specs.Sound.{AreFit}
-use Rattle.session_model.specs.Tables.{Tables}
-use Rattle.session_model.specs.Trace.{Entry}
-use Rattle.session_laws.proofs.Lists.{all_weaken}
 use Rattle.session_laws.proofs.Doing.{Either}
-use Rattle.session_laws.specs.Contained.{stood}
-use Rattle.session_laws.specs.Locking.{user_of, HoldersMayWrite}
-use Rattle.session_laws.proofs.Steps.{Did, Obeys, with_clients}
+use Rattle.session_laws.proofs.Steps.{Did, Obeys}
 use Rattle.session_laws.proofs.Events.{gives_commands}
 use Rattle.session_laws.proofs.Gating.{Below, obeys_of, then_passed}
 use Rattle.session_laws.proofs.Holding.{kept as kept_tables, by_acts, givers}
 use Rattle.session_laws.proofs.Parting.{did_x}
 use Rattle.session_laws.proofs.Callers.{IsOf, callers}
-use Rattle.session_laws.specs.Keeping.{LosesIn, FreesBy, Frees, IsFreed, LocksStayIn}
 use Rattle.session_laws.proofs.GuestsLeaving.{left_read}
 use Rattle.session_laws.proofs.HolderActs.{moves, IsCalm, KeepsWindow, stays_calm, able_calm, loses_or_keeps}
 use Rattle.session_laws.proofs.OthersActs.{takes_rights, Silent, silent_all, Mine}
@@ -72,10 +49,6 @@ module _ (t : Tables) (fit : AreFit t) (w : ℕ) (x : UserId) (old : stood t (ob
   abbrev Freed : Entry → Type 0 → Type 0
   Freed e why = Still e ⊎ (why × AllByRecursion Silent e.acts)
 
-  deed_of : (P : Deed → Type 0) (a : Answer) (d : Deed) → a ≡ Ok d → Either P a → P d
-  deed_of P (Ok e) d is p = let same : e ≡ d = cc (is) in subst P same p
-  deed_of P (Err r) d is p = absurd (cc (is))
-
   did_stays : (e : Entry) (g : Given) → IsOf t g.caller → same_user g.caller.user x ≡ false → Did t e g
       → Freed e (Frees t e w x g)
   did_stays e g of other d = on (subst (C g.order) (sym acts) comes) where
@@ -86,8 +59,7 @@ module _ (t : Tables) (fit : AreFit t) (w : ℕ) (x : UserId) (old : stood t (ob
     C = Affects t w x g
 
     comes : C g.order (d.deed.acts ++ left_acts d.clients d.deed.tables.clients)
-    comes = deed_of (λ y. C g.order (y.acts ++ left_acts d.clients y.tables.clients))
-        (does (with_clients t d.clients) g.caller g.order) d.deed d.does_it
+    comes = subst (Either (λ y. C g.order (y.acts ++ left_acts d.clients y.tables.clients))) d.does_it
         (does_comes t fit w x held g d.clients d.same d.by of other passed)
 
     acts : e.acts ≡ d.deed.acts ++ left_acts d.clients d.deed.tables.clients
@@ -145,10 +117,7 @@ pub locks_stay : Below → (t : Tables) (e : Entry) → AreFit t → HoldersMayW
 locks_stay laws t e fit able step w x old held other = on (stays t fit w x old (able w x held) held laws e step apart)
   where
     apart : (u : UserId) → user_of t e.event ≡ Some u → same_user u x ≡ false
-    apart u is = sides (same_user u x) refl where
-      sides : (b : Bool) → same_user u x ≡ b → b ≡ false
-      sides false same = refl
-      sides true same = absurd (other (is ∙ ap Some (same_user-true u x same)))
+    apart u is = not_so (same_user u x) (λ same. other (is ∙ ap Some (same_user-true u x same)))
 
     on : (holder t.edition t.owner (followed_by t.acts e.acts) w ≡ Some x) ⊎
         (IsFreed t e w x × AllByRecursion Silent e.acts)

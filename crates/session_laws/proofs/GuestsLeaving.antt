@@ -1,20 +1,12 @@
 -- Which users leave windows in a step, and which windows.
-use Rattle.std.proofs.Common.{◌≡◌, ℕ, zero, suc, Bool, true, false, not, List, [], ◌∷◌, ◌++◌, Option, Some, None, refl}
-use Rattle.std.proofs.Common.{ap, sym, ◌∙◌, map, filter, inl, inr}
-use Rattle.std.specs.Prelude.{if◌then◌else◌, ◌==◌, ◌||◌, ◌&&◌, ◌⊎◌}
-use Rattle.std.specs.List.{AllByRecursion}
-use Rattle.acl.specs.declared.user_id.UserId.{UserId}
-use Rattle.acl.specs.declared.act.Act.{Act}
+use Rattle.session_laws.proofs.Vocabulary.{◌≡◌, ℕ, zero, suc, Bool, true, false, not, List, [], ◌∷◌, ◌++◌, Option, Some}
+use Rattle.session_laws.proofs.Vocabulary.{None, refl, ap, sym, ◌∙◌, map, filter, inl, inr, if◌then◌else◌, ◌==◌, ◌||◌}
+use Rattle.session_laws.proofs.Vocabulary.{◌&&◌, ◌⊎◌, AllByRecursion, UserId, Act, same_user, same_user-refl, Shown}
+use Rattle.session_laws.proofs.Vocabulary.{without_window, without_windows, left_acts_of, left_acts, unread, Window}
+use Rattle.session_laws.proofs.Vocabulary.{Client, row_of, with_row, focused, is_window, shows, is_in_focus, equal}
+use Rattle.session_laws.proofs.Vocabulary.{itself, contradicts, all_weaken, all_append}
 use Rattle.acl.specs.declared.act.Act.TheVariants as act
-use Rattle.acl.specs.Same.{same_user}
-use Rattle.acl.proofs.StandsForLemmas.{same_user-refl}
-use Rattle.regions.specs.declared.shown.Shown.{Shown}
 use Rattle.regions.specs.Layouts as layouts
-use Rattle.session_model.specs.Deeds.{without_window, without_windows}
-use Rattle.session_model.specs.Outcomes.{left_acts_of, left_acts}
-use Rattle.session_model.specs.Promises.{unread}
-use Rattle.session_model.specs.Tables.{Window, Client, row_of, with_row, focused, is_window, shows, is_in_focus}
-use Rattle.session_laws.proofs.Lists.{equal, itself, contradicts, all_weaken, all_append}
 use Rattle.session_laws.proofs.Showing.{at_place}
 use Rattle.session_laws.proofs.Callers.{focus_read}
 

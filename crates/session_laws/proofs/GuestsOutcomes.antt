@@ -1,43 +1,22 @@
 -- Each event does to cut tables what it does to these, but for output that is cut.
-use Rattle.std.proofs.Common.{◌≡◌, ℕ, ◌+◌, Bool, true, false, List, [], ◌∷◌, ◌++◌, Option, Some, None, Ok, Err, Result}
-use Rattle.std.proofs.Common.{refl, ap, sym, ◌∙◌, map, length}
-use Rattle.std.specs.Prelude.{if◌then◌else◌, ◌&&◌, ◌||◌, ◌^◌, nat_lt, unwrap_or}
-use Rattle.std.specs.Option.{option_map, is_some}
-use Rattle.acl.specs.declared.user_id.UserId.{UserId}
-use Rattle.acl.specs.declared.act.Act.{Act}
+use Rattle.session_laws.proofs.Vocabulary.{◌≡◌, ℕ, ◌+◌, Bool, true, false, List, [], ◌∷◌, ◌++◌, Option, Some, None, Ok}
+use Rattle.session_laws.proofs.Vocabulary.{Err, Result, refl, ap, sym, ◌∙◌, map, length, if◌then◌else◌, ◌&&◌, ◌||◌, ◌^◌}
+use Rattle.session_laws.proofs.Vocabulary.{nat_lt, unwrap_or, option_map, UserId, Act, Execute, Screen, followed_by}
+use Rattle.session_laws.proofs.Vocabulary.{Order, ParseFault, one_region, View, Check, right, must, Refusal, NoWindow}
+use Rattle.session_laws.proofs.Vocabulary.{UnknownUser, BadSize, NotMultiuser, TooManyClients, Windows, Full, BadTitle}
+use Rattle.session_laws.proofs.Vocabulary.{Verdict, Command, Reply, Tables, Window, Client, window_at, client_at}
+use Rattle.session_laws.proofs.Vocabulary.{focused, is_in_focus, is_known, lowest, free_number, is_title, read_line}
+use Rattle.session_laws.proofs.Vocabulary.{Caller, line_caller, verdicts, first_fault, checks, Deed, Answer, acting}
+use Rattle.session_laws.proofs.Vocabulary.{entering, does, ruling, left_acts_of, left_acts, Outcome, reply_of, finished}
+use Rattle.session_laws.proofs.Vocabulary.{refused, where_passed, attach_checks, new_client, attaches, has_place}
+use Rattle.session_laws.proofs.Vocabulary.{open_checks, new_window, opens, is_client_size, is_window_size, is_let_in}
+use Rattle.session_laws.proofs.Vocabulary.{line_ruling, answered, commanded, with_client_of, with_window_of, outcome}
+use Rattle.std.specs.Option.{is_some}
 use Rattle.acl.specs.declared.act.Object.TheVariants as object
-use Rattle.acl.specs.declared.bits.Bit.TheVariants.{Execute}
-use Rattle.acl.specs.declared.command_name.CommandName.TheVariants.{Screen}
 use Rattle.acl.specs.declared.act.Act.TheVariants as act
-use Rattle.acl.specs.History.{followed_by}
-use Rattle.command_lang.specs.declared.command.Command.{Command as Order}
-use Rattle.command_lang.specs.declared.fault.ParseFault.{ParseFault}
-use Rattle.regions.specs.Layouts.{one_region}
-use Rattle.terminal_model.specs.Shows.{View}
-use Rattle.session_model.specs.declared.check.Check.{Check}
-use Rattle.session_model.specs.declared.check.Check.TheVariants.{Right as right, Must as must}
 use Rattle.session_model.specs.declared.message.StatusMessage.TheVariants as message
-use Rattle.session_model.specs.declared.refusal.Refusal.{Refusal}
-use Rattle.session_model.specs.declared.refusal.Refusal.TheVariants.{NoWindow, UnknownUser, BadSize, NotMultiuser}
-use Rattle.session_model.specs.declared.refusal.Refusal.TheVariants.{TooManyClients, Windows}
-use Rattle.session_model.specs.windows_fault.WindowsFault.TheVariants.{Full, BadTitle}
-use Rattle.session_model.specs.declared.verdict.Verdict.{Verdict}
-use Rattle.session_model.specs.Trace.{Command, Reply}
-use Rattle.session_model.specs.Tables.{Tables, Window, Client, window_at, client_at, with_client, focused}
-use Rattle.session_model.specs.Tables.{focused_window, is_in_focus, is_known}
-use Rattle.session_model.specs.Naming.{lowest, free_number, is_title}
-use Rattle.session_model.specs.Lines.{read_line, Caller, line_caller}
-use Rattle.session_model.specs.Checks.{verdicts, first_fault, checks}
-use Rattle.session_model.specs.Deeds.{Deed, Answer, acting, entering}
-use Rattle.session_model.specs.Commands.{does, ruling}
-use Rattle.session_model.specs.Outcomes.{left_acts_of, left_acts, Outcome, reply_of, finished, refused, where_passed}
-use Rattle.session_model.specs.Comings.{attach_checks, new_client, attaches, has_place, open_checks, new_window, opens}
-use Rattle.session_model.specs.Comings.{is_client_size, is_window_size, is_let_in}
-use Rattle.session_model.specs.Answering.{line_ruling, answered, commanded}
-use Rattle.session_model.specs.Events.{with_client_of, with_window_of, outcome}
-use Rattle.session_laws.proofs.Cutting.{read_all, change_all, length_cut, append_cut, cut_window, cut_client, cut}
-use Rattle.session_laws.proofs.Cutting.{cut_deed, cut_caller, client_cut, window_cut, with_client_cut}
-use Rattle.session_laws.proofs.Cutting.{with_window_cut}
+use Rattle.session_laws.proofs.Cutting.{length_cut, append_cut, cut_window, cut_client, cut}
+use Rattle.session_laws.proofs.Cutting.{cut_deed, cut_caller, client_cut, window_cut}
 use Rattle.session_laws.proofs.Finding.{lowest_cut, free_cut, in_focus_cut, given_number_cut}
 use Rattle.session_laws.proofs.Checking.{fault_cut, verdicts_cut, checks_cut}
 use Rattle.session_laws.proofs.Rows.{row_cut, cut_answer}

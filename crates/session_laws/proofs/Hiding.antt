@@ -1,21 +1,11 @@
 -- Hidden output leaves cut tables as they were; and what is cut of fewer windows is cut of more.
-use Rattle.std.proofs.Common.{◌≡◌, ℕ, Bool, true, false, not, List, [], ◌∷◌, ◌++◌, Option, Some, None, refl, ap, ◌∙◌}
-use Rattle.std.proofs.Common.{map, filter}
-use Rattle.std.specs.Prelude.{if◌then◌else◌}
-use Rattle.acl.specs.declared.user_id.UserId.{UserId}
-use Rattle.acl.specs.History.{followed_by}
-use Rattle.terminal_model.specs.Writing.{Writing}
+use Rattle.session_laws.proofs.Vocabulary.{◌≡◌, ℕ, Bool, true, false, not, List, [], ◌∷◌, ◌++◌, Option, Some, None}
+use Rattle.session_laws.proofs.Vocabulary.{refl, ap, ◌∙◌, map, filter, if◌then◌else◌, UserId, followed_by, Writing}
+use Rattle.session_laws.proofs.Vocabulary.{NoWindow, EventValue, Output, Entry, Tables, Window, window_at, with_window}
+use Rattle.session_laws.proofs.Vocabulary.{Outcome, refused, finished, done, outcome, outputs, after, row_serial}
+use Rattle.session_laws.proofs.Vocabulary.{is_hidden}
 use Rattle.terminal_model.specs.Writing as written
-use Rattle.session_model.specs.declared.refusal.Refusal.TheVariants.{NoWindow}
-use Rattle.session_model.specs.Trace.{EventValue, Output, Entry}
-use Rattle.session_model.specs.Tables.{Tables, Window, Client, window_at, with_window}
-use Rattle.session_model.specs.Outcomes.{Outcome, refused, finished, done}
-use Rattle.session_model.specs.Events.{outcome}
-use Rattle.session_model.specs.Comings.{outputs}
-use Rattle.session_model.specs.Run.{after}
-use Rattle.session_laws.proofs.Lists.{row_serial}
 use Rattle.session_laws.proofs.Leaving.{none_left}
-use Rattle.session_laws.specs.Hidden.{is_hidden}
 use Rattle.session_laws.proofs.Cutting.{put_same, cut_window, cut_client, cut, cut_writing, is_no_output}
 
 -- ---- hidden output

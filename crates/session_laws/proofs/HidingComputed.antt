@@ -1,9 +1,5 @@
 -- The rows on which output is hidden, proved by computing.
-use Rattle.std.proofs.Common.{refl}
-use Rattle.std.specs.Fmt.{digits}
-use Rattle.keys.specs.Grammar.{items_from}
-use Rattle.command_lang.specs.Names.{command_named}
-use Rattle.session_model.specs.Deeds.{unless, refused_if, given}
+use Rattle.session_laws.proofs.Vocabulary.{refl, digits, items_from, command_named, unless, refused_if, given}
 use Rattle.session_laws.specs.WorkedHiding as rows
 
 pub shown_before : rows.ShownBefore

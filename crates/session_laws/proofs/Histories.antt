@@ -1,19 +1,12 @@
 -- Acts that aren't list acts leave all rights unchanged, except on windows that they open.
-use Rattle.std.proofs.Common.{◌≡◌, ℕ, Bool, true, false, List, [], ◌∷◌, Option, None, refl, ap, ◌∙◌}
-use Rattle.std.specs.Prelude.{if◌then◌else◌, ◌==◌, ◌||◌, unwrap_or}
-use Rattle.std.specs.List.{AllByRecursion, list_any}
-use Rattle.acl.specs.declared.edition.Edition.{Edition}
-use Rattle.acl.specs.declared.user_id.UserId.{UserId}
-use Rattle.acl.specs.declared.bits.Bit.{Bit}
-use Rattle.acl.specs.declared.act.Act.{Act}
+use Rattle.session_laws.proofs.Vocabulary.{◌≡◌, ℕ, Bool, true, false, List, [], ◌∷◌, Option, None, refl, ap, ◌∙◌}
+use Rattle.session_laws.proofs.Vocabulary.{if◌then◌else◌, ◌==◌, ◌||◌, unwrap_or, AllByRecursion, list_any, Edition}
+use Rattle.session_laws.proofs.Vocabulary.{UserId, Bit, Act, Object, PresetKind, same_user, History, followed_by}
+use Rattle.session_laws.proofs.Vocabulary.{users_of, leaders_of, mask, preset_of, has, may, opening, Tables}
+use Rattle.session_laws.proofs.Vocabulary.{opens_window, opened_by, SameRights}
 use Rattle.acl.specs.declared.act.Act.TheVariants as act
-use Rattle.acl.specs.declared.act.Object.{Object}
 use Rattle.acl.specs.declared.act.Object.TheVariants as object
-use Rattle.acl.specs.declared.act.PresetKind.{PresetKind}
-use Rattle.acl.specs.Same.{same_user}
-use Rattle.acl.specs.History.{History, followed_by, users_of, is_known, leaders_of, mask, preset_of, has, may, opening}
-use Rattle.session_model.specs.Tables.{Tables}
-use Rattle.session_laws.specs.Changing.{opens_window, opened_by, SameRights}
+use Rattle.acl.specs.History.{is_known}
 use Rattle.session_laws.proofs.Listing.{is_listing}
 
 abbrev pub NoListing : List Act → Type 0

@@ -1,23 +1,17 @@
 -- Acts after which a holder still has the lock, unless they lose the window by one of them.
-use Rattle.std.proofs.Common.{◌≡◌, ℕ, Bool, true, false, not, List, [], ◌∷◌, Some, None, refl, ap, sym, ◌∙◌, filter}
-use Rattle.std.proofs.Common.{inl, inr}
-use Rattle.std.specs.Prelude.{if◌then◌else◌, ◌==◌, ◌||◌, ◌&&◌, ◌⊎◌}
-use Rattle.std.specs.List.{AllByRecursion, list_any}
-use Rattle.acl.specs.declared.edition.Edition.{Edition}
-use Rattle.acl.specs.declared.user_id.UserId.{UserId}
-use Rattle.acl.specs.declared.bits.Bit.TheVariants.{Write}
-use Rattle.acl.specs.declared.act.Act.{Act}
+use Rattle.session_laws.proofs.Vocabulary.{◌≡◌, ℕ, Bool, true, false, not, List, [], ◌∷◌, Some, None, refl, ap, sym}
+use Rattle.session_laws.proofs.Vocabulary.{◌∙◌, filter, inl, inr, if◌then◌else◌, ◌==◌, ◌||◌, ◌&&◌, ◌⊎◌, AllByRecursion}
+use Rattle.session_laws.proofs.Vocabulary.{list_any, Edition, UserId, Write, Act, same_user, History, followed_by, may}
+use Rattle.session_laws.proofs.Vocabulary.{decided, holder, kept, ends, or_else, is_off, is_auto, is_on, mode_of}
+use Rattle.session_laws.proofs.Vocabulary.{default_of, clients_of, has_client, frees, all_filter, LosesWindow}
 use Rattle.acl.specs.declared.act.Act.TheVariants as act
 use Rattle.acl.specs.declared.act.Object.TheVariants as object
-use Rattle.acl.specs.Same.{same_user}
-use Rattle.acl.specs.History.{History, followed_by, may, decided}
-use Rattle.writelock.specs.Holding.{holder, given, kept, ends, or_else, is_off, is_auto, is_on, mode_of, default_of}
-use Rattle.writelock.specs.Holding.{clients_of, has_client}
-use Rattle.writelock.specs.LockTable.{frees}
-use Rattle.session_laws.proofs.Lists.{all_filter}
+use Rattle.writelock.specs.Holding.{given}
 use Rattle.session_laws.proofs.Histories.{same_may}
-use Rattle.session_laws.proofs.Harmless.{NoneOf}
-use Rattle.session_laws.specs.Keeping.{LosesWindow}
+
+-- no client with this serial belongs to the user
+abbrev pub NoneOf : UserId → ℕ → List (ℕ × UserId) → Type 0
+NoneOf user client ps = AllByRecursion (λ (p : ℕ × UserId). (p.0 == client) ≡ true → same_user p.1 user ≡ false) ps
 
 none_filter : (user : UserId) (client : ℕ) (p : ℕ × UserId → Bool) (ps : List (ℕ × UserId)) → NoneOf user client ps
     → NoneOf user client (filter p ps)
@@ -72,18 +66,7 @@ module _ (edition : Edition) (owner : UserId) (base : History) (x : UserId) (w :
   carries_after h (act.Attached client user) is carry = λ none. absurd (cc (is, none))
   carries_after h (act.Parted client) is carry = λ none c all. none_filter x c (λ (p : ℕ × UserId). not (p.0 == client))
       (clients_of h) (carry none c all)
-  carries_after h (act.Mode by v mode) is carry = carry
-  carries_after h (act.Left v y) is carry = carry
-  carries_after h (act.Opened by v) is carry = carry
-  carries_after h (act.Closed v) is carry = carry
-  carries_after h (act.Entered user v) is carry = carry
-  carries_after h (act.Default mode) is carry = carry
-  carries_after h (act.Known u) is carry = carry
-  carries_after h (act.Gone u) is carry = carry
-  carries_after h (act.Set u bit o value) is carry = carry
-  carries_after h (act.Grouped u leader) is carry = carry
-  carries_after h (act.Masked by u bit value) is carry = carry
-  carries_after h (act.Preset kind bit value) is carry = carry
+  carries_after h a is carry = carry
 
   undecided : {X : Type 0} (b c : Bool) (y : X) → b ≡ false → decided (b && c) y ≡ None
   undecided true c y is = absurd (cc (is))
@@ -113,7 +96,6 @@ module _ (edition : Edition) (owner : UserId) (base : History) (x : UserId) (w :
   none_ends h (act.Closed v) carry is = is
   none_ends h (act.Gone u) carry is = is
   none_ends h (act.Set u Write (object.Window v) false) carry is = is
-  none_ends h (act.Set u bit o value) carry is = refl
   none_ends h a carry is = refl
 
   kept_by : (e m : Bool) → e ≡ false → m ≡ true → (if (e || not m) then None else Some x) ≡ Some x
@@ -151,19 +133,11 @@ module _ (edition : Edition) (owner : UserId) (base : History) (x : UserId) (w :
   able_after : (h : History) (a : Act) → moves a ≡ false → IsCalm a → Able h → Able (a ∷ h)
   able_after h (act.Opened by v) not is able = same_may edition owner h (act.Opened by v ∷ []) (refl, tt) x Write
       (object.Window w) (or_nothing (v == w) is) ∙ able
-  able_after h (act.Mode by v mode) not is able = able
-  able_after h (act.Left v y) not is able = able
-  able_after h (act.Parted client) not is able = able
-  able_after h (act.Attached client user) not is able = able
-  able_after h (act.Closed v) not is able = able
-  able_after h (act.Entered user v) not is able = able
-  able_after h (act.Default mode) not is able = able
   able_after h (act.Known u) not is able = absurd (cc (not))
   able_after h (act.Gone u) not is able = absurd (cc (not))
   able_after h (act.Set u bit o value) not is able = absurd (cc (not))
   able_after h (act.Grouped u leader) not is able = absurd (cc (not))
-  able_after h (act.Masked by u bit value) not is able = able
-  able_after h (act.Preset kind bit value) not is able = able
+  able_after h a not is able = able
 
   pub able_calm : (h : History) (acts : List Act) → AllByRecursion (λ a. moves a ≡ false) acts
       → AllByRecursion IsCalm acts → Able h → AbleAll h acts

@@ -1,38 +1,19 @@
 -- A user who holds a lock took it in a step of their own, and may write.
-use Rattle.std.proofs.Common.{◌≡◌, ℕ, Bool, true, false, List, [], ◌∷◌, ◌++◌, Option, Some, None, refl, ap, sym, ◌∙◌}
-use Rattle.std.proofs.Common.{subst, inl, inr, ⊎_elim}
-use Rattle.std.specs.Prelude.{if◌then◌else◌, ◌⊎◌}
-use Rattle.std.specs.List.{AllByRecursion}
-use Rattle.std.specs.Option.{option_map, option_map_or}
-use Rattle.acl.specs.declared.edition.Edition.{Edition}
-use Rattle.acl.specs.declared.user_id.UserId.{UserId}
-use Rattle.acl.specs.declared.bits.Bit.TheVariants.{Write, Execute}
-use Rattle.acl.specs.declared.act.Act.{Act}
+use Rattle.session_laws.proofs.Vocabulary.{◌≡◌, ℕ, Bool, true, false, List, [], ◌∷◌, ◌++◌, Option, Some, None, refl, ap}
+use Rattle.session_laws.proofs.Vocabulary.{sym, ◌∙◌, subst, inl, inr, ⊎_elim, if◌then◌else◌, ◌⊎◌, AllByRecursion}
+use Rattle.session_laws.proofs.Vocabulary.{option_map, option_map_or, Edition, UserId, Write, Execute, Act, LockMode}
+use Rattle.session_laws.proofs.Vocabulary.{Off, History, followed_by, may, holder, is_off, Order, name_of, Check}
+use Rattle.session_laws.proofs.Vocabulary.{first_fault, checks_by, window_checks, left_acts, Given, commands_of}
+use Rattle.session_laws.proofs.Vocabulary.{with_order, order_in, ok_of, step_items, command_item, Caller, caller_of}
+use Rattle.session_laws.proofs.Vocabulary.{line_caller, read_line, needs, IsOn, may_in, holder_in, IsStep, IsRunFrom}
+use Rattle.session_laws.proofs.Vocabulary.{after, tables_from, Tables, Window, Client, client_at, is_known, EventValue}
+use Rattle.session_laws.proofs.Vocabulary.{Attach, Detach, Keys, Command, Open, Closed, Entry, some_gives, some_elim}
+use Rattle.session_laws.proofs.Vocabulary.{contradicts, all_weaken, all_append, changes_rights, user_of}
+use Rattle.session_laws.proofs.Vocabulary.{HoldersMayWrite, TakesIt}
 use Rattle.acl.specs.declared.act.Act.TheVariants as act
-use Rattle.acl.specs.declared.act.LockMode.{LockMode}
-use Rattle.acl.specs.declared.act.LockMode.TheVariants.{Off, Auto, On}
 use Rattle.acl.specs.declared.act.Object.TheVariants as object
-use Rattle.acl.specs.History.{History, followed_by, may}
-use Rattle.writelock.specs.Holding.{holder, is_off}
-use Rattle.command_lang.specs.declared.command.Command.{Command as Order}
 use Rattle.command_lang.specs.declared.command.Command.TheVariants as command
-use Rattle.command_lang.specs.Names.{name_of}
-use Rattle.session_model.specs.declared.check.Check.{Check}
-use Rattle.session_model.specs.Checks.{first_fault, checks_by, window_checks}
-use Rattle.session_model.specs.Outcomes.{left_acts}
-use Rattle.session_model.specs.Given.{Given, commands_of, with_order, order_in, ok_of}
-use Rattle.session_model.specs.Keying.{step_items, command_item}
-use Rattle.session_model.specs.Lines.{Caller, caller_of, line_caller, read_line}
 use Rattle.command_lang.specs.Needs as need
-use Rattle.command_lang.specs.Needs.{needs}
-use Rattle.session_model.specs.Promises.{SomeOf, IsOn}
-use Rattle.session_model.specs.Rights.{may_in, holder_in}
-use Rattle.session_model.specs.Run.{IsStep, IsRunFrom, after, tables_from}
-use Rattle.session_model.specs.Tables.{Tables, Window, Client, client_at, is_known}
-use Rattle.session_model.specs.Trace.{EventValue, Attach, Detach, Keys, Command, Open, Closed, Entry}
-use Rattle.session_laws.proofs.Lists.{contradicts, all_weaken, all_append}
-use Rattle.session_laws.specs.Changing.{changes_rights}
-use Rattle.session_laws.specs.Locking.{user_of, HoldersMayWrite, TakesIt}
 use Rattle.session_laws.proofs.CommandActs.{IsActOf, IsRow}
 use Rattle.session_laws.proofs.Steps.{Did, with_clients}
 use Rattle.session_laws.proofs.Events.{IsActIn, all_left}
@@ -81,8 +62,7 @@ lock_written : (t : Tables) (k : Caller) (mode : LockMode) (w : ℕ) → is_off 
     → first_fault t (checks_by t k (needs (command.Writelock mode))) ≡ None
     → may_in t k.user Write (object.Window w) ≡ true
 lock_written t k Off w not on is = absurd (cc (not))
-lock_written t k Auto w not on is = write_on t k.user k.window w on is
-lock_written t k On w not on is = write_on t k.user k.window w on is
+lock_written t k mode w not on is = write_on t k.user k.window w on is
 
 -- ---- the acts of a step give locks to its user
 
@@ -145,12 +125,6 @@ module _ (t : Tables) (P : UserId → Type 0) where
         (all_weaken (IsActOf g.caller g.order) (Own g.caller.user) d.deed.acts (row_own g.caller g.order is passed)
         r.acts)
         (all_left (Own g.caller.user) t.clients d.deed.tables.clients (λ user w. tt)))
-
-  some_gives : (e : Entry) (gs : List Given) → AllByRecursion (λ (g : Given). P g.caller.user) gs → SomeOf (Did t e) gs
-      → All e.acts
-  some_gives e [] all some = absurd some
-  some_gives e (g ∷ gs) all (inl did) = did_gives e g all.0 did
-  some_gives e (g ∷ gs) all (inr later) = some_gives e gs all.1 later
 
   attach_own : (user : UserId) (rows columns : ℕ) (a : Act) → IsActIn t (Attach user rows columns) a → Own user a
   attach_own user rows columns (act.Attached client v) is = tt
@@ -222,7 +196,8 @@ gives laws t e step = on (steps_of laws t e step) where
   on : Steps t e → All t (Steps_of t e) e.acts
   on (inl p) = plain_gives t (Steps_of t e) e.event (λ user is. is) e.acts p.acts_in
   on (inr (inl rests)) = subst (All t (Steps_of t e)) (sym rests.acts) tt
-  on (inr (inr some)) = some_gives t (Steps_of t e) e (commands_of t e.event) (givers t e.event) some
+  on (inr (inr some)) = some_elim (Did t e) (λ g. user_of t e.event ≡ Some g.caller.user) (All t (Steps_of t e) e.acts)
+      (commands_of t e.event) (λ g did is. did_gives t (Steps_of t e) e g is did) some (givers t e.event)
 
 -- ---- the tables after a step
 
@@ -235,11 +210,6 @@ did_kept : (t : Tables) (e : Entry) (g : Given) → Did t e g → KeepsOwner t e
 did_kept t e g d = let r : IsRow (with_clients t d.clients) g.caller g.order d.deed = row_did t e g d in record
     { owner = d.tables.owner ∙ r.owner; edition = d.tables.edition ∙ r.edition; acts = d.tables.acts }
 
-some_kept : (t : Tables) (e : Entry) (gs : List Given) → SomeOf (Did t e) gs → KeepsOwner t e
-some_kept t e [] some = absurd some
-some_kept t e (g ∷ gs) (inl did) = did_kept t e g did
-some_kept t e (g ∷ gs) (inr later) = some_kept t e gs later
-
 pub kept : Below → (t : Tables) (e : Entry) → IsStep t e → KeepsOwner t e
 kept laws t e step = on (steps_of laws t e step) where
   on : Steps t e → KeepsOwner t e
@@ -250,7 +220,7 @@ kept laws t e step = on (steps_of laws t e step) where
     acts = rests.tables.acts
         ∙ sym (ap (followed_by t.acts) rests.acts);
   }
-  on (inr (inr some)) = some_kept t e (commands_of t e.event) some
+  on (inr (inr some)) = some_gives (Did t e) (KeepsOwner t e) (commands_of t e.event) (did_kept t e) some
 
 -- a fact of the owner, the edition and the acts alone
 pub by_acts : (P : Edition → UserId → History → Type 0) (t : Tables) (e : Entry) → KeepsOwner t e

@@ -1,21 +1,9 @@
 -- The bytes that the effects of deeds put into windows.
-use Rattle.std.proofs.Common.{◌≡◌, ℕ, Bool, true, false, not, List, [], ◌∷◌, ◌++◌, Option, Some, None, Ok, Err, refl}
-use Rattle.std.proofs.Common.{ap, sym, ◌∙◌, append_assoc}
-use Rattle.std.specs.Prelude.{if◌then◌else◌, ◌==◌}
-use Rattle.std.specs.List.{list_any}
-use Rattle.session_model.specs.declared.event.Effect.{Effect}
-use Rattle.session_model.specs.declared.event.Effect.TheVariants.{Input, Deliver, Say, Size, Gone}
+use Rattle.session_laws.proofs.Vocabulary.{◌≡◌, ℕ, Bool, true, false, not, List, [], ◌∷◌, ◌++◌, Option, Some, None, Ok}
+use Rattle.session_laws.proofs.Vocabulary.{Err, refl, ap, sym, ◌∙◌, append_assoc, if◌then◌else◌, ◌==◌, list_any, Effect}
+use Rattle.session_laws.proofs.Vocabulary.{Input, Deliver, Say, Size, Gone, Verdict, StatusMessage, Deed, Answer}
+use Rattle.session_laws.proofs.Vocabulary.{answered, keyed, with_listed, says_same, unsaid, inputs, Tables}
 use Rattle.session_model.specs.declared.event.Peer.TheVariants as peer
-use Rattle.session_model.specs.declared.refusal.Refusal.{Refusal}
-use Rattle.session_model.specs.declared.verdict.Verdict.{Verdict}
-use Rattle.session_model.specs.declared.message.StatusMessage.{StatusMessage}
-use Rattle.session_model.specs.Deeds.{Deed, Answer}
-use Rattle.session_model.specs.Outcomes.{Outcome, finished, refused}
-use Rattle.session_model.specs.Answering.{answered, keyed, with_listed, says_same}
-use Rattle.session_model.specs.Answering.{unsaid}
-use Rattle.session_model.specs.Promises.{inputs}
-use Rattle.session_model.specs.Tables.{Tables}
-use Rattle.session_model.specs.Trace.{Reply}
 
 abbrev pub is_say : Effect → Bool
 is_say (Say client bytes) = true
@@ -29,11 +17,7 @@ pub inputs_append : (a b : List Effect) (w : ℕ) → inputs (a ++ b) w ≡ inpu
 inputs_append [] b w = refl
 inputs_append (Input at bytes ∷ a) b w = ap (λ bs. (if at == w then bytes else []) ++ bs) (inputs_append a b w)
     ∙ sym (append_assoc (if at == w then bytes else []) (inputs a w) (inputs b w))
-inputs_append (Deliver to bytes ∷ a) b w = inputs_append a b w
-inputs_append (Say to bytes ∷ a) b w = inputs_append a b w
-inputs_append (Size at rows columns ∷ a) b w = inputs_append a b w
-inputs_append (Gone (peer.Window at) why ∷ a) b w = inputs_append a b w
-inputs_append (Gone (peer.Client at) why ∷ a) b w = inputs_append a b w
+inputs_append (x ∷ a) b w = inputs_append a b w
 
 -- an effect that isn't a Say is never dropped
 never_same : (e : Effect) (said : List Effect) → is_say e ≡ false → list_any (says_same e) said ≡ false
@@ -85,8 +69,3 @@ keyed_inputs u client m (Ok d) w = listed_inputs client m d.lists d w
 keyed_inputs u client m (Err r) w = refl
 
 -- an event whose deed puts no bytes into windows
-pub passed_inputs : (t : Tables) (o : Option Refusal) (vs : List Verdict) (reply : Reply) (d : Deed) (w : ℕ)
-    → inputs d.effects w ≡ []
-    → inputs (elim o as (λ _. Outcome) [ Some r ↦ refused t vs r | None ↦ finished t vs reply d ]).effects w ≡ []
-passed_inputs t None vs reply d w none = none
-passed_inputs t (Some r) vs reply d w none = refl

@@ -1,20 +1,12 @@
 -- Commands leave each client's keys, and what was delivered to it, unchanged.
-use Rattle.std.proofs.Common.{◌≡◌, ℕ, Bool, true, false, not, List, [], ◌∷◌, Option, Some, None, refl, ap, sym, ◌∙◌}
-use Rattle.std.proofs.Common.{map, filter, ⊎_elim}
-use Rattle.std.specs.Prelude.{if◌then◌else◌, ◌==◌}
-use Rattle.std.specs.List.{AllByRecursion}
-use Rattle.std.specs.Option.{option_and_then}
-use Rattle.acl.specs.declared.user_id.UserId.{UserId}
-use Rattle.acl.specs.Names.{named_by}
-use Rattle.command_lang.specs.declared.command.Command.{Command as Order}
-use Rattle.regions.specs.Layouts.{one_region, empty}
+use Rattle.session_laws.proofs.Vocabulary.{◌≡◌, ℕ, Bool, true, false, not, List, [], ◌∷◌, Option, Some, None, refl, ap}
+use Rattle.session_laws.proofs.Vocabulary.{sym, ◌∙◌, map, filter, ⊎_elim, if◌then◌else◌, ◌==◌, AllByRecursion, UserId}
+use Rattle.session_laws.proofs.Vocabulary.{named_by, Order, one_region, empty, Tables, Window, Client, with_row}
+use Rattle.session_laws.proofs.Vocabulary.{client_at, with_client, Caller, Deed, removes, without_window}
+use Rattle.session_laws.proofs.Vocabulary.{without_windows, hearing, does, caller_client, SomeOf, all_weaken, all_map}
+use Rattle.session_laws.proofs.Vocabulary.{all_filter, members, some_weaken, some_row}
 use Rattle.session_model.specs.declared.message.StatusMessage.TheVariants as message
-use Rattle.session_model.specs.Tables.{Tables, Window, Client, with_row, client_at, with_client}
-use Rattle.session_model.specs.Lines.{Caller}
-use Rattle.session_model.specs.Deeds.{Deed, removes, without_window, without_windows, hearing}
-use Rattle.session_model.specs.Commands.{does, caller_client}
-use Rattle.session_model.specs.Promises.{SomeOf}
-use Rattle.session_laws.proofs.Lists.{all_weaken, all_map, all_filter, members, some_weaken, some_row}
+use Rattle.session_laws.proofs.Unread.{caller_row}
 use Rattle.session_laws.proofs.Doing.{Either}
 use Rattle.session_laws.proofs.Shapes as shapes
 
@@ -77,39 +69,27 @@ without_keeps before (w ∷ ws) cs all = without_keeps before ws (map (without_w
 abbrev KeepsAll : Tables → Deed → Type 0
 KeepsAll t d = Keeps t.clients d.tables.clients
 
-caller_at : (t : Tables) (o : Option ℕ) (c : Client) → option_and_then (client_at t) o ≡ Some c → (n : ℕ)
-    × (client_at t n ≡ Some c)
-caller_at t None c is = absurd (cc (is))
-caller_at t (Some n) c is = (n, is)
-
 page_keeps : (t : Tables) (k : Caller) (c x : Client) → caller_client t k ≡ Some c → core x ≡ core c
     → Keeps t.clients (with_client t x).clients
-page_keeps t k c x is same = let at = caller_at t k.client c is in keeps_client t at.0 c x at.1 same
+page_keeps t k c x is same = keeps_client t c.serial c x (caller_row t k.client c is) same
 
 removal_keeps : (t : Tables) (o : Option UserId) → KeepsAll t (removes o t)
 removal_keeps t None = keeps_same t.clients
 removal_keeps t (Some u) = keeps_filter _ t.clients t.clients (keeps_same t.clients)
 
 keeps_deed : (t : Tables) (k : Caller) (c : Order) (d : Deed) → shapes.Shape t k c d → KeepsAll t d
-keeps_deed t k c d (shapes.lists bytes none tells) = keeps_same t.clients
-keeps_deed t k c d (shapes.acts all none acted) = keeps_same t.clients
 keeps_deed t k c d (shapes.enters_page x l of at shows) = page_keeps t k x _ at refl
 keeps_deed t k c d (shapes.keeps_page x l of at shows same) = page_keeps t k x _ at refl
-keeps_deed t k c d (shapes.writes_to w what one at) = keeps_same t.clients
-keeps_deed t k c d (shapes.opened is) = keeps_same t.clients
 keeps_deed t k c d (shapes.shut is) = keeps_filter _ t.clients t.clients (keeps_same t.clients)
 keeps_deed t k c d (shapes.told bytes is) = keeps_map (hearing (message.Text _)) t.clients t.clients (λ x. refl)
     (keeps_same t.clients)
 keeps_deed t k c d (shapes.removed word is clear) = removal_keeps t (named_by word)
-keeps_deed t k c d (shapes.fitted w rows columns is at) = keeps_same t.clients
-keeps_deed t k c d (shapes.titled w bytes is at) = keeps_same t.clients
-keeps_deed t k c d (shapes.numbered w n is at free) = keeps_same t.clients
-keeps_deed t k c d (shapes.typed w bytes is at) = keeps_same t.clients
 keeps_deed t k c d (shapes.detached x is at) = keeps_filter _ t.clients t.clients (keeps_same t.clients)
 keeps_deed t k c d (shapes.killed w is at) = without_keeps t.clients
     (filter (λ (v : Window). v.serial == w.serial) t.windows) t.clients (keeps_same t.clients)
 keeps_deed t k c d (shapes.quits is) = keeps_filter (λ x. not true) t.clients _
     (without_keeps t.clients (filter (λ (w : Window). true) t.windows) t.clients (keeps_same t.clients))
+keeps_deed t k c d kind = keeps_same t.clients
 
 pub keeps : (t : Tables) (k : Caller) (c : Order) → Either (KeepsAll t) (does t k c)
 keeps t k c = shapes.by_shape (KeepsAll t) t k c (keeps_deed t k c)

@@ -1,40 +1,21 @@
 -- Windows keep their numbers and titles, except by granted commands on them.
-use Rattle.std.proofs.Common.{◌≡◌, ℕ, Bool, true, false, List, [], ◌∷◌, ◌++◌, Option, Some, None, Ok, Err, refl, ap}
-use Rattle.std.proofs.Common.{◌∙◌, subst, inl, inr}
-use Rattle.std.specs.Prelude.{if◌then◌else◌, ◌==◌, ◌⊎◌}
-use Rattle.std.specs.List.{AllByRecursion}
-use Rattle.std.specs.Option.{option_map_or}
-use Rattle.acl.specs.declared.user_id.UserId.{UserId}
-use Rattle.acl.specs.declared.act.Act.{Act}
-use Rattle.acl.specs.declared.bits.Bit.TheVariants.{Execute}
+use Rattle.session_laws.proofs.Vocabulary.{◌≡◌, ℕ, Bool, true, false, List, [], ◌∷◌, ◌++◌, Option, Some, None, refl, ap}
+use Rattle.session_laws.proofs.Vocabulary.{◌∙◌, subst, inl, inr, if◌then◌else◌, ◌==◌, ◌⊎◌, AllByRecursion}
+use Rattle.session_laws.proofs.Vocabulary.{option_map_or, Act, Execute, Order, Effect, Verdict, verdicts, outcome}
+use Rattle.session_laws.proofs.Vocabulary.{Outcome, new_window, Given, commands_of, with_order, order_in, ok_of}
+use Rattle.session_laws.proofs.Vocabulary.{step_items, command_item, Caller, caller_of, line_caller, read_line, SomeOf}
+use Rattle.session_laws.proofs.Vocabulary.{may_in, IsStep, after, drawn_on, AreFit, Tables, Window, Client, window_at}
+use Rattle.session_laws.proofs.Vocabulary.{client_at, focused, is_known, EventValue, Keys, Command, Open, Output}
+use Rattle.session_laws.proofs.Vocabulary.{Closed, Draw, Reply, Entry, not, filter, some_or, some_both, equal}
+use Rattle.session_laws.proofs.Vocabulary.{row_serial, MayName, IsNamed, WindowsStayIn}
 use Rattle.acl.specs.declared.act.Object.TheVariants as object
 use Rattle.acl.specs.declared.command_name.CommandName.TheVariants as name
-use Rattle.command_lang.specs.declared.command.Command.{Command as Order}
 use Rattle.terminal_model.specs.Writing as written
-use Rattle.session_model.specs.declared.event.Effect.{Effect}
-use Rattle.session_model.specs.declared.event.Reason.TheVariants as reason
-use Rattle.session_model.specs.declared.verdict.Verdict.{Verdict}
-use Rattle.session_model.specs.Checks.{first_fault, verdicts}
-use Rattle.session_model.specs.Commands.{does}
-use Rattle.session_model.specs.Deeds.{Deed, Answer, closes}
-use Rattle.session_model.specs.Events.{outcome}
-use Rattle.session_model.specs.Outcomes.{Outcome, finished, done, reply_of}
-use Rattle.session_model.specs.Comings.{open_checks, opens, new_window, outputs}
-use Rattle.session_model.specs.Given.{Given, commands_of, with_order, order_in, ok_of}
-use Rattle.session_model.specs.Keying.{step_items, command_item}
-use Rattle.session_model.specs.Lines.{Caller, caller_of, line_caller, read_line}
-use Rattle.session_model.specs.Promises.{SomeOf}
-use Rattle.session_model.specs.Rights.{may_in}
-use Rattle.session_model.specs.Run.{IsStep, after, drawn_on}
-use Rattle.session_model.specs.Sound.{AreFit}
-use Rattle.session_model.specs.Tables.{Tables, Window, Client, window_at, client_at, focused, is_known}
-use Rattle.session_model.specs.Trace.{EventValue, Keys, Command, Open, Output, Closed, Draw, Reply, Entry}
-use Rattle.session_laws.proofs.Lists.{equal, row_serial}
+use Rattle.session_laws.proofs.Events.{gives_commands}
 use Rattle.session_laws.proofs.Doing.{Either}
 use Rattle.session_laws.proofs.SoundMoves.{differ}
 use Rattle.session_laws.proofs.Outcomes as outcomes
 use Rattle.session_laws.proofs.Settling.{focus_row, line_row}
-use Rattle.session_laws.specs.Naming.{MayName, IsNamed, WindowsStayIn}
 use Rattle.session_laws.proofs.Steps.{Did, Obeys, with_clients}
 use Rattle.session_laws.proofs.Gating.{Below, obeys_of, first_passed, then_passed}
 use Rattle.session_laws.proofs.CommandLabels.{serial, label_in, closed, opened, written_label, labels_kept}
@@ -74,83 +55,56 @@ module _ (t : Tables) (w : ℕ) where
   abbrev Same : Tables → Type 0
   Same u = label_in u.windows w ≡ label_in t.windows w
 
-  deed_of : (c : Order) (a : Answer) (d : Deed) (P : Deed → Type 0) → a ≡ Ok d → Either P a → P d
-  deed_of c (Ok e) d P is p = let same : e ≡ d = cc (is) in subst P same p
-  deed_of c (Err r) d P is p = absurd (cc (is))
-
   did_named : (e : Entry) (g : Given) → IsRowOf t g.caller → Did t e g → Same (after t e) ⊎ MayName t w g
   did_named e g row d =
-      on (deed_of g.order (does (with_clients t d.clients) g.caller g.order) d.deed
-      (KeepsLabel (with_clients t d.clients) g.caller row w g.order) d.does_it
+      on (subst (Either (KeepsLabel (with_clients t d.clients) g.caller row w g.order)) d.does_it
       (labels_kept (with_clients t d.clients) g.caller row w g.order)) where
         on : KeepsLabel (with_clients t d.clients) g.caller row w g.order d.deed → Same (after t e) ⊎ MayName t w g
         on (inl same) = inl (ap (λ ws. label_in ws w) d.tables.windows ∙ same)
         on (inr names) = inr (record { granted = did_x t e g d; acts = names })
 
-  some_named : (e : Entry) (gs : List Given) → AllByRecursion (λ (g : Given). IsRowOf t g.caller) gs
-      → SomeOf (Did t e) gs → Same (after t e) ⊎ SomeOf (MayName t w) gs
-  some_named e [] rows some = absurd some
-  some_named e (g ∷ gs) rows (inl d) = on (did_named e g rows.0 d) where
-    on : Same (after t e) ⊎ MayName t w g → Same (after t e) ⊎ SomeOf (MayName t w) (g ∷ gs)
-    on (inl same) = inl same
-    on (inr names) = inr (inl names)
-  some_named e (g ∷ gs) rows (inr later) = on (some_named e gs rows.1 later) where
-    on : Same (after t e) ⊎ SomeOf (MayName t w) gs → Same (after t e) ⊎ SomeOf (MayName t w) (g ∷ gs)
-    on (inl same) = inl same
-    on (inr names) = inr (inr names)
-
   obeys_named : (e : Entry) → AreFit t → Obeys t e → Same (after t e) ⊎ SomeOf (MayName t w) (commands_of t e.event)
   obeys_named e fit (inl rests) = inl (ap (λ ws. label_in ws w) rests.tables.windows)
-  obeys_named e fit (inr some) = some_named e (commands_of t e.event) (rows_given t e.event fit) some
+  obeys_named e fit (inr some) = some_or (λ g. IsRowOf t g.caller × Did t e g) (MayName t w) (Same (after t e))
+      (commands_of t e.event) (λ g both. did_named e g both.0 both.1)
+      (some_both (λ g. IsRowOf t g.caller) (Did t e) (commands_of t e.event) (rows_given t e.event fit) some)
 
   -- ---- other events
 
-  abbrev SameIn : Outcome → Type 0
-  SameIn o = Same o.tables
+  -- why such an event changes the label
+  abbrev Why : EventValue → Type 0
+  Why (Open user rows columns keep title) =
+      (t.next_window ≡ w) × (may_in t user Execute (object.Command name.Screen) ≡ true)
+  Why (Closed window) = window ≡ w
+  Why event = ⊥
 
-  output_same : (window : ℕ) (bytes : List ℕ) → SameIn (outcome t (Output window bytes))
-  output_same window bytes =
-      outcomes.found SameIn t (λ v. finished t [] done (outputs t v bytes)) (window_at t window) refl
-      (λ v at. written_label t v (record v { writing = v.writing ++ written.Output bytes ∷ [] }) w
+  event_named : (event : EventValue) (o : Outcome) → outcomes.Happens t event o → gives_commands event ≡ false
+      → Same o.tables ⊎ Why event
+  event_named _ _ (outcomes.keyed client bytes c at) other = absurd (cc (other))
+  event_named _ _ (outcomes.obeyed user number bytes c d known read passes is) other = absurd (cc (other))
+  event_named _ _ (outcomes.wrote window bytes v at) other = inl
+      (written_label t v (record v { writing = v.writing ++ written.Output bytes ∷ [] }) w
       (ap (window_at t) (row_serial serial t.windows window v at) ∙ at) refl refl)
-
-  windows_same : (event : EventValue) → outcomes.leaves_windows event ≡ true → SameIn (outcome t event)
-  windows_same event leaves = ap (λ ws. label_in ws w) (outcomes.same_windows t event leaves)
-
-  drawn_same : (o : Option Client) (effects : List Effect) (u : Tables) → Same u → Same (drawn_on o effects u)
-  drawn_same None effects u same = same
-  drawn_same (Some c) effects u same = same
-
-  closed_same : (window : ℕ) → (window == w) ≡ false → SameIn (outcome t (Closed window))
-  closed_same window off = outcomes.found SameIn t
-      (λ v. finished t [] done (closes (λ x. x.serial == window) reason.Detached t)) (window_at t window) refl
-      (λ v at. closed t.windows window w off)
-
-  abbrev OpensIt : UserId → Outcome → Type 0
-  OpensIt user o = SameIn o ⊎ ((t.next_window ≡ w) × (may_in t user Execute (object.Command name.Screen) ≡ true))
-
-  open_named : (user : UserId) (rows columns keep : ℕ) (title : List ℕ)
-      → OpensIt user (outcome t (Open user rows columns keep title))
-  open_named user rows columns keep title =
-      let v : Window = new_window t rows columns keep title in
-      outcomes.passed (OpensIt user) t (verdicts t (open_checks t user rows columns keep title))
-      (first_fault t (open_checks t user rows columns keep title)) (reply_of 0 v.serial v.number None)
-      (opens t user v)
-      (λ r is. inl refl)
-      (λ is. on (t.next_window == w) refl
+  event_named _ _ (outcomes.closed window v at) other = on (window == w) refl where
+    on : (b : Bool) → (window == w) ≡ b
+        → (label_in (filter (λ (x : Window). not (x.serial == window)) t.windows) w ≡ label_in t.windows w)
+        ⊎ (window ≡ w)
+    on true here = inr (equal window w here)
+    on false here = inl (closed t.windows window w here)
+  event_named _ _ (outcomes.opened user rows columns keep title passes) other =
+      on (t.next_window == w) refl
       (first_passed (may_in t user Execute (object.Command name.Screen)) _ _
-      (then_passed (is_known t user) _ _ is))) where
+      (then_passed (is_known t user) _ _ passes)) where
         on : (b : Bool) → (t.next_window == w) ≡ b → may_in t user Execute (object.Command name.Screen) ≡ true
             → (label_in (t.windows ++ new_window t rows columns keep title ∷ []) w ≡ label_in t.windows w) ⊎
             ((t.next_window ≡ w) × (may_in t user Execute (object.Command name.Screen) ≡ true))
         on true here x = inr (equal t.next_window w here, x)
         on false here x = inl (opened t.windows (new_window t rows columns keep title) w here)
+  event_named _ _ h other = inl refl
 
-  closed_named : (window : ℕ) → SameIn (outcome t (Closed window)) ⊎ (window ≡ w)
-  closed_named window = on (window == w) refl where
-    on : (b : Bool) → (window == w) ≡ b → SameIn (outcome t (Closed window)) ⊎ (window ≡ w)
-    on true here = inr (equal window w here)
-    on false here = inl (closed_same window here)
+  drawn_same : (o : Option Client) (effects : List Effect) (u : Tables) → Same u → Same (drawn_on o effects u)
+  drawn_same None effects u same = same
+  drawn_same (Some c) effects u same = same
 
   -- ---- each step
 
@@ -165,14 +119,11 @@ module _ (t : Tables) (w : ℕ) where
       let e : Entry = record
       { event = Command user number bytes; reply = reply; acts = acts; verdicts = vs; effects = effects } in
       obeys_named e fit (obeys_of laws t e step refl)
-  stay_by laws fit (Output window bytes) reply acts vs effects step = inl (output_same window bytes)
   stay_by laws fit (Draw client) reply acts vs effects step = inl
       (drawn_same (client_at (outcome t (Draw client)).tables client) effects (outcome t (Draw client)).tables
-      (windows_same (Draw client) refl))
-  stay_by laws fit (Open user rows columns keep title) reply acts vs effects step = open_named user rows columns keep
-      title
-  stay_by laws fit (Closed window) reply acts vs effects step = closed_named window
-  stay_by laws fit event reply acts vs effects step = inl (windows_same event refl)
+      (ap (λ ws. label_in ws w) (outcomes.same_windows t (Draw client) refl)))
+  stay_by laws fit event reply acts vs effects step =
+      event_named event (outcome t event) (outcomes.happens t event) refl
 
 pub windows_stay : Below → (t : Tables) (e : Entry) → AreFit t → IsStep t e → WindowsStayIn t e
 windows_stay laws t e fit step w = stay_by t w laws fit e.event e.reply e.acts e.verdicts e.effects step

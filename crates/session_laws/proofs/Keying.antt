@@ -1,40 +1,20 @@
 -- Keys do to cut tables what they do to these; and so does each event, but for output that is cut.
-use Rattle.std.proofs.Common.{◌≡◌, ℕ, Bool, true, false, not, List, [], ◌∷◌, ◌++◌, Option, Some, None, Ok, Err, Result}
-use Rattle.std.proofs.Common.{refl, ap, sym, ◌∙◌, length, take}
-use Rattle.std.specs.Prelude.{◌==◌}
-use Rattle.std.specs.Option.{option_map}
-use Rattle.acl.specs.declared.user_id.UserId.{UserId}
-use Rattle.command_lang.specs.declared.command.Command.{Command as Order}
-use Rattle.command_lang.specs.declared.fault.ParseFault.{ParseFault}
-use Rattle.keys.specs.Grammar.{Item, typed, bound, line}
-use Rattle.terminal_model.specs.Reading.{reads}
-use Rattle.terminal_model.specs.Writing.{Writing}
+use Rattle.session_laws.proofs.Vocabulary.{◌≡◌, ℕ, Bool, true, false, not, List, [], ◌∷◌, ◌++◌, Option, Some, None, Ok}
+use Rattle.session_laws.proofs.Vocabulary.{Err, Result, refl, ap, sym, ◌∙◌, length, take, ◌==◌, option_map, UserId}
+use Rattle.session_laws.proofs.Vocabulary.{Order, ParseFault, Item, bound, line, reads, Writing, Say, StatusMessage}
+use Rattle.session_laws.proofs.Vocabulary.{Refusal, Line, Verdict, EventValue, Attach, Detach, Keys, Command, Open}
+use Rattle.session_laws.proofs.Vocabulary.{Output, Closed, Draw, Tables, Window, Client, client_at, with_client}
+use Rattle.session_laws.proofs.Vocabulary.{with_window, focused_window, terminal_of, text_of, read_line, Caller}
+use Rattle.session_laws.proofs.Vocabulary.{caller_of, verdicts, first_fault, typing_checks, Deed, Answer, changing}
+use Rattle.session_laws.proofs.Vocabulary.{hearing, input_of, ruling, items_behind, taken, typed_bytes, command_item}
+use Rattle.session_laws.proofs.Vocabulary.{Outcome, reply_of, done, finished, where_passed, open_checks, new_window}
+use Rattle.session_laws.proofs.Vocabulary.{opens, outputs, told, says, says_why, input_in, types, typing_verdicts}
+use Rattle.session_laws.proofs.Vocabulary.{message_of, with_listed, keyed, Ordered, by_ruling, by_line, ordered, unsaid}
+use Rattle.session_laws.proofs.Vocabulary.{reading, keys_outcome, outcome, row_serial, is_hidden}
 use Rattle.terminal_model.specs.Writing as written
-use Rattle.session_model.specs.declared.event.Effect.TheVariants.{Say}
 use Rattle.session_model.specs.declared.event.Reason.TheVariants as reason
-use Rattle.session_model.specs.declared.message.StatusMessage.{StatusMessage}
 use Rattle.session_model.specs.declared.message.StatusMessage.TheVariants as message
-use Rattle.session_model.specs.declared.refusal.Refusal.{Refusal}
-use Rattle.session_model.specs.declared.refusal.Refusal.TheVariants.{Line}
-use Rattle.session_model.specs.declared.verdict.Verdict.{Verdict}
-use Rattle.session_model.specs.Trace.{EventValue, Attach, Detach, Keys, Command, Open, Output, Closed, Draw}
-use Rattle.session_model.specs.Tables.{Tables, Window, Client, client_at, with_client, with_window, focused_window}
-use Rattle.session_model.specs.Terminals.{terminal_of}
-use Rattle.session_model.specs.Texts.{text_of}
-use Rattle.session_model.specs.Lines.{read_line, Caller, caller_of}
-use Rattle.session_model.specs.Checks.{verdicts, first_fault, typing_checks}
-use Rattle.session_model.specs.Deeds.{Deed, Answer, changing, hearing, input_of}
-use Rattle.session_model.specs.Commands.{ruling}
-use Rattle.session_model.specs.Keying.{items_behind, taken, typed_bytes, command_item}
-use Rattle.session_model.specs.Outcomes.{Outcome, reply_of, done, finished, where_passed}
-use Rattle.session_model.specs.Comings.{open_checks, new_window, opens, outputs}
-use Rattle.session_model.specs.Answering.{told, says, says_why, input_in, types, typing_verdicts, message_of}
-use Rattle.session_model.specs.Answering.{with_listed, keyed, Ordered, by_ruling, by_line, ordered, unsaid, reading}
-use Rattle.session_model.specs.Answering.{keys_outcome}
-use Rattle.session_model.specs.Events.{outcome}
-use Rattle.session_laws.proofs.Lists.{row_serial}
 use Rattle.session_laws.proofs.Outcomes.{undrawn, Change, Changes, changes}
-use Rattle.session_laws.specs.Hidden.{is_hidden}
 use Rattle.session_laws.proofs.Cutting.{cut_window, cut_client, cut, cut_deed, cut_caller, cut_writing, client_cut}
 use Rattle.session_laws.proofs.Cutting.{with_client_cut, with_window_cut}
 use Rattle.session_laws.proofs.Finding.{focus_cut}
@@ -166,11 +146,9 @@ module _ (shown : ℕ → Bool) (seeing : UserId → Bool) where
 
   ordered_cut : (t : Tables) (c : Client) (item : Option Item)
       → ordered (less t) (g c) item ≡ cut_ordered (ordered t c item)
-  ordered_cut t c None = refl
-  ordered_cut t c (Some (typed b)) = refl
   ordered_cut t c (Some (bound order)) = line_cut t c (Ok order)
-  ordered_cut t c (Some (line [])) = refl
   ordered_cut t c (Some (line (b ∷ bytes))) = line_cut t c (read_line (b ∷ bytes))
+  ordered_cut t c item = refl
 
   -- ---- a step of keys
 

@@ -1,33 +1,14 @@
 -- The rows of a guest who becomes known late, proved by computing.
+use Rattle.session_laws.proofs.Vocabulary.{◌≡◌, true, false, List, [], ◌∷◌, refl, ap, sym, subst, inl, inr}
+use Rattle.session_laws.proofs.Vocabulary.{AllByRecursion, is_utf8, chars, digits, char_width, First, Second, Bit, Read}
+use Rattle.session_laws.proofs.Vocabulary.{Write, Execute, UserId, command_named, single, double, words_faults, unless}
+use Rattle.session_laws.proofs.Vocabulary.{refused_if, given, codes, ◌||◌, same_user-refl, Tables, is_known, may_in}
+use Rattle.session_laws.proofs.Vocabulary.{outcome, Outcome, Open, Entry, IsStep, after, contradicts, AreGuests}
+use Rattle.session_laws.proofs.Vocabulary.{may_open, circle, AreShutOut, GrantsAreTheirs, came, ann, console, guest}
 use lib.Utf8.{encode}
-use Rattle.std.proofs.Common.{◌≡◌, true, false, List, [], ◌∷◌, refl, ap, sym, subst, inl, inr}
-use Rattle.std.specs.List.{AllByRecursion}
-use Rattle.std.specs.Str.{is_utf8, chars}
-use Rattle.std.specs.Fmt.{digits}
-use Rattle.unicode_width.specs.Width.{char_width}
-use Rattle.acl.specs.declared.edition.Edition.TheVariants.{First, Second}
-use Rattle.acl.specs.declared.bits.Bit.{Bit}
-use Rattle.acl.specs.declared.bits.Bit.TheVariants.{Read, Write, Execute}
-use Rattle.acl.specs.declared.user_id.UserId.{UserId}
-use Rattle.command_lang.specs.Names.{command_named}
-use Rattle.strings.specs.Lines.{single, double, parts, line}
-use Rattle.command_lang.specs.Table.{words_faults}
-use Rattle.session_model.specs.Deeds.{unless, refused_if, given}
-use Rattle.std.specs.Prelude.{codes, ◌||◌}
+use Rattle.strings.specs.Lines.{parts, line}
 use Rattle.acl.specs.declared.act.Object.TheVariants as object
-use Rattle.acl.proofs.StandsForLemmas.{same_user-refl}
-use Rattle.session_model.specs.Tables.{Tables, is_known}
-use Rattle.session_model.specs.Rights.{may_in}
-use Rattle.session_model.specs.Events.{outcome}
-use Rattle.session_model.specs.Outcomes.{Outcome}
-use Rattle.session_model.specs.Trace.{Open, Entry}
-use Rattle.session_model.specs.Run.{IsStep, after}
-use Rattle.session_laws.proofs.Lists.{contradicts}
-use Rattle.session_laws.specs.Contained.{AreGuests}
-use Rattle.session_laws.specs.Confined.{may_open, circle, AreShutOut, GrantsAreTheirs, came}
-use Rattle.session_laws.specs.WorkedPolicies.{ann, bob, closes}
-use Rattle.session_laws.specs.WorkedOperators.{console}
-use Rattle.session_laws.specs.WorkedConsoles.{guest}
+use Rattle.session_laws.specs.WorkedPolicies.{bob, closes}
 use Rattle.session_laws.specs.WorkedLateComers as rows
 use Rattle.session_laws.proofs.WorkedKnowing.{named}
 use Rattle.session_laws.proofs.WorkedShutting.{None5, guests, among, IsOut, Shuts, shut_out}

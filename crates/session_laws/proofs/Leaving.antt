@@ -1,15 +1,8 @@
 -- If no client's page changes, no user leaves a window.
-use Rattle.std.proofs.Common.{◌≡◌, ℕ, Bool, true, false, List, [], ◌∷◌, ◌++◌, Option, Some, None, refl, ap, sym, ◌∙◌}
-use Rattle.std.proofs.Common.{append_assoc}
-use Rattle.std.specs.Prelude.{if◌then◌else◌, ◌==◌, ◌&&◌, ◌||◌, nat_eq}
-use Rattle.std.specs.List.{list_any}
-use Rattle.std.specs.Cmp.Lexicographic.{pointwise}
-use Rattle.std.proofs.lemmas.Bool.Decides.{nat_tests}
-use Rattle.std.proofs.Common.{arith}
-use Rattle.acl.specs.declared.act.Act.{Act}
-use Rattle.acl.specs.declared.act.Act.TheVariants.{Left}
-use Rattle.session_model.specs.Outcomes.{left_acts_of, left_acts}
-use Rattle.session_model.specs.Tables.{Client, focused, shows, is_window, is_in_focus}
+use Rattle.session_laws.proofs.Vocabulary.{◌≡◌, ℕ, Bool, true, false, List, [], ◌∷◌, ◌++◌, Option, Some, None, refl, ap}
+use Rattle.session_laws.proofs.Vocabulary.{sym, ◌∙◌, append_assoc, if◌then◌else◌, ◌==◌, ◌&&◌, ◌||◌, nat_eq, list_any}
+use Rattle.session_laws.proofs.Vocabulary.{pointwise, nat_tests, arith, Act, Left, left_acts_of, left_acts, Client}
+use Rattle.session_laws.proofs.Vocabulary.{focused, shows, is_window, is_in_focus}
 
 same_bytes : (xs : List ℕ) → pointwise nat_eq xs xs ≡ true
 same_bytes [] = refl

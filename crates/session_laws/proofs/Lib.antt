@@ -1,3 +1,4 @@
+pub mod Vocabulary
 pub mod Lists
 pub mod Quiet
 pub mod Leaving
@@ -51,10 +52,8 @@ pub mod Masking
 pub mod Giving
 pub mod Holding
 pub mod Parting
-pub mod Harmless
 pub mod Focusing
 pub mod Callers
-pub mod KeptLocks
 pub mod CommandLabels
 pub mod KeptLabels
 pub mod Pages
@@ -66,6 +65,7 @@ pub mod OthersActs
 pub mod OthersCommands
 pub mod OthersEvents
 pub mod GuestsKeeping
+pub mod KeptLocks
 pub mod Cutting
 pub mod Finding
 pub mod Checking
@@ -83,15 +83,11 @@ pub mod Spectating
 pub mod GuestsGranting
 pub mod Spectators
 pub mod OthersOfSpectators
-pub mod EntriesComputed
-pub mod LockingComputed
-pub mod OpeningComputed
 pub mod WorkedDrawn
 pub mod PoliciesComputed
 pub mod TrapsComputed
 pub mod WorkedKnowing
 pub mod WorkedShutting
-pub mod GuestsComputed
 pub mod HidingComputed
 pub mod WatchingComputed
 pub mod OperatorsComputed

@@ -1,21 +1,11 @@
 -- Which acts a list command has.
-use Rattle.std.proofs.Common.{◌≡◌, Bool, true, false, List, [], ◌∷◌, ◌++◌, Option, Some, None, refl}
-use Rattle.std.specs.Prelude.{if◌then◌else◌}
-use Rattle.std.specs.List.{AllByRecursion}
-use Rattle.acl.specs.declared.user_id.UserId.{UserId}
-use Rattle.acl.specs.declared.bits.Bit.{Bit}
-use Rattle.acl.specs.declared.bits.BitChange.{BitChange}
-use Rattle.acl.specs.declared.act.Act.{Act}
+use Rattle.session_laws.proofs.Vocabulary.{◌≡◌, Bool, true, false, List, [], ◌∷◌, ◌++◌, Option, Some, None, refl}
+use Rattle.session_laws.proofs.Vocabulary.{if◌then◌else◌, AllByRecursion, UserId, Bit, BitChange, Act, Object}
+use Rattle.session_laws.proofs.Vocabulary.{MaskEntry, MaskScope, NewLeader, among, change_acts, name_acts, user_acts}
+use Rattle.session_laws.proofs.Vocabulary.{sets, sets_on, with_name, add_acts, known_acts, new_acts, names_sets}
+use Rattle.session_laws.proofs.Vocabulary.{name_sets, added, group_acts, mask_acts, scope_acts, all_append}
 use Rattle.acl.specs.declared.act.Act.TheVariants as act
-use Rattle.acl.specs.declared.act.Object.{Object}
-use Rattle.acl.specs.declared.entries.MaskEntry.{MaskEntry}
-use Rattle.acl.specs.declared.entries.MaskScope.{MaskScope}
 use Rattle.acl.specs.declared.entries.MaskScope.TheVariants as scope
-use Rattle.acl.specs.declared.entries.NewLeader.{NewLeader}
-use Rattle.acl.specs.History.{among}
-use Rattle.acl.specs.Commands.{change_acts, name_acts, user_acts, sets, sets_on, with_name, add_acts, known_acts}
-use Rattle.acl.specs.Commands.{new_acts, names_sets, name_sets, added, group_acts, mask_acts, scope_acts}
-use Rattle.session_laws.proofs.Lists.{all_append}
 
 -- an act on access lists
 abbrev pub is_listing : Act → Bool
@@ -91,9 +81,8 @@ group_list None leader = tt
 group_list (Some u) leader = (refl, tt)
 
 scope_list : (by : UserId) (s : MaskScope) (bit : Bit) (value : Bool) → AllListing (scope_acts by s bit value)
-scope_list by (scope.Preset kind) bit value = (refl, tt)
 scope_list by (scope.User None) bit value = tt
-scope_list by (scope.User (Some u)) bit value = (refl, tt)
+scope_list by s bit value = (refl, tt)
 
 pub mask_list : (by : UserId) (entries : List MaskEntry) → AllListing (mask_acts by entries)
 mask_list by [] = tt

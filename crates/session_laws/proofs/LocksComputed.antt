@@ -1,9 +1,5 @@
 -- The rows of locks, proved by computing.
-use Rattle.std.proofs.Common.{refl}
-use Rattle.std.specs.Fmt.{digits}
-use Rattle.keys.specs.Grammar.{items_from}
-use Rattle.command_lang.specs.Names.{command_named}
-use Rattle.session_model.specs.Deeds.{unless, refused_if, given}
+use Rattle.session_laws.proofs.Vocabulary.{refl, digits, items_from, command_named, unless, refused_if, given}
 use Rattle.session_laws.specs.WorkedLocks as rows
 
 pub holds : rows.Holds

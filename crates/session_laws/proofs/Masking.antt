@@ -1,27 +1,14 @@
 -- A new window gives each user what its opener's masks say.
-use Rattle.std.proofs.Common.{◌≡◌, ℕ, Bool, true, false, List, [], ◌∷◌, Some, None, Ok, Err, refl, ap, sym, ◌∙◌}
-use Rattle.std.specs.Prelude.{if◌then◌else◌, ◌==◌, ◌||◌, unwrap_or, is_ok}
-use Rattle.std.specs.List.{AllByRecursion, list_any}
-use Rattle.acl.specs.declared.user_id.UserId.{UserId}
-use Rattle.acl.specs.declared.bits.Bit.{Bit}
-use Rattle.acl.specs.declared.act.Act.{Act}
+use Rattle.session_laws.proofs.Vocabulary.{◌≡◌, ℕ, Bool, true, false, List, [], ◌∷◌, Some, None, Ok, Err, refl, ap, sym}
+use Rattle.session_laws.proofs.Vocabulary.{◌∙◌, if◌then◌else◌, ◌==◌, ◌||◌, unwrap_or, is_ok, AllByRecursion, list_any}
+use Rattle.session_laws.proofs.Vocabulary.{UserId, Bit, Act, same_user, followed_by, mask, has, decided, opening}
+use Rattle.session_laws.proofs.Vocabulary.{Effect, Verdict, Tables, Window, Client, first_fault, verdicts, outcome}
+use Rattle.session_laws.proofs.Vocabulary.{Outcome, left_acts, reply_of, open_checks, opens, new_window, IsStep}
+use Rattle.session_laws.proofs.Vocabulary.{EventValue, Open, Reply, Entry, itself, opens_window, IsGivenByMasks}
 use Rattle.acl.specs.declared.act.Act.TheVariants as act
 use Rattle.acl.specs.declared.act.Object.TheVariants as object
-use Rattle.acl.specs.Same.{same_user}
-use Rattle.acl.specs.History.{followed_by, is_known, mask, has, decided, opening}
-use Rattle.session_model.specs.declared.event.Effect.{Effect}
-use Rattle.session_model.specs.declared.verdict.Verdict.{Verdict}
-use Rattle.session_model.specs.Tables.{Tables, Window, Client}
-use Rattle.session_model.specs.Checks.{first_fault, verdicts}
-use Rattle.session_model.specs.Events.{outcome}
-use Rattle.session_model.specs.Outcomes.{Outcome, left_acts, reply_of}
-use Rattle.session_model.specs.Comings.{open_checks, opens, new_window}
-use Rattle.session_model.specs.Run.{IsStep}
-use Rattle.session_model.specs.Trace.{EventValue, Open, Reply, Entry}
-use Rattle.session_laws.proofs.Lists.{itself}
+use Rattle.acl.specs.History.{is_known}
 use Rattle.session_laws.proofs.Outcomes as outcomes
-use Rattle.session_laws.specs.Changing.{opens_window}
-use Rattle.session_laws.specs.Opening.{IsGivenByMasks}
 use Rattle.session_laws.proofs.Listing.{is_listing}
 use Rattle.session_laws.proofs.Histories.{same_has}
 use Rattle.session_laws.proofs.Events.{all_left}

@@ -1,27 +1,12 @@
 -- Which acts of commands leave windows and clients, and how a step may move them: some windows
 -- close, and some clients go.
-use Rattle.std.proofs.Common.{◌≡◌, ℕ, ◌+◌, ◌≤◌, Bool, true, false, not, List, [], ◌∷◌, ◌++◌, Option, Some, None, refl}
-use Rattle.std.proofs.Common.{ap, sym, ◌∙◌, map, filter, length, arith}
-use Rattle.std.specs.Prelude.{if◌then◌else◌, ◌==◌}
-use Rattle.std.specs.List.{AllByRecursion}
-use Rattle.acl.specs.declared.user_id.UserId.{UserId}
-use Rattle.acl.specs.declared.bits.Bit.{Bit}
-use Rattle.acl.specs.declared.bits.BitChange.{BitChange}
-use Rattle.acl.specs.declared.act.Act.{Act}
+use Rattle.session_laws.proofs.Vocabulary.{◌≡◌, ℕ, ◌+◌, ◌≤◌, Bool, true, false, not, List, [], ◌∷◌, ◌++◌, Option, Some}
+use Rattle.session_laws.proofs.Vocabulary.{refl, ap, sym, ◌∙◌, map, filter, length, arith, if◌then◌else◌, ◌==◌}
+use Rattle.session_laws.proofs.Vocabulary.{AllByRecursion, UserId, BitChange, Act, Object, MaskEntry, NewLeader}
+use Rattle.session_laws.proofs.Vocabulary.{change_acts, add_acts, group_acts, mask_acts, Tables, Client, row_of}
+use Rattle.session_laws.proofs.Vocabulary.{with_row, Deed, acting, listing, NumbersDiffer, filter_all, all_weaken}
 use Rattle.acl.specs.declared.act.Act.TheVariants as act
-use Rattle.acl.specs.declared.act.Object.{Object}
-use Rattle.acl.specs.declared.entries.MaskEntry.{MaskEntry}
-use Rattle.acl.specs.declared.entries.MaskScope.{MaskScope}
-use Rattle.acl.specs.declared.entries.MaskScope.TheVariants as scope
-use Rattle.acl.specs.declared.entries.NewLeader.{NewLeader}
-use Rattle.acl.specs.History.{among}
-use Rattle.acl.specs.Commands.{change_acts, name_acts, user_acts, sets, sets_on, with_name, add_acts, known_acts}
-use Rattle.acl.specs.Commands.{new_acts, names_sets, name_sets, added, group_acts, mask_acts, scope_acts}
-use Rattle.session_model.specs.Tables.{Tables, Client, row_of, with_row}
-use Rattle.session_model.specs.Deeds.{Deed, acting, listing}
-use Rattle.session_model.specs.Sound.{NumbersDiffer}
 use Rattle.session_laws.proofs.Listing.{is_listing, AllListing, change_list, add_list, group_list, mask_list}
-use Rattle.session_laws.proofs.Lists.{filter_all, all_weaken}
 use Rattle.session_laws.proofs.DifferentNumbers.{serial_of, Differ}
 
 -- ---- acts aside: these say nothing of which windows and clients there are

@@ -1,42 +1,22 @@
 -- Acts of other users that leave a lock to its holder, and acts that give no lock.
-use Rattle.std.proofs.Common.{◌≡◌, ◌<◌, ℕ, Bool, true, false, not, List, [], ◌∷◌, ◌++◌, Option, Some, None, refl, ap}
-use Rattle.std.proofs.Common.{sym, ◌∙◌, subst, map, arith, inl, inr}
-use Rattle.std.specs.Prelude.{if◌then◌else◌, ◌==◌, ◌&&◌, ◌⊎◌}
-use Rattle.std.specs.List.{AllByRecursion}
-use Rattle.std.proofs.lemmas.Bool.Decides.{nat_tests}
-use Rattle.acl.specs.declared.user_id.UserId.{UserId}
-use Rattle.acl.specs.declared.bits.Bit.{Bit}
-use Rattle.acl.specs.declared.act.PresetKind.{PresetKind}
-use Rattle.acl.specs.declared.entries.MaskEntry.{MaskEntry}
-use Rattle.acl.specs.declared.entries.MaskScope.{MaskScope}
+use Rattle.session_laws.proofs.Vocabulary.{◌≡◌, ◌<◌, ℕ, Bool, true, false, not, List, [], ◌∷◌, ◌++◌, Option, Some, None}
+use Rattle.session_laws.proofs.Vocabulary.{refl, ap, sym, ◌∙◌, subst, map, arith, inl, inr, if◌then◌else◌, ◌==◌, ◌&&◌}
+use Rattle.session_laws.proofs.Vocabulary.{◌⊎◌, AllByRecursion, nat_tests, UserId, Bit, PresetKind, MaskEntry}
+use Rattle.session_laws.proofs.Vocabulary.{MaskScope, mask_acts, scope_acts, Act, History, followed_by, same_user}
+use Rattle.session_laws.proofs.Vocabulary.{holder, kept, releases, or_else, clients_of, frees, Order, IsOn, right}
+use Rattle.session_laws.proofs.Vocabulary.{unlocked, first_fault, window_checks, where_needed, may_in, holder_in, Needs}
+use Rattle.session_laws.proofs.Vocabulary.{option_map, Write, Execute, stops_nobody_but, Rises, AreFit, Tables, Window}
+use Rattle.session_laws.proofs.Vocabulary.{Client, contradicts, equal, all_weaken, all_append, all_map}
 use Rattle.acl.specs.declared.entries.MaskScope.TheVariants as scope
-use Rattle.acl.specs.Commands.{mask_acts, scope_acts}
-use Rattle.acl.specs.declared.act.Act.{Act}
 use Rattle.acl.specs.declared.act.Act.TheVariants as act
-use Rattle.acl.specs.History.{History, followed_by}
-use Rattle.acl.specs.Same.{same_user}
-use Rattle.writelock.specs.Holding.{holder, given, kept, releases, or_else, clients_of}
-use Rattle.writelock.specs.LockTable.{frees}
-use Rattle.command_lang.specs.declared.command.Command.{Command as Order}
+use Rattle.writelock.specs.Holding.{given}
 use Rattle.command_lang.specs.declared.command.Command.TheVariants as command
-use Rattle.session_model.specs.Promises.{IsOn}
-use Rattle.session_model.specs.declared.check.Check.TheVariants.{Right as right, Unlocked as unlocked}
-use Rattle.session_model.specs.Checks.{first_fault, window_checks, where_needed}
-use Rattle.session_model.specs.Rights.{may_in, holder_in}
-use Rattle.command_lang.specs.declared.needs.Needs.{Needs}
-use Rattle.std.specs.Option.{option_map}
 use Rattle.acl.specs.declared.act.Object.TheVariants as object
-use Rattle.acl.specs.declared.bits.Bit.TheVariants.{Write, Execute}
-use Rattle.writelock.specs.LockTable.{stops_nobody_but}
 use Rattle.session_laws.proofs.Gating.{first_passed, then_passed}
-use Rattle.session_model.specs.Sound.{Rises, AreFit}
-use Rattle.session_model.specs.Tables.{Tables, Window, Client}
-use Rattle.session_laws.proofs.Lists.{contradicts, equal, all_weaken, all_append, all_map}
 use Rattle.session_laws.proofs.Listing.{is_listing}
-use Rattle.session_laws.proofs.Harmless.{NoneOf}
 use Rattle.session_laws.proofs.Callers.{Own, above, all_reverse, all_mapped}
 use Rattle.session_laws.proofs.GuestsLeaving.{LeftBy}
-use Rattle.session_laws.proofs.HolderActs.{IsCalm}
+use Rattle.session_laws.proofs.HolderActs.{NoneOf, IsCalm}
 
 -- ---- lists
 
@@ -180,14 +160,7 @@ module _ (t : Tables) (w : ℕ) (x : UserId) where
   listing_calm (act.Grouped u leader) is none = none
   listing_calm (act.Masked by u bit value) is none = none
   listing_calm (act.Preset kind bit value) is none = none
-  listing_calm (act.Mode by v mode) is none = absurd (cc (is))
-  listing_calm (act.Left v y) is none = absurd (cc (is))
-  listing_calm (act.Parted client) is none = absurd (cc (is))
-  listing_calm (act.Attached client user) is none = absurd (cc (is))
-  listing_calm (act.Opened by v) is none = absurd (cc (is))
-  listing_calm (act.Closed v) is none = absurd (cc (is))
-  listing_calm (act.Entered user v) is none = absurd (cc (is))
-  listing_calm (act.Default mode) is none = absurd (cc (is))
+  listing_calm a is none = absurd (cc (is))
 
 module _ (t : Tables) (fit : AreFit t) (w : ℕ) (x : UserId) where
   none_of : (s : ℕ) → AllByRecursion (λ (c : Client). (c.serial == s) ≡ true → same_user c.user x ≡ false) t.clients

@@ -1,38 +1,16 @@
 -- What a command of another user does to a lock.
-use Rattle.std.proofs.Common.{◌≡◌, ℕ, Bool, true, false, not, List, [], ◌∷◌, ◌++◌, Option, Some, None, refl, ap, sym}
-use Rattle.std.proofs.Common.{◌∙◌, subst, map, filter}
-use Rattle.std.specs.Prelude.{◌==◌}
-use Rattle.std.specs.List.{AllByRecursion}
-use Rattle.std.specs.Option.{option_and_then}
-use Rattle.acl.specs.declared.user_id.UserId.{UserId}
-use Rattle.acl.specs.declared.entries.MaskEntry.{MaskEntry}
-use Rattle.acl.specs.Commands.{mask_acts}
-use Rattle.acl.specs.declared.act.Act.{Act}
+use Rattle.session_laws.proofs.Vocabulary.{◌≡◌, ℕ, Bool, true, false, not, List, [], ◌∷◌, ◌++◌, Option, Some, None}
+use Rattle.session_laws.proofs.Vocabulary.{refl, ap, sym, ◌∙◌, subst, map, filter, ◌==◌, AllByRecursion}
+use Rattle.session_laws.proofs.Vocabulary.{option_and_then, UserId, MaskEntry, mask_acts, Act, LockMode, Off, Auto, On}
+use Rattle.session_laws.proofs.Vocabulary.{named_by, same_user, same_user-true, frees, Order, needs, of_lock}
+use Rattle.session_laws.proofs.Vocabulary.{Arrangement, StatusMessage, first_fault, checks_by, does, caller_client}
+use Rattle.session_laws.proofs.Vocabulary.{mask_entries, Deed, removes, is_of, entering, hearing, without_windows}
+use Rattle.session_laws.proofs.Vocabulary.{names_of, new_leader_of, left_acts, Given, IsOn, unread, holder_in, AreFit}
+use Rattle.session_laws.proofs.Vocabulary.{Tables, Window, Client, client_at, with_client, with_layout, focused}
+use Rattle.session_laws.proofs.Vocabulary.{known_users, Entry, not_so, contradicts, equal, all_weaken, all_append}
+use Rattle.session_laws.proofs.Vocabulary.{all_map, all_of, all_passed, FreesBy}
 use Rattle.acl.specs.declared.act.Act.TheVariants as act
-use Rattle.acl.specs.declared.act.LockMode.{LockMode}
-use Rattle.acl.specs.declared.act.LockMode.TheVariants.{Off, Auto, On}
-use Rattle.acl.specs.Names.{named_by}
-use Rattle.acl.specs.Same.{same_user}
-use Rattle.acl.proofs.StandsForLemmas.{same_user-true}
-use Rattle.writelock.specs.LockTable.{frees}
-use Rattle.command_lang.specs.declared.command.Command.{Command as Order}
 use Rattle.command_lang.specs.declared.command.Command.TheVariants as command
-use Rattle.command_lang.specs.Needs.{needs, of_lock}
-use Rattle.regions.specs.Layouts.{Arrangement}
-use Rattle.session_model.specs.declared.message.StatusMessage.{StatusMessage}
-use Rattle.session_model.specs.Checks.{first_fault, checks_by}
-use Rattle.session_model.specs.Commands.{does, caller_client, mask_entries}
-use Rattle.session_model.specs.Deeds.{Deed, removes, is_of, entering, hearing, without_windows}
-use Rattle.session_model.specs.Naming.{names_of, new_leader_of}
-use Rattle.session_model.specs.Outcomes.{left_acts}
-use Rattle.session_model.specs.Given.{Given}
-use Rattle.session_model.specs.Promises.{IsOn, unread}
-use Rattle.session_model.specs.Rights.{holder_in}
-use Rattle.session_model.specs.Sound.{AreFit}
-use Rattle.session_model.specs.Tables.{Tables, Window, Client, client_at, with_client, with_layout, focused}
-use Rattle.session_model.specs.Tables.{known_users}
-use Rattle.session_model.specs.Trace.{Entry}
-use Rattle.session_laws.proofs.Lists.{contradicts, equal, all_weaken, all_append, all_map, all_of, all_passed}
 use Rattle.session_laws.proofs.Doing.{Either, caller_is}
 use Rattle.session_laws.proofs.Leaving.{none_left}
 use Rattle.session_laws.proofs.Shapes as shapes
@@ -42,7 +20,6 @@ use Rattle.session_laws.proofs.CommandActs.{IsCaller}
 use Rattle.session_laws.proofs.Steps.{with_clients}
 use Rattle.session_laws.proofs.Events.{all_left}
 use Rattle.session_laws.proofs.Callers.{Own, IsOf, unique, all_mapped, own_read}
-use Rattle.session_laws.specs.Keeping.{FreesBy}
 use Rattle.session_laws.proofs.GuestsLeaving.{Leaves, left_where, parted, turned, shut}
 use Rattle.session_laws.proofs.HolderActs.{moves, IsCalm, KeepsWindow}
 use Rattle.session_laws.proofs.OthersActs.{split_all, both_all, Alone, alone, takes_rights, mask_all, Silent}
@@ -183,30 +160,25 @@ module _ (t : Tables) (fit : AreFit t) (w : ℕ) (x : UserId) (held : holder_in 
     -- ---- writelock
 
     apart : same_user x g.caller.user ≡ false
-    apart = sides (same_user x g.caller.user) refl where
-      sides : (b : Bool) → same_user x g.caller.user ≡ b → b ≡ false
-      sides false is = refl
-      sides true is = let e : x ≡ g.caller.user = same_user-true x g.caller.user is in contradicts
-          (same_user x g.caller.user) is
-          (ap (λ y. same_user y g.caller.user) e ∙ ap (same_user g.caller.user) (sym e) ∙ other)
+    apart = not_so (same_user x g.caller.user)
+        (λ is. let e : x ≡ g.caller.user = same_user-true x g.caller.user is in contradicts
+        (same_user x g.caller.user) is
+        (ap (λ y. same_user y g.caller.user) e ∙ ap (same_user g.caller.user) (sym e) ∙ other))
 
     not_here : (mode : LockMode) → g.order ≡ command.Writelock mode → (n : ℕ) → IsOn g.caller.window n
         → (n == w) ≡ false
-    not_here mode at n on = test (n == w) refl where
-      passes : first_fault t (checks_by t g.caller (of_lock mode)) ≡ None
-      passes = subst (λ o. first_fault t (checks_by t g.caller (needs o)) ≡ None) at passed
+    not_here mode at n on = not_so (n == w)
+        (λ is. locked mode passes (subst (IsOn g.caller.window) (equal n w is) on)) where
+          passes : first_fault t (checks_by t g.caller (of_lock mode)) ≡ None
+          passes = subst (λ o. first_fault t (checks_by t g.caller (needs o)) ≡ None) at passed
 
-      locked : (m : LockMode) → first_fault t (checks_by t g.caller (of_lock m)) ≡ None → IsOn g.caller.window w → ⊥
-      locked Off is here = contradicts (same_user x g.caller.user)
-          (lock_free t w x g.caller.user held g.caller.window here (of_lock Off) refl false refl is) apart
-      locked Auto is here = contradicts (same_user x g.caller.user)
-          (lock_free t w x g.caller.user held g.caller.window here (of_lock Auto) refl true refl is) apart
-      locked On is here = contradicts (same_user x g.caller.user)
-          (lock_free t w x g.caller.user held g.caller.window here (of_lock On) refl true refl is) apart
-
-      test : (b : Bool) → (n == w) ≡ b → b ≡ false
-      test false is = refl
-      test true is = absurd (locked mode passes (subst (IsOn g.caller.window) (equal n w is) on))
+          locked : (m : LockMode) → first_fault t (checks_by t g.caller (of_lock m)) ≡ None → IsOn g.caller.window w → ⊥
+          locked Off is here = contradicts (same_user x g.caller.user)
+              (lock_free t w x g.caller.user held g.caller.window here (of_lock Off) refl false refl is) apart
+          locked Auto is here = contradicts (same_user x g.caller.user)
+              (lock_free t w x g.caller.user held g.caller.window here (of_lock Auto) refl true refl is) apart
+          locked On is here = contradicts (same_user x g.caller.user)
+              (lock_free t w x g.caller.user held g.caller.window here (of_lock On) refl true refl is) apart
 
     -- ---- each kind
 
@@ -360,24 +332,18 @@ module _ (t : Tables) (fit : AreFit t) (w : ℕ) (x : UserId) (held : holder_in 
         (closed_silent (λ (z : Window). true)) (parted_silent (λ (d : Client). true) rest)))
 
     deed_comes : (d : Deed) → shapes.Shape v g.caller g.order d → ComesOf g.order d
-    deed_comes d (shapes.lists bytes none tells) = still_calm g.order [] tt tt
     deed_comes d (shapes.acts all none is) = acted all is
     deed_comes d (shapes.enters_page y l is at shows) = page_comes g.order y l
         (entering y.user (focused (with_layout l y))) at (entering_calm y.user (focused (with_layout l y)))
         (entering_plain y.user (focused (with_layout l y)))
     deed_comes d (shapes.keeps_page y l is at shows keeps) = page_comes g.order y l [] at tt tt
-    deed_comes d (shapes.writes_to y what one at) = still_calm g.order [] tt tt
-    deed_comes d (shapes.opened is) = still_calm g.order [] tt tt
     deed_comes d (shapes.shut is) = shut_off is
     deed_comes d (shapes.told bytes is) = told _
     deed_comes d (shapes.removed word is clear) = removal (named_by word) (ap takes_rights is)
-    deed_comes d (shapes.fitted y rows columns is at) = still_calm g.order [] tt tt
-    deed_comes d (shapes.titled y bytes is at) = still_calm g.order [] tt tt
-    deed_comes d (shapes.numbered y n is at clear) = still_calm g.order [] tt tt
-    deed_comes d (shapes.typed y bytes is at) = still_calm g.order [] tt tt
     deed_comes d (shapes.detached y is at) = detached y at
     deed_comes d (shapes.killed y is at) = killed y is at
     deed_comes d (shapes.quits is) = quits is
+    deed_comes d kind = still_calm g.order [] tt tt
 
     pub does_comes : Either (ComesOf g.order) (does v g.caller g.order)
     does_comes = shapes.by_shape (ComesOf g.order) v g.caller g.order deed_comes

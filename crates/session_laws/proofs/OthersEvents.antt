@@ -1,31 +1,20 @@
 -- What an event of another user that gives no command does to a lock.
-use Rattle.std.proofs.Common.{◌≡◌, ℕ, Bool, true, false, not, List, [], ◌∷◌, ◌++◌, Option, Some, None, refl, ap, sym}
-use Rattle.std.proofs.Common.{◌∙◌, subst, map, filter, arith}
-use Rattle.std.specs.Prelude.{◌==◌}
-use Rattle.std.specs.List.{AllByRecursion}
-use Rattle.std.specs.Option.{option_map}
-use Rattle.std.proofs.lemmas.Bool.Decides.{nat_tests}
-use Rattle.acl.specs.declared.user_id.UserId.{UserId}
-use Rattle.acl.specs.declared.act.Act.{Act}
+use Rattle.session_laws.proofs.Vocabulary.{◌≡◌, ℕ, Bool, true, false, not, List, [], ◌∷◌, ◌++◌, Option, Some, None}
+use Rattle.session_laws.proofs.Vocabulary.{refl, ap, sym, ◌∙◌, subst, map, filter, arith, ◌==◌, AllByRecursion}
+use Rattle.session_laws.proofs.Vocabulary.{option_map, nat_tests, UserId, Act, same_user, first_fault, verdicts}
+use Rattle.session_laws.proofs.Vocabulary.{changing, parts, closes, entering, without_windows, outcome, Outcome}
+use Rattle.session_laws.proofs.Vocabulary.{left_acts, finished, done, reply_of, where_passed, attach_checks, attaches}
+use Rattle.session_laws.proofs.Vocabulary.{new_client, open_checks, opens, new_window, outputs, AreFit, Tables, Window}
+use Rattle.session_laws.proofs.Vocabulary.{Client, window_at, client_at, with_client, focused, EventValue, Attach}
+use Rattle.session_laws.proofs.Vocabulary.{Detach, Keys, Command, Open, Output, Closed, Draw, equal, all_weaken}
+use Rattle.session_laws.proofs.Vocabulary.{all_append, all_map, all_of, all_passed, stood, user_of, client_user}
 use Rattle.acl.specs.declared.act.Act.TheVariants as act
 use Rattle.acl.specs.declared.act.Object.TheVariants as object
-use Rattle.acl.specs.Same.{same_user}
 use Rattle.session_model.specs.declared.event.Reason.TheVariants as reason
-use Rattle.session_model.specs.Checks.{first_fault, verdicts}
-use Rattle.session_model.specs.Deeds.{changing, parts, closes, entering, without_windows}
-use Rattle.session_model.specs.Events.{outcome}
-use Rattle.session_model.specs.Outcomes.{Outcome, left_acts, finished, done, reply_of, where_passed}
-use Rattle.session_model.specs.Comings.{attach_checks, attaches, new_client, open_checks, opens, new_window, outputs}
-use Rattle.session_model.specs.Sound.{AreFit}
-use Rattle.session_model.specs.Tables.{Tables, Window, Client, window_at, client_at, with_client, focused}
-use Rattle.session_model.specs.Trace.{EventValue, Attach, Detach, Keys, Command, Open, Output, Closed, Draw}
-use Rattle.session_laws.proofs.Lists.{equal, all_weaken, all_append, all_map, all_of, all_passed}
 use Rattle.session_laws.proofs.Leaving.{none_left}
 use Rattle.session_laws.proofs.Outcomes as outcomes
 use Rattle.session_laws.proofs.Outcomes.{Change, change_of, Changes, changes}
 use Rattle.session_laws.proofs.Unread.{row_at}
-use Rattle.session_laws.specs.Contained.{stood}
-use Rattle.session_laws.specs.Locking.{user_of, client_user}
 use Rattle.session_laws.proofs.Events.{gives_commands, all_left, changed_by}
 use Rattle.session_laws.proofs.Callers.{Own, unique}
 use Rattle.session_laws.proofs.GuestsLeaving.{left_where, nobody, parted, turned, appended, shut}

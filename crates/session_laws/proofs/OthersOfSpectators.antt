@@ -1,37 +1,19 @@
 -- In each step of a spectator others keep what they have.
-use Rattle.std.proofs.Common.{◌≡◌, ℕ, true, false, List, [], ◌∷◌, Option, Some, None}
-use Rattle.std.proofs.Common.{refl, ap, sym, ◌∙◌, subst, ⊎_elim}
-use Rattle.std.specs.Prelude.{◌||◌}
-use Rattle.std.specs.List.{AllByRecursion, list_any}
-use Rattle.acl.specs.declared.user_id.UserId.{UserId}
-use Rattle.acl.specs.declared.act.Act.{Act}
+use Rattle.session_laws.proofs.Vocabulary.{◌≡◌, ℕ, true, false, List, [], ◌∷◌, Option, Some, None, refl, ap, sym, ◌∙◌}
+use Rattle.session_laws.proofs.Vocabulary.{subst, ⊎_elim, ◌||◌, AllByRecursion, list_any, UserId, Act, Object, Write}
+use Rattle.session_laws.proofs.Vocabulary.{Execute, CommandName, History, followed_by, default_of, mode_of, Order}
+use Rattle.session_laws.proofs.Vocabulary.{name_of, Entry, Tables, may_in, holder_in, Given, commands_of, SomeOf}
+use Rattle.session_laws.proofs.Vocabulary.{AreFit, IsStep, after, and_first, contradicts, opens_window, opened_by}
+use Rattle.session_laws.proofs.Vocabulary.{SameRights, changes_rights, stood, user_of, HoldersMayWrite, HoldersStay}
+use Rattle.session_laws.proofs.Vocabulary.{LocksAreTaken, TakesIt, MayFree, may_free, is_watching, IsSpectator}
+use Rattle.session_laws.proofs.Vocabulary.{LeavesOthers}
 use Rattle.acl.specs.declared.act.Act.TheVariants as act
-use Rattle.acl.specs.declared.act.Object.{Object}
 use Rattle.acl.specs.declared.act.Object.TheVariants as object
-use Rattle.acl.specs.declared.bits.Bit.TheVariants.{Write, Execute}
-use Rattle.acl.specs.declared.command_name.CommandName.{CommandName}
 use Rattle.acl.specs.declared.command_name.CommandName.TheVariants as name
-use Rattle.acl.specs.History.{History, followed_by}
-use Rattle.writelock.specs.Holding.{default_of, mode_of}
-use Rattle.command_lang.specs.declared.command.Command.{Command as Order}
 use Rattle.command_lang.specs.declared.command.Command.TheVariants as command
-use Rattle.command_lang.specs.Names.{name_of}
-use Rattle.session_model.specs.Trace.{Entry}
-use Rattle.session_model.specs.Tables.{Tables}
-use Rattle.session_model.specs.Rights.{may_in, holder_in}
-use Rattle.session_model.specs.Given.{Given, commands_of}
-use Rattle.session_model.specs.Promises.{SomeOf}
-use Rattle.session_model.specs.Sound.{AreFit}
-use Rattle.session_model.specs.Run.{IsStep, after}
-use Rattle.session_laws.proofs.Lists.{and_first, contradicts}
-use Rattle.session_laws.specs.Changing.{opens_window, opened_by, SameRights, changes_rights}
-use Rattle.session_laws.specs.Contained.{stood}
-use Rattle.session_laws.specs.Locking.{user_of, HoldersMayWrite, HoldersStay, LocksAreTaken, TakesIt, MayFree}
-use Rattle.session_laws.specs.Locking.{may_free}
 use Rattle.session_laws.proofs.Listing.{is_listing}
 use Rattle.session_laws.proofs.Histories.{NoListing, same_rights}
 use Rattle.session_laws.proofs.Holding.{givers}
-use Rattle.session_laws.specs.Watching.{is_watching, IsSpectator, LeavesOthers}
 use Rattle.session_laws.proofs.Watching.{is_presence, Presence}
 use Rattle.session_laws.proofs.GuestsGranting.{same_granted}
 use Rattle.session_laws.proofs.Spectating.{Stepped}
@@ -47,16 +29,7 @@ not_listing (a ∷ acts) all = (one a all.0, not_listing acts all.1) where
   one (act.Parted client) is = refl
   one (act.Entered v w) is = refl
   one (act.Left v w) is = refl
-  one (act.Known v) is = absurd (cc (is))
-  one (act.Gone v) is = absurd (cc (is))
-  one (act.Set v bit o value) is = absurd (cc (is))
-  one (act.Grouped v leader) is = absurd (cc (is))
-  one (act.Masked by v bit value) is = absurd (cc (is))
-  one (act.Preset kind bit value) is = absurd (cc (is))
-  one (act.Opened by w) is = absurd (cc (is))
-  one (act.Closed w) is = absurd (cc (is))
-  one (act.Mode by w mode) is = absurd (cc (is))
-  one (act.Default mode) is = absurd (cc (is))
+  one a is = absurd (cc (is))
 
 opens_none : (acts : List Act) (w : ℕ) → Presence acts → list_any (opens_window w) acts ≡ false
 opens_none [] w all = refl
@@ -64,19 +37,7 @@ opens_none (a ∷ acts) w all = ap (λ b. b || list_any (opens_window w) acts) (
     ∙ opens_none acts w all.1 where
       one : (a : Act) → is_presence a ≡ true → opens_window w a ≡ false
       one (act.Opened by v) is = absurd (cc (is))
-      one (act.Attached client v) is = refl
-      one (act.Parted client) is = refl
-      one (act.Entered v x) is = refl
-      one (act.Left v x) is = refl
-      one (act.Known v) is = refl
-      one (act.Gone v) is = refl
-      one (act.Set v bit o value) is = refl
-      one (act.Grouped v leader) is = refl
-      one (act.Masked by v bit value) is = refl
-      one (act.Preset kind bit value) is = refl
-      one (act.Closed x) is = refl
-      one (act.Mode by x mode) is = refl
-      one (act.Default mode) is = refl
+      one a is = refl
 
 pub none_opened : (acts : List Act) (o : Object) → Presence acts → opened_by acts o ≡ false
 none_opened acts (object.Window w) present = opens_none acts w present
@@ -97,16 +58,7 @@ same_locking h (a ∷ acts) all =
       one (act.Parted client) is = record { default = refl; modes = λ w. refl }
       one (act.Entered v x) is = record { default = refl; modes = λ w. refl }
       one (act.Left v x) is = record { default = refl; modes = λ w. refl }
-      one (act.Known v) is = absurd (cc (is))
-      one (act.Gone v) is = absurd (cc (is))
-      one (act.Set v bit o value) is = absurd (cc (is))
-      one (act.Grouped v leader) is = absurd (cc (is))
-      one (act.Masked by v bit value) is = absurd (cc (is))
-      one (act.Preset kind bit value) is = absurd (cc (is))
-      one (act.Opened by w) is = absurd (cc (is))
-      one (act.Closed w) is = absurd (cc (is))
-      one (act.Mode by w mode) is = absurd (cc (is))
-      one (act.Default mode) is = absurd (cc (is))
+      one a is = absurd (cc (is))
 
 pub record Laws : Type 0 where
   pub stay : HoldersStay

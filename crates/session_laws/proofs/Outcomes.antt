@@ -1,40 +1,20 @@
 -- Facts of outcomes: how rows are looked up, how checks come first, how commands are answered, and
 -- what comes of each event.
-use Rattle.std.proofs.Common.{◌≡◌, Bool, true, false, Option, Some, None, Ok, Err, Result, List, [], ◌∷◌, ◌++◌, ℕ, refl}
-use Rattle.std.proofs.Common.{ap, sym, ◌∙◌, subst}
-use Rattle.std.specs.Prelude.{if◌then◌else◌, ◌==◌, take, slice_get, unwrap_or}
-use Rattle.std.specs.List.{AllByRecursion}
-use Rattle.std.specs.Option.{option_and_then}
-use Rattle.acl.specs.declared.user_id.UserId.{UserId}
-use Rattle.command_lang.specs.declared.command.Command.{Command as Order}
-use Rattle.command_lang.specs.declared.fault.ParseFault.{ParseFault}
-use Rattle.keys.specs.Grammar.{Item}
-use Rattle.regions.specs.declared.shown.Shown.{Shown}
-use Rattle.regions.specs.Layouts.{Arrangement, empty, kept_alone}
-use Rattle.regions.specs.Pages.{has_room}
-use Rattle.session_model.specs.declared.refusal.Refusal.{Refusal}
-use Rattle.session_model.specs.declared.refusal.Refusal.TheVariants.{NoWindow, UnknownUser, Line, BadSize}
-use Rattle.session_model.specs.declared.verdict.Verdict.{Verdict}
-use Rattle.session_model.specs.declared.check.Check.{Check}
-use Rattle.session_model.specs.declared.check.Check.TheVariants.{Must as must}
-use Rattle.session_model.specs.declared.event.Done.{Done}
+use Rattle.session_laws.proofs.Vocabulary.{◌≡◌, Bool, true, false, Option, Some, None, Ok, Err, Result, List, [], ◌∷◌}
+use Rattle.session_laws.proofs.Vocabulary.{◌++◌, ℕ, refl, ap, sym, ◌∙◌, subst, if◌then◌else◌, ◌==◌, take, slice_get}
+use Rattle.session_laws.proofs.Vocabulary.{unwrap_or, AllByRecursion, option_and_then, UserId, Order, ParseFault, Item}
+use Rattle.session_laws.proofs.Vocabulary.{Shown, Arrangement, empty, kept_alone, has_room, Refusal, NoWindow}
+use Rattle.session_laws.proofs.Vocabulary.{UnknownUser, Line, BadSize, Verdict, Check, must, Done, EventValue, Attach}
+use Rattle.session_laws.proofs.Vocabulary.{Detach, Keys, Command, Resize, Open, Output, Closed, Draw, Reply, Tables}
+use Rattle.session_laws.proofs.Vocabulary.{Window, Client, window_at, client_at, with_client, focused, is_known, Caller}
+use Rattle.session_laws.proofs.Vocabulary.{line_caller, read_line, checks, first_fault, verdicts, Answer, Deed}
+use Rattle.session_laws.proofs.Vocabulary.{changing, parts, closes, does, reading, types, ordered, Ordered, unsaid}
+use Rattle.session_laws.proofs.Vocabulary.{answered, commanded, line_ruling, keys_outcome, Outcome, refused, finished}
+use Rattle.session_laws.proofs.Vocabulary.{where_passed, reply_of, done, outcome, with_client_of, attach_checks}
+use Rattle.session_laws.proofs.Vocabulary.{new_client, attaches, is_client_size, resized, open_checks, new_window}
+use Rattle.session_laws.proofs.Vocabulary.{opens, outputs, taken, items_behind, typed_bytes, command_item, is_resize}
+use Rattle.session_laws.proofs.Vocabulary.{itself}
 use Rattle.session_model.specs.declared.event.Reason.TheVariants as reason
-use Rattle.session_model.specs.Trace.{EventValue, Attach, Detach, Keys, Command, Resize, Open, Output, Closed, Draw}
-use Rattle.session_model.specs.Trace.{Reply}
-use Rattle.session_model.specs.Tables.{Tables, Window, Client, window_at, client_at, with_client, focused, is_known}
-use Rattle.session_model.specs.Lines.{Caller, line_caller, read_line}
-use Rattle.session_model.specs.Checks.{checks, first_fault, verdicts}
-use Rattle.session_model.specs.Deeds.{Answer, Deed, changing, parts, closes}
-use Rattle.session_model.specs.Commands.{does}
-use Rattle.session_model.specs.Answering.{reading, types, ordered, Ordered, unsaid, answered, commanded, line_ruling}
-use Rattle.session_model.specs.Answering.{keys_outcome}
-use Rattle.session_model.specs.Outcomes.{Outcome, refused, finished, where_passed, reply_of, done}
-use Rattle.session_model.specs.Events.{outcome, with_client_of}
-use Rattle.session_model.specs.Comings.{attach_checks, new_client, attaches, is_client_size, resized, open_checks}
-use Rattle.session_model.specs.Comings.{new_window, opens, outputs}
-use Rattle.session_model.specs.Keying.{taken, items_behind, typed_bytes, command_item}
-use Rattle.session_laws.specs.Entries.{is_resize}
-use Rattle.session_laws.proofs.Lists.{itself}
 use Rattle.session_laws.proofs.Doing.{is_plain, Either}
 use Rattle.session_laws.proofs.Showing.{Shows, get_all}
 use Rattle.session_laws.proofs.Shapes.{own}

@@ -1,27 +1,15 @@
 -- A page depends on nothing of a window that may not be read, except the window's number.
-use Rattle.std.proofs.Common.{◌≡◌, ℕ, Bool, true, false, List, [], ◌∷◌, ◌++◌, Option, Some, None, refl, ap, sym, ◌∙◌}
-use Rattle.std.proofs.Common.{map}
-use Rattle.std.specs.Prelude.{if◌then◌else◌, ◌==◌, nat_lt}
-use Rattle.std.specs.Option.{option_map}
-use Rattle.acl.specs.declared.user_id.UserId.{UserId}
-use Rattle.acl.specs.declared.bits.Bit.TheVariants.{Read}
+use Rattle.session_laws.proofs.Vocabulary.{◌≡◌, ℕ, Bool, true, false, List, [], ◌∷◌, ◌++◌, Option, Some, None, refl, ap}
+use Rattle.session_laws.proofs.Vocabulary.{sym, ◌∙◌, map, if◌then◌else◌, ◌==◌, nat_lt, option_map, UserId, Read, items}
+use Rattle.session_laws.proofs.Vocabulary.{Shown, StatusMessage, Window, Client, Tables, row_of, focused, is_window}
+use Rattle.session_laws.proofs.Vocabulary.{may_in, open_line, granted_view, part_shown, part_of_window, window_read}
+use Rattle.session_laws.proofs.Vocabulary.{message_text, status_text, layout_of, terminal_of, window_item, in_order}
+use Rattle.session_laws.proofs.Vocabulary.{by_number, separated, client_item, focus_text, number_text, codes, decimal}
+use Rattle.session_laws.proofs.Vocabulary.{seen_if, seen_by}
 use Rattle.acl.specs.declared.act.Object.TheVariants as object
-use Rattle.keys.specs.Grammar.{items}
-use Rattle.regions.specs.declared.shown.Shown.{Shown}
 use Rattle.view.specs.Granted as view
-use Rattle.session_model.specs.declared.message.StatusMessage.{StatusMessage}
 use Rattle.session_model.specs.declared.message.StatusMessage.TheVariants as message
-use Rattle.session_model.specs.Tables.{Window, Client, Tables, row_of, focused, is_window}
-use Rattle.session_model.specs.Rights.{may_in}
-use Rattle.session_model.specs.Keying.{open_line}
-use Rattle.session_model.specs.Granted.{granted_view, part_shown, part_of_window, window_read, message_text}
-use Rattle.session_model.specs.Granted.{status_text, layout_of}
-use Rattle.session_model.specs.Terminals.{terminal_of}
-use Rattle.session_model.specs.Texts.{window_item, in_order, by_number, separated, client_item, focus_text, number_text}
-use Rattle.std.specs.Prelude.{codes}
-use Rattle.std.specs.Prelude.{decimal}
 use Rattle.acl.specs.Names.{name_of}
-use Rattle.session_laws.specs.Seeing.{seen_if, seen_by}
 
 serial_seen : (b : Bool) (w : Window) → (seen_if b w).serial ≡ w.serial
 serial_seen true w = refl
@@ -178,11 +166,10 @@ module _ (t : Tables) (c : Client) (windows : List Window)
       (focus_same (focused d))
 
   message_same : (m : StatusMessage) → message_text u c m ≡ message_text t c m
-  message_same message.Silence = refl
-  message_same (message.Text bytes) = refl
   message_same message.AllWindows = ap (separated (codes "  ")) (items_same t c.user windows t.windows same (focused c))
   message_same message.AllClients = ap (separated (codes "  "))
       (map_all (client_item u) (client_item t) t.clients client_same)
+  message_same m = refl
 
   status_same : status_text u c ≡ status_text t c
   status_same = on (open_line (items c.keys).1) where

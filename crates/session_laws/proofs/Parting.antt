@@ -1,28 +1,15 @@
 -- The mode changes only by granted commands, and so do other users' clients part.
-use Rattle.std.proofs.Common.{◌≡◌, ℕ, Bool, true, false, not, List, [], ◌∷◌, ◌++◌, Some, refl, ap, sym, ◌∙◌, subst, inl}
-use Rattle.std.proofs.Common.{inr, ⊎_elim, map, filter, reverse}
-use Rattle.std.specs.Prelude.{if◌then◌else◌, ◌==◌, ◌||◌, ◌⊎◌, is_some}
-use Rattle.std.specs.List.{AllByRecursion, list_any}
-use Rattle.std.proofs.lemmas.List.{reverse-append}
-use Rattle.acl.specs.declared.user_id.UserId.{UserId}
-use Rattle.acl.specs.declared.act.Act.{Act}
+use Rattle.session_laws.proofs.Vocabulary.{◌≡◌, ℕ, Bool, true, false, not, List, [], ◌∷◌, ◌++◌, Some, refl, ap, sym}
+use Rattle.session_laws.proofs.Vocabulary.{◌∙◌, subst, inl, inr, map, filter, reverse, if◌then◌else◌, ◌==◌, ◌||◌, ◌⊎◌}
+use Rattle.session_laws.proofs.Vocabulary.{is_some, AllByRecursion, list_any, reverse-append, UserId, Act, History}
+use Rattle.session_laws.proofs.Vocabulary.{followed_by, clients_of, Order, name_of, left_acts, Given, commands_of}
+use Rattle.session_laws.proofs.Vocabulary.{has_x, SomeOf, IsStep, after, AreFit, ActsAgree, Tables, Client, client_at}
+use Rattle.session_laws.proofs.Vocabulary.{row_of, EventValue, Detach, Entry, some_or, some_elim, some_weaken}
+use Rattle.session_laws.proofs.Vocabulary.{TablesStayFit, equal, all_weaken, all_append, IsGranted, sets_mode}
+use Rattle.session_laws.proofs.Vocabulary.{ModeIsGated, parts_others, DetachesItself, IsParted}
 use Rattle.acl.specs.declared.act.Act.TheVariants as act
-use Rattle.acl.specs.History.{History, followed_by}
-use Rattle.writelock.specs.Holding.{clients_of}
-use Rattle.command_lang.specs.declared.command.Command.{Command as Order}
 use Rattle.command_lang.specs.declared.command.Command.TheVariants as command
-use Rattle.command_lang.specs.Names.{name_of}
-use Rattle.session_model.specs.Outcomes.{left_acts}
-use Rattle.session_model.specs.Given.{Given, commands_of, has_x}
-use Rattle.session_model.specs.Promises.{SomeOf}
-use Rattle.session_model.specs.Run.{IsStep, after}
-use Rattle.session_model.specs.Sound.{AreFit, ActsAgree}
-use Rattle.session_model.specs.Tables.{Tables, Client, client_at, row_of}
-use Rattle.session_model.specs.Trace.{EventValue, Detach, Entry}
-use Rattle.session_laws.specs.Fit.{TablesStayFit}
-use Rattle.session_laws.proofs.Lists.{equal, all_weaken, all_append}
 use Rattle.session_laws.proofs.Passing.{passed_has_x}
-use Rattle.session_laws.specs.Gates.{IsGranted, sets_mode, ModeIsGated, parts_others, DetachesItself, IsParted}
 use Rattle.session_laws.proofs.CommandActs.{IsActOf, is_mode}
 use Rattle.session_laws.proofs.Steps.{Did}
 use Rattle.session_laws.proofs.Events.{IsActIn, all_left}
@@ -38,23 +25,20 @@ mode_name : (c : Order) → is_mode c ≡ true → sets_mode (name_of c) ≡ tru
 mode_name (command.Multiuser is_on) is = refl
 mode_name c is = absurd (cc (is))
 
-some_mode : (t : Tables) (e : Entry) (gs : List Given) → SomeOf (Did t e) gs
-    → ((after t e).is_multiuser ≡ t.is_multiuser) ⊎ SomeOf (IsGranted t sets_mode) gs
-some_mode t e [] some = absurd some
-some_mode t e (g ∷ gs) (inl d) = on (is_mode g.order) refl where
-  on : (b : Bool) → is_mode g.order ≡ b
-      → ((after t e).is_multiuser ≡ t.is_multiuser) ⊎ SomeOf (IsGranted t sets_mode) (g ∷ gs)
-  on true is = inr (inl (record { is_such = mode_name g.order is; granted = did_x t e g d }))
+did_mode : (t : Tables) (e : Entry) (g : Given) → Did t e g
+    → ((after t e).is_multiuser ≡ t.is_multiuser) ⊎ IsGranted t sets_mode g
+did_mode t e g d = on (is_mode g.order) refl where
+  on : (b : Bool) → is_mode g.order ≡ b → ((after t e).is_multiuser ≡ t.is_multiuser) ⊎ IsGranted t sets_mode g
+  on true is = inr (record { is_such = mode_name g.order is; granted = did_x t e g d })
   on false is = inl (d.tables.multiuser ∙ (row_did t e g d).mode is)
-some_mode t e (g ∷ gs) (inr later) = ⊎_elim (λ (same : (after t e).is_multiuser ≡ t.is_multiuser). inl same)
-    (λ (some : SomeOf (IsGranted t sets_mode) gs). inr (inr some)) (some_mode t e gs later)
 
 pub mode_gated : Below → (t : Tables) (e : Entry) → IsStep t e → ModeIsGated t e
 mode_gated laws t e step = on (steps_of laws t e step) where
   on : Steps t e → ModeIsGated t e
   on (inl p) = inl p.mode
   on (inr (inl rests)) = inl rests.tables.multiuser
-  on (inr (inr some)) = some_mode t e (commands_of t e.event) some
+  on (inr (inr some)) = some_or (Did t e) (IsGranted t sets_mode) ((after t e).is_multiuser ≡ t.is_multiuser)
+      (commands_of t e.event) (did_mode t e) some
 
 -- ---- which clients are attached, by the acts
 
@@ -153,12 +137,6 @@ stays_attached t e before later k client is none =
 abbrev Why : Tables → ℕ → Given → Type 0
 Why t client g = DetachesItself t client g ⊎ IsGranted t parts_others g
 
-not_equal : (m n : ℕ) → ((m ≡ n) → ⊥) → (m == n) ≡ false
-not_equal m n other = on (m == n) refl where
-  on : (b : Bool) → (m == n) ≡ b → b ≡ false
-  on true is = absurd (other (equal m n is))
-  on false is = refl
-
 -- each element of a list passes the test, or one of them doesn't
 search_act : (p : Act → Bool) (acts : List Act) → AllByRecursion (λ a. p a ≡ false) acts ⊎ SomeOf (λ a. p a ≡ true) acts
 search_act p [] = inl tt
@@ -168,12 +146,6 @@ search_act p (a ∷ acts) = on (p a) refl (search_act p acts) where
   on true is rest = inr (inl is)
   on false is (inl none) = inl (is, none)
   on false is (inr some) = inr (inr some)
-
-found : {A : Type 0} (P Q : A → Type 0) (R : Type 0) (xs : List A) → ((x : A) → P x → Q x → R) → AllByRecursion P xs
-    → SomeOf Q xs → R
-found P Q R [] on all some = absurd some
-found P Q R (x ∷ xs) on all (inl here) = on x all.0 here
-found P Q R (x ∷ xs) on all (inr later) = found P Q R xs on all.1 later
 
 row_parts : (t : Tables) (client : ℕ) (g : Given) → has_x t g ≡ true → (c : Order) → g.order ≡ c → (a : Act)
     → IsActOf g.caller c a → parts_it client a ≡ true → Why t client g
@@ -193,19 +165,12 @@ did_parts : (t : Tables) (e : Entry) (g : Given) (client : ℕ) → Did t e g
 did_parts t e g client d some =
     let left : List Act = left_acts t.clients d.deed.tables.clients in
     let of : Act → Type 0 = λ a. parts_it client a ≡ true → Why t client g in
-    found of (λ a. parts_it client a ≡ true) (Why t client g) e.acts (λ a on parts. on parts)
+    some_elim (λ a. parts_it client a ≡ true) of (Why t client g) e.acts (λ a parts on. on parts) some
     (subst (AllByRecursion of) (sym d.acts)
     (all_append of d.deed.acts left
     (all_weaken (IsActOf g.caller g.order) of d.deed.acts
     (λ a is parts. row_parts t client g (did_x t e g d) g.order refl a is parts) (row_did t e g d).acts)
     (all_left of t.clients d.deed.tables.clients (λ user w parts. absurd (cc (parts))))))
-    some
-
-some_parts : (t : Tables) (e : Entry) (client : ℕ) (gs : List Given) → SomeOf (Did t e) gs
-    → SomeOf (λ a. parts_it client a ≡ true) e.acts → SomeOf (Why t client) gs
-some_parts t e client [] some parts = absurd some
-some_parts t e client (g ∷ gs) (inl d) parts = inl (did_parts t e g client d parts)
-some_parts t e client (g ∷ gs) (inr later) parts = inr (some_parts t e client gs later parts)
 
 plain_parts : (t : Tables) (client : ℕ) (event : EventValue) (a : Act) → IsActIn t event a → parts_it client a ≡ true
     → event ≡ Detach client
@@ -222,7 +187,8 @@ clients_stay laws fits t e fit step client is = on (search_act (parts_it client)
   on (inl none) s = inl (stays_attached t e fit.agree (fits t e fit).agree (kept laws t e step) client is none)
   on (inr some) (inl p) = inr
       (inl
-      (found (IsActIn t e.event) (λ a. parts_it client a ≡ true) (e.event ≡ Detach client) e.acts
-      (plain_parts t client e.event) p.acts_in some))
+      (some_elim (λ a. parts_it client a ≡ true) (IsActIn t e.event) (e.event ≡ Detach client) e.acts
+      (λ a parts is. plain_parts t client e.event a is parts) some p.acts_in))
   on (inr some) (inr (inl rests)) = absurd (subst (SomeOf (λ a. parts_it client a ≡ true)) rests.acts some)
-  on (inr some) (inr (inr did)) = inr (inr (some_parts t e client (commands_of t e.event) did some))
+  on (inr some) (inr (inr did)) = inr
+      (inr (some_weaken (Did t e) (Why t client) (commands_of t e.event) (λ g d. did_parts t e g client d some) did))

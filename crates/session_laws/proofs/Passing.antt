@@ -1,24 +1,11 @@
 -- If the checks of a command passed, x on it and on its window is granted.
-use Rattle.std.proofs.Common.{◌≡◌, Bool, true, false, not, List, [], ◌∷◌, ◌++◌, Option, Some, None, refl}
-use Rattle.std.specs.Prelude.{if◌then◌else◌, ◌||◌}
-use Rattle.std.specs.Option.{option_map, is_some}
-use Rattle.acl.specs.declared.user_id.UserId.{UserId}
-use Rattle.acl.specs.declared.bits.Bit.TheVariants.{Write, Execute}
+use Rattle.session_laws.proofs.Vocabulary.{◌≡◌, Bool, true, false, not, List, [], ◌∷◌, ◌++◌, Option, Some, None, refl}
+use Rattle.session_laws.proofs.Vocabulary.{if◌then◌else◌, ◌||◌, option_map, UserId, Write, Execute, Order, name_of}
+use Rattle.session_laws.proofs.Vocabulary.{Check, right, must, Needs, Refusal, NotMultiuser, NoWindow, Tables, Window}
+use Rattle.session_laws.proofs.Vocabulary.{may_in, Caller, needs, passes, refusal_of, first_fault, checks, checks_by}
+use Rattle.session_laws.proofs.Vocabulary.{window_checks, where_needed, has_x, has_x_on, both_true}
+use Rattle.std.specs.Option.{is_some}
 use Rattle.acl.specs.declared.act.Object.TheVariants as object
-use Rattle.command_lang.specs.declared.command.Command.{Command as Order}
-use Rattle.command_lang.specs.Names.{name_of}
-use Rattle.session_model.specs.declared.check.Check.{Check}
-use Rattle.session_model.specs.declared.check.Check.TheVariants.{Right as right, Must as must}
-use Rattle.command_lang.specs.declared.needs.Needs.{Needs}
-use Rattle.session_model.specs.declared.refusal.Refusal.{Refusal}
-use Rattle.session_model.specs.declared.refusal.Refusal.TheVariants.{NotMultiuser, NoWindow}
-use Rattle.session_model.specs.Tables.{Tables, Window}
-use Rattle.session_model.specs.Rights.{may_in}
-use Rattle.session_model.specs.Lines.{Caller}
-use Rattle.command_lang.specs.Needs.{needs}
-use Rattle.session_model.specs.Checks.{passes, refusal_of, first_fault, checks, checks_by, window_checks, where_needed}
-use Rattle.session_model.specs.Given.{has_x, has_x_on}
-use Rattle.session_laws.proofs.Lists.{both_true}
 use Rattle.session_laws.proofs.Doing.{giving}
 
 pub behind : (t : Tables) (cs ds : List Check) → first_fault t (cs ++ ds) ≡ None → first_fault t ds ≡ None

@@ -1,32 +1,15 @@
 -- A client's row after a step: the keys and the deliveries of the step follow those before it.
-use Rattle.std.proofs.Common.{◌≡◌, ℕ, ◌<◌, Bool, true, false, List, [], ◌∷◌, ◌++◌, Option, Some, None, Ok, Err, Result}
-use Rattle.std.proofs.Common.{refl, ap, sym, ◌∙◌, subst, inl, inr, ⊎_elim, arith}
-use Rattle.std.specs.Prelude.{if◌then◌else◌, ◌==◌}
-use Rattle.std.specs.List.{AllByRecursion}
-use Rattle.std.proofs.lemmas.Bool.Decides.{nat_tests}
-use Rattle.command_lang.specs.declared.command.Command.{Command as Order}
-use Rattle.command_lang.specs.declared.fault.ParseFault.{ParseFault}
-use Rattle.keys.specs.Grammar.{Item, typed, bound, line}
-use Rattle.session_model.specs.declared.event.Effect.{Effect}
-use Rattle.session_model.specs.declared.event.Effect.TheVariants.{Input, Deliver, Say, Size, Gone}
-use Rattle.session_model.specs.declared.event.Peer.TheVariants as peer
-use Rattle.session_model.specs.declared.message.StatusMessage.{StatusMessage}
-use Rattle.session_model.specs.declared.refusal.Refusal.{Refusal}
-use Rattle.session_model.specs.Trace.{EventValue, Detach, Keys, Command, Closed, Draw, Reply}
-use Rattle.session_model.specs.Tables.{Tables, Client, row_of, with_row}
-use Rattle.session_model.specs.Lines.{caller_of, read_line}
-use Rattle.session_model.specs.Checks.{checks, first_fault}
-use Rattle.session_model.specs.Deeds.{Answer, hearing}
-use Rattle.session_model.specs.Commands.{does}
-use Rattle.session_model.specs.Answering.{types, ordered, keyed, with_listed, message_of, told}
+use Rattle.session_laws.proofs.Vocabulary.{◌≡◌, ℕ, Bool, true, false, List, [], ◌∷◌, ◌++◌, Option, Some, None, Ok, Err}
+use Rattle.session_laws.proofs.Vocabulary.{Result, refl, ap, sym, ◌∙◌, ⊎_elim, if◌then◌else◌, ◌==◌, AllByRecursion}
+use Rattle.session_laws.proofs.Vocabulary.{Order, ParseFault, Item, bound, line, Effect, Deliver, StatusMessage}
+use Rattle.session_laws.proofs.Vocabulary.{Refusal, EventValue, Detach, Keys, Command, Closed, Draw, Reply, Tables}
+use Rattle.session_laws.proofs.Vocabulary.{Client, row_of, with_row, caller_of, read_line, checks, first_fault, Answer}
+use Rattle.session_laws.proofs.Vocabulary.{hearing, does, types, ordered, keyed, with_listed, message_of, told}
+use Rattle.session_laws.proofs.Vocabulary.{deliveries, Given, commands_of, SomeOf, IsEffectOf, IsDoneByRight, Rises}
+use Rattle.session_laws.proofs.Vocabulary.{client_serials, some_elim, row_goes, some_weaken, keys_read, is_resize}
+use Rattle.session_laws.proofs.Vocabulary.{delivered_by, all_weaken}
 use Rattle.session_model.specs.Answering as answering
-use Rattle.session_model.specs.Run.{deliveries}
-use Rattle.session_model.specs.Given.{Given, commands_of}
-use Rattle.session_model.specs.Promises.{SomeOf, IsEffectOf, IsDoneByRight}
-use Rattle.session_model.specs.Sound.{Rises, client_serials}
-use Rattle.session_laws.specs.Entries.{keys_read, is_resize, delivered_by}
 use Rattle.session_laws.proofs.Inputs.{append_nil}
-use Rattle.session_laws.proofs.Lists.{all_weaken, some_weaken, equal}
 use Rattle.session_laws.proofs.Doing.{Either}
 use Rattle.session_laws.proofs.EffectsCaused.{never_delivers}
 use Rattle.session_laws.proofs.Settling.{told_same}
@@ -70,36 +53,18 @@ all_go_on event reply effects cs ds unread same_size undelivered kept =
 module _ (F : Client → Client → Type 0) (c x : Client)
     (own : (d : Client) → core x ≡ core d → F c d)
     (others : (r : Client) → (r.serial == c.serial) ≡ false → (d : Client) → core r ≡ core d → F r d) where
-  later_rows : (cs : List Client) (d : Client) → AllByRecursion (λ m. c.serial < m) (client_serials cs)
-      → SomeOf (λ r. core r ≡ core d) cs → SomeOf (λ r. F r d) cs
-  later_rows [] d above some = some
-  later_rows (r ∷ cs) d above some =
-      let lt : c.serial < r.serial = above.0 in
-      let off : (r.serial == c.serial) ≡ false = grind (arith, nat_tests, lt) in
-      ⊎_elim (λ (here : core r ≡ core d). inl (others r off d here)) (λ later. inr (later_rows cs d above.1 later)) some
+  abbrev Goes : Client → Client → Type 0
+  Goes r y = (d : Client) → core y ≡ core d → F r d
 
   pub changed_row : (cs : List Client) (next : ℕ) → Rises (client_serials cs) next
       → row_of (λ (r : Client). r.serial) cs c.serial ≡ Some c
       → (d : Client) → SomeOf (λ r. core r ≡ core d) (with_row (λ (r : Client). r.serial) cs c.serial x)
       → SomeOf (λ r. F r d) cs
-  changed_row [] next rise is d some = absurd (cc (is))
-  changed_row (r ∷ cs) next rise is d some = on (r.serial == c.serial) refl is some (changed_row cs next rise.2) where
-    on : (b : Bool) → (r.serial == c.serial) ≡ b
-        → (if b then Some r else row_of (λ (q : Client). q.serial) cs c.serial) ≡ Some c
-        → SomeOf (λ q. core q ≡ core d) (if b then x ∷ cs else r ∷ with_row (λ (q : Client). q.serial) cs c.serial x)
-        → (row_of (λ (q : Client). q.serial) cs c.serial ≡ Some c → (d : Client)
-        → SomeOf (λ q. core q ≡ core d) (with_row (λ (q : Client). q.serial) cs c.serial x)
-        → SomeOf (λ q. F q d) cs)
-        → SomeOf (λ q. F q d) (r ∷ cs)
-    on true at is some more =
-        let e : r ≡ c = cc (is) in
-        ⊎_elim (λ (here : core x ≡ core d). inl (subst (λ q. F q d) (sym e) (own d here)))
-        (λ later. inr
-        (later_rows cs d
-        (subst (λ n. AllByRecursion (λ m. n < m) (client_serials cs)) (equal r.serial c.serial at) rise.1) later))
-        some
-    on false at is some more = ⊎_elim (λ (here : core r ≡ core d). inl (others r at d here))
-        (λ later. inr (more is d later)) some
+  changed_row cs next rise is d some =
+      some_elim (λ y. core y ≡ core d) (λ y. SomeOf (λ r. Goes r y) cs) (SomeOf (λ r. F r d) cs)
+      (with_row (λ (r : Client). r.serial) cs c.serial x)
+      (λ y same goes. some_weaken (λ r. Goes r y) (λ r. F r d) cs (λ r go. go d same) goes) some
+      (row_goes (λ (r : Client). r.serial) Goes c x own others cs next rise is)
 
 -- ---- what isn't delivered
 
@@ -110,11 +75,7 @@ IsNoDeliver f = Unit {0}
 none_delivered : (effects : List Effect) → AllByRecursion IsNoDeliver effects → (n : ℕ) → deliveries effects n ≡ []
 none_delivered [] all n = refl
 none_delivered (Deliver to bytes ∷ effects) all n = absurd all.0
-none_delivered (Input at bytes ∷ effects) all n = none_delivered effects all.1 n
-none_delivered (Say to bytes ∷ effects) all n = none_delivered effects all.1 n
-none_delivered (Size at rows columns ∷ effects) all n = none_delivered effects all.1 n
-none_delivered (Gone (peer.Window at) why ∷ effects) all n = none_delivered effects all.1 n
-none_delivered (Gone (peer.Client at) why ∷ effects) all n = none_delivered effects all.1 n
+none_delivered (a ∷ effects) all n = none_delivered effects all.1 n
 
 not_by_right : (t : Tables) (to : ℕ) (bytes : List ℕ) (gs : List Given) → SomeOf (IsDoneByRight t (Deliver to bytes)) gs
     → ⊥
@@ -175,11 +136,9 @@ read_keeps v d (Err f) = told_keeps v d.serial _
 read_keeps v d (Ok order) = order_keeps v d order
 
 item_keeps : (v : Tables) (d : Client) (item : Option Item) → Keeps v.clients (ordered v d item).deed.tables.clients
-item_keeps v d None = keeps_same v.clients
-item_keeps v d (Some (typed b)) = keeps_same v.clients
 item_keeps v d (Some (bound order)) = order_keeps v d order
-item_keeps v d (Some (line [])) = keeps_same v.clients
 item_keeps v d (Some (line (b ∷ bs))) = read_keeps v d (read_line (b ∷ bs))
+item_keeps v d item = keeps_same v.clients
 
 -- typed bytes, and then a command
 pub keys_keep : (u : Tables) (d : Client) (bytes : List ℕ) (item : Option Item)

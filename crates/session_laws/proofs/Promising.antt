@@ -1,9 +1,6 @@
 -- Every step of every run keeps the promise.
-use Rattle.std.proofs.Common.{List, [], ◌∷◌}
-use Rattle.session_model.specs.Trace.{Entry, Trace}
-use Rattle.session_model.specs.Tables.{Tables, fresh}
-use Rattle.session_model.specs.Run.{IsStep, IsRun, IsRunFrom, tables_from}
-use Rattle.session_model.specs.Keeps.{KeepsPromise, KeepsPromises, KeepsPromisesFrom}
+use Rattle.session_laws.proofs.Vocabulary.{List, [], ◌∷◌, Entry, Trace, Tables, fresh, IsStep, IsRun, IsRunFrom}
+use Rattle.session_laws.proofs.Vocabulary.{tables_from, KeepsPromise, KeepsPromises, KeepsPromisesFrom}
 use Rattle.session_laws.proofs.Reaching.{reach}
 use Rattle.session_laws.proofs.DenialsTold.{told}
 use Rattle.session_laws.proofs.Granting.{commands}

@@ -1,20 +1,12 @@
 -- No command but `stuff` puts bytes into windows.
-use Rattle.std.proofs.Common.{◌≡◌, ℕ, Bool, true, false, not, List, [], ◌∷◌, ◌++◌, Option, Some, None, Ok, Err, map}
-use Rattle.std.proofs.Common.{filter, refl, ap, sym, ◌∙◌, true≢false}
-use Rattle.std.specs.Prelude.{◌==◌, codes}
+use Rattle.session_laws.proofs.Vocabulary.{◌≡◌, ℕ, Bool, true, false, not, List, [], ◌∷◌, ◌++◌, Option, Some, None, Ok}
+use Rattle.session_laws.proofs.Vocabulary.{Err, map, filter, refl, ap, sym, ◌∙◌, true≢false, ◌==◌, codes, Say, Gone}
+use Rattle.session_laws.proofs.Vocabulary.{Reason, Detached, Killed, Removed, SingleUser, Quit, UserId, named_by, does}
+use Rattle.session_laws.proofs.Vocabulary.{Deed, Answer, removes, is_of, closes, Caller, inputs, Tables, Window, Client}
 use Rattle.command_lang.specs.declared.command.Command.{Command}
 use Rattle.command_lang.specs.declared.command.Command.TheVariants as command
-use Rattle.session_model.specs.declared.event.Effect.TheVariants.{Say, Gone}
 use Rattle.session_model.specs.declared.event.Peer.TheVariants as peer
-use Rattle.session_model.specs.declared.event.Reason.{Reason}
-use Rattle.session_model.specs.declared.event.Reason.TheVariants.{Detached, Killed, Removed, SingleUser, Quit}
-use Rattle.acl.specs.declared.user_id.UserId.{UserId}
-use Rattle.acl.specs.Names.{named_by, name_of}
-use Rattle.session_model.specs.Commands.{does}
-use Rattle.session_model.specs.Deeds.{Deed, Answer, removes, is_of, closes}
-use Rattle.session_model.specs.Lines.{Caller}
-use Rattle.session_model.specs.Promises.{inputs}
-use Rattle.session_model.specs.Tables.{Tables, Window, Client}
+use Rattle.acl.specs.Names.{name_of}
 use Rattle.session_laws.proofs.Doing.{Either}
 use Rattle.session_laws.proofs.Shapes as shapes
 
@@ -56,19 +48,10 @@ quiet_removal t None v = refl
 quiet_removal t (Some u) v = gone_clients Removed (filter (is_of u) t.clients) v
 
 quiet_deed : (t : Tables) (k : Caller) (c : Command) (d : Deed) → types c ≡ false → shapes.Shape t k c d → IsQuiet d
-quiet_deed t k c d other (shapes.lists bytes none tells) v = refl
-quiet_deed t k c d other (shapes.acts all none acted) v = refl
-quiet_deed t k c d other (shapes.enters_page x l of at shows) v = refl
-quiet_deed t k c d other (shapes.keeps_page x l of at shows same) v = refl
-quiet_deed t k c d other (shapes.writes_to w what one at) v = refl
-quiet_deed t k c d other (shapes.opened is) v = refl
 quiet_deed t k c d other (shapes.shut is) v = gone_clients SingleUser
     (filter (λ (x : Client). not (is_of t.owner x)) t.clients) v
 quiet_deed t k c d other (shapes.told bytes is) v = said (name_of k.user ++ (codes ": " ++ bytes)) t.clients v
 quiet_deed t k c d other (shapes.removed word is clear) v = quiet_removal t (named_by word) v
-quiet_deed t k c d other (shapes.fitted w rows columns is at) v = refl
-quiet_deed t k c d other (shapes.titled w bytes is at) v = refl
-quiet_deed t k c d other (shapes.numbered w n is at free) v = refl
 quiet_deed t k c d other (shapes.typed w bytes is at) v = absurd (true≢false (sym (ap types is) ∙ other))
 quiet_deed t k c d other (shapes.detached x is at) v = gone_clients Detached
     (filter (λ (y : Client). y.serial == x.serial) t.clients) v
@@ -76,6 +59,7 @@ quiet_deed t k c d other (shapes.killed w is at) v = gone_windows Killed
     (filter (λ (y : Window). y.serial == w.serial) t.windows) v
 quiet_deed t k c d other (shapes.quits is) v = gone_both Quit (filter (λ (w : Window). true) t.windows)
     (filter (λ (x : Client). true) (closes (λ w. true) Quit t).tables.clients) v
+quiet_deed t k c d other kind v = refl
 
 pub quiet : (t : Tables) (k : Caller) (c : Command) → types c ≡ false → Of IsQuiet (does t k c)
 quiet t k c other = through (does t k c) (shapes.by_shape IsQuiet t k c (λ d is. quiet_deed t k c d other is)) where

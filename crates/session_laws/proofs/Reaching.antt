@@ -1,54 +1,27 @@
 -- Typed bytes reach a window exactly by rights and locks.
-use Rattle.std.proofs.Common.{◌≡◌, ℕ, Bool, true, false, not, List, [], ◌∷◌, ◌++◌, Option, Some, None, Ok, Err, Result}
-use Rattle.std.proofs.Common.{refl, ap, sym, ◌∙◌, filter, arith, length}
-use Rattle.std.specs.Prelude.{if◌then◌else◌, ◌==◌, ◌&&◌, ◌||◌, take, MatchOption}
-use Rattle.std.specs.List.{flat_map}
-use Rattle.std.specs.Option.{option_map_or}
-use Rattle.std.proofs.lemmas.Bool.Decides.{nat_tests}
-use Rattle.acl.specs.declared.user_id.UserId.{UserId}
-use Rattle.acl.specs.declared.bits.Bit.TheVariants.{Write, Execute}
+use Rattle.session_laws.proofs.Vocabulary.{◌≡◌, ℕ, Bool, true, false, not, List, [], ◌∷◌, ◌++◌, Option, Some, None, Ok}
+use Rattle.session_laws.proofs.Vocabulary.{Err, Result, refl, ap, sym, ◌∙◌, filter, arith, length, if◌then◌else◌, ◌==◌}
+use Rattle.session_laws.proofs.Vocabulary.{◌&&◌, ◌||◌, take, MatchOption, flat_map, option_map_or, nat_tests, UserId}
+use Rattle.session_laws.proofs.Vocabulary.{Write, Execute, stops_nobody_but, Order, ParseFault, Item, typed, bound}
+use Rattle.session_laws.proofs.Vocabulary.{line, reads, Effect, Input, Deliver, Refusal, NoWindow, UnknownUser}
+use Rattle.session_laws.proofs.Vocabulary.{StatusMessage, Text, checks, first_fault, verdicts, typing_checks, does}
+use Rattle.session_laws.proofs.Vocabulary.{ruling, Deed, Answer, given, changing, input_of, hearing, parts, closes}
+use Rattle.session_laws.proofs.Vocabulary.{entry_denial, types, says, told, ordered, by_line, line_ruling, reading}
+use Rattle.session_laws.proofs.Vocabulary.{message_of, commanded, keys_outcome, refused, Outcome, unsaid, finished}
+use Rattle.session_laws.proofs.Vocabulary.{done, outputs, all_typed, stuffed, with_order, order_in, ok_of, Typed}
+use Rattle.session_laws.proofs.Vocabulary.{typed_by_client, typed_bytes, command_item, taken, step_items, Caller}
+use Rattle.session_laws.proofs.Vocabulary.{caller_of, line_caller, read_line, inputs, reaching, reporting, may_in}
+use Rattle.session_laws.proofs.Vocabulary.{holder_in, HasEffects, IsDraw, DrawsWhereNeeded, is_known, Tables, Window}
+use Rattle.session_laws.proofs.Vocabulary.{Client, row_of, window_at, client_at, with_client, focused_window}
+use Rattle.session_laws.proofs.Vocabulary.{terminal_of, text_of, EventValue, Detach, Keys, Command, Output, Closed}
+use Rattle.session_laws.proofs.Vocabulary.{Draw}
 use Rattle.acl.specs.declared.act.Object.TheVariants as object
 use Rattle.acl.specs.declared.command_name.CommandName.TheVariants as names
-use Rattle.writelock.specs.LockTable.{stops_nobody_but}
-use Rattle.command_lang.specs.declared.command.Command.{Command as Order}
 use Rattle.command_lang.specs.declared.command.Command.TheVariants as command
-use Rattle.command_lang.specs.declared.fault.ParseFault.{ParseFault}
-use Rattle.keys.specs.Grammar.{Item, typed, bound, line}
-use Rattle.terminal_model.specs.Reading.{reads}
-use Rattle.session_model.specs.declared.event.Effect.{Effect}
-use Rattle.session_model.specs.declared.event.Effect.TheVariants.{Input, Deliver}
 use Rattle.session_model.specs.declared.event.Reason.TheVariants as reason
-use Rattle.session_model.specs.declared.refusal.Refusal.{Refusal}
-use Rattle.session_model.specs.declared.refusal.Refusal.TheVariants.{NoWindow, UnknownUser}
-use Rattle.session_model.specs.declared.message.StatusMessage.{StatusMessage}
-use Rattle.session_model.specs.declared.message.StatusMessage.TheVariants.{Text}
 use Rattle.session_laws.proofs.Quiet as quiet
 use Rattle.session_laws.proofs.Inputs.{append_nil, inputs_append, inputs_unsaid, answer_inputs, answered_inputs}
 use Rattle.session_laws.proofs.Inputs.{keyed_inputs}
-use Rattle.session_model.specs.Checks.{checks, first_fault, verdicts, typing_checks}
-use Rattle.session_model.specs.Commands.{does, ruling}
-use Rattle.session_model.specs.Deeds.{Deed, Answer, given, changing, input_of, hearing, parts}
-use Rattle.session_model.specs.Deeds.{closes}
-use Rattle.session_model.specs.Denials.{entry_denial}
-use Rattle.session_model.specs.Answering.{types, says, told, ordered, by_line, line_ruling, reading}
-use Rattle.session_model.specs.Answering.{message_of, commanded, keys_outcome}
-use Rattle.session_model.specs.Outcomes.{refused, Outcome}
-use Rattle.session_model.specs.Answering.{unsaid}
-use Rattle.session_model.specs.Outcomes.{finished, done}
-use Rattle.session_model.specs.Comings.{outputs}
-use Rattle.session_model.specs.Given.{all_typed, stuffed, with_order, order_in, ok_of, Typed}
-use Rattle.session_model.specs.Given.{typed_by_client}
-use Rattle.session_model.specs.Keying.{typed_bytes, command_item, taken, step_items}
-use Rattle.session_model.specs.Lines.{Caller, caller_of, line_caller, read_line}
-use Rattle.session_model.specs.Promises.{inputs, reaching, reporting}
-use Rattle.session_model.specs.Rights.{may_in, holder_in}
-use Rattle.session_model.specs.Run.{HasEffects, IsDraw, DrawsWhereNeeded}
-use Rattle.session_model.specs.Tables.{is_known, Tables, Window, Client, row_of, window_at}
-use Rattle.session_model.specs.Tables.{client_at, with_client, focused_window}
-use Rattle.session_model.specs.Terminals.{terminal_of}
-use Rattle.session_model.specs.Texts.{text_of}
-use Rattle.session_model.specs.Trace.{EventValue, Detach, Keys, Command}
-use Rattle.session_model.specs.Trace.{Output, Closed, Draw}
 use Rattle.session_laws.proofs.Outcomes as outcomes
 
 -- ---- typed bytes of a client
@@ -107,11 +80,6 @@ typing_leaves P t c (b ∷ bytes) here changed = on (first_fault t (typing_check
       on (Some r) f = on_row c.serial (Text (text_of r))
 
 -- ---- stuff
-
-stuff_none : (F : Typed → List ℕ) (T : Typed) (a : Bool)
-    → [] ≡ flat_map F (if a && (not true || false) then T ∷ [] else [])
-stuff_none F T true = refl
-stuff_none F T false = refl
 
 abbrev ruled : Option Refusal → Answer → Answer
 ruled o answer = elim o as (λ _. Answer) [ Some r ↦ Err r | None ↦ answer ]

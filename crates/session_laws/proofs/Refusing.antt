@@ -1,18 +1,9 @@
 -- A step that is refused changes nothing, and what is drawn shows the view.
-use Rattle.std.proofs.Common.{◌≡◌, ℕ, ◌++◌, false, List, [], Option, Some, None, refl, ap, sym, ◌∙◌, subst}
-use Rattle.std.specs.Prelude.{MatchOption, is_ok}
-use Rattle.terminal_model.specs.Shows.{ShowsFromAny}
-use Rattle.session_model.specs.declared.event.Effect.{Effect}
-use Rattle.session_model.specs.declared.refusal.Refusal.TheVariants.{NoWindow}
-use Rattle.session_model.specs.Trace.{EventValue, Draw, Entry}
-use Rattle.session_model.specs.Tables.{Tables, Client, client_at}
-use Rattle.session_model.specs.Deeds.{changing}
-use Rattle.session_model.specs.Events.{outcome}
-use Rattle.session_model.specs.Outcomes.{refused, finished, done, Outcome}
-use Rattle.session_model.specs.Granted.{granted_view}
-use Rattle.session_model.specs.Run.{HasEffects, IsDraw, deliveries, drawn, drawn_on, after, IsStep}
-use Rattle.session_model.specs.Promises.{ChangesNothing, DrawShows, DrawShowsOf}
-use Rattle.session_laws.proofs.Lists.{row_serial}
+use Rattle.session_laws.proofs.Vocabulary.{◌≡◌, ℕ, ◌++◌, false, List, [], Option, Some, None, refl, ap, sym, ◌∙◌, subst}
+use Rattle.session_laws.proofs.Vocabulary.{MatchOption, is_ok, ShowsFromAny, Effect, NoWindow, EventValue, Draw, Entry}
+use Rattle.session_laws.proofs.Vocabulary.{Tables, Client, client_at, changing, outcome, refused, finished, done}
+use Rattle.session_laws.proofs.Vocabulary.{Outcome, granted_view, HasEffects, IsDraw, deliveries, drawn, drawn_on}
+use Rattle.session_laws.proofs.Vocabulary.{after, IsStep, ChangesNothing, DrawShows, DrawShowsOf, row_serial}
 use Rattle.session_laws.proofs.Outcomes as outcomes
 
 -- ---- refusals

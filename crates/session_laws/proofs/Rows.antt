@@ -1,42 +1,24 @@
 -- Each command does to cut tables what it does to these. A command that lists or changes a page, without
 -- looking a window up, needs no row here: the last one finds its proof.
-use Rattle.std.proofs.Common.{◌≡◌, ℕ, ◌-◌, Bool, true, false, not, List, [], ◌∷◌, ◌++◌, Option, Some, None, Ok, Err}
-use Rattle.std.proofs.Common.{refl, ap, sym, ◌∙◌, map, filter}
-use Rattle.std.specs.Prelude.{if◌then◌else◌, ◌==◌}
-use Rattle.std.specs.Option.{option_map, option_map_or, option_and_then}
-use Rattle.acl.specs.declared.user_id.UserId.{UserId}
-use Rattle.acl.specs.declared.act.Act.{Act}
+use Rattle.session_laws.proofs.Vocabulary.{◌≡◌, ℕ, ◌-◌, Bool, true, false, not, List, [], ◌∷◌, ◌++◌, Option, Some, None}
+use Rattle.session_laws.proofs.Vocabulary.{Ok, Err, refl, ap, sym, ◌∙◌, map, filter, if◌then◌else◌, ◌==◌, option_map}
+use Rattle.session_laws.proofs.Vocabulary.{option_map_or, option_and_then, UserId, Act, Object, AclFault, named_by}
+use Rattle.session_laws.proofs.Vocabulary.{change_fault, Order, Rect, Arrangement, Writing, Effect, Gone, Say, Size}
+use Rattle.session_laws.proofs.Vocabulary.{Reason, Refusal, Acl, Windows, NoWindow, NoSuchWindow, Tables, Window}
+use Rattle.session_laws.proofs.Vocabulary.{Client, window_at, client_at, with_window, with_layout, focused, known_users}
+use Rattle.session_laws.proofs.Vocabulary.{names_of, window_named, window_after, window_before, with_number}
+use Rattle.session_laws.proofs.Vocabulary.{windows_text, Caller, Deed, Answer, changes, given, unless, refused_if}
+use Rattle.session_laws.proofs.Vocabulary.{parts, closes, removes, without_window, without_windows, enters, arranges}
+use Rattle.session_laws.proofs.Vocabulary.{selects, former_of, writes, fits, tells, hearing, does, caller_client}
+use Rattle.session_laws.proofs.Vocabulary.{on_client, focus_of, is_taken, coding_of}
 use Rattle.acl.specs.declared.act.Act.TheVariants as act
-use Rattle.acl.specs.declared.act.Object.{Object}
-use Rattle.acl.specs.declared.faults.AclFault.{AclFault}
-use Rattle.acl.specs.Names.{named_by}
-use Rattle.acl.specs.Commands.{change_fault}
-use Rattle.command_lang.specs.declared.command.Command.{Command as Order}
 use Rattle.command_lang.specs.declared.command.Command.TheVariants as command
-use Rattle.regions.specs.declared.rect.Rect.{Rect}
-use Rattle.regions.specs.Layouts.{Arrangement}
-use Rattle.terminal_model.specs.Writing.{Writing}
 use Rattle.terminal_model.specs.Writing as written
-use Rattle.session_model.specs.declared.event.Effect.{Effect}
-use Rattle.session_model.specs.declared.event.Effect.TheVariants.{Gone, Say, Size}
 use Rattle.session_model.specs.declared.event.Peer.TheVariants as peer
-use Rattle.session_model.specs.declared.event.Reason.{Reason}
 use Rattle.session_model.specs.declared.event.Reason.TheVariants as reason
-use Rattle.session_model.specs.declared.refusal.Refusal.{Refusal}
-use Rattle.session_model.specs.declared.refusal.Refusal.TheVariants.{Acl, Windows, NoWindow}
-use Rattle.session_model.specs.windows_fault.WindowsFault.TheVariants.{NoSuchWindow}
 use Rattle.session_model.specs.windows_fault.WindowsFault.TheVariants as fault
 use Rattle.session_model.specs.declared.message.StatusMessage.TheVariants as message
-use Rattle.session_model.specs.Tables.{Tables, Window, Client, window_at, client_at, with_window, with_layout, focused}
-use Rattle.session_model.specs.Tables.{known_users}
-use Rattle.session_model.specs.Naming.{names_of, window_named, window_after, window_before, with_number}
-use Rattle.session_model.specs.Texts.{windows_text}
-use Rattle.session_model.specs.Lines.{Caller}
 use Rattle.session_model.specs.Deeds as deeds
-use Rattle.session_model.specs.Deeds.{Deed, Answer, changes, given, unless, refused_if, parts, closes, removes}
-use Rattle.session_model.specs.Deeds.{without_window, without_windows, enters, arranges, selects, former_of, writes}
-use Rattle.session_model.specs.Deeds.{fits, tells, hearing}
-use Rattle.session_model.specs.Commands.{does, caller_client, on_client, focus_of, changing_bits, is_taken, coding_of}
 use Rattle.session_laws.proofs.Cutting.{read_all, change_all, filter_cut, cut_window, cut_client, cut, cut_deed}
 use Rattle.session_laws.proofs.Cutting.{cut_caller, cut_writing, is_no_output, client_cut, with_window_cut}
 use Rattle.session_laws.proofs.Cutting.{with_client_cut}

@@ -1,38 +1,16 @@
 -- A command that keys complete does its row, or its client is told why not.
-use Rattle.std.proofs.Common.{◌≡◌, ℕ, true, List, [], ◌∷◌, ◌++◌, Option, Some, None, Ok, Err, Result, refl, ap, sym}
-use Rattle.std.proofs.Common.{◌∙◌, subst, map, take}
-use Rattle.std.specs.List.{AllByRecursion}
-use Rattle.acl.specs.declared.act.Act.{Act}
-use Rattle.acl.specs.History.{followed_by}
-use Rattle.command_lang.specs.declared.command.Command.{Command as Order}
-use Rattle.command_lang.specs.declared.fault.ParseFault.{ParseFault}
-use Rattle.keys.specs.Grammar.{Item, typed, bound, line}
-use Rattle.session_model.specs.declared.event.Effect.{Effect}
-use Rattle.session_model.specs.declared.event.Effect.TheVariants.{Say}
-use Rattle.session_model.specs.declared.message.StatusMessage.{StatusMessage}
-use Rattle.session_model.specs.declared.message.StatusMessage.TheVariants.{Text}
-use Rattle.session_model.specs.declared.refusal.Refusal.{Refusal}
-use Rattle.session_model.specs.declared.refusal.Refusal.TheVariants.{NoWindow, Line}
-use Rattle.session_model.specs.declared.verdict.Verdict.{Verdict}
-use Rattle.session_model.specs.Trace.{EventValue, Keys, Reply, Entry}
-use Rattle.session_model.specs.Tables.{Tables, Client, client_at}
-use Rattle.session_model.specs.Texts.{text_of}
-use Rattle.session_model.specs.Lines.{Caller, caller_of, read_line}
-use Rattle.session_model.specs.Checks.{checks, first_fault}
-use Rattle.session_model.specs.Deeds.{Deed, Answer}
-use Rattle.session_model.specs.Commands.{does, ruling}
-use Rattle.session_model.specs.Keying.{taken, step_items, typed_bytes, command_item}
-use Rattle.session_model.specs.Events.{outcome}
-use Rattle.session_model.specs.Outcomes.{Outcome, refused, left_acts}
-use Rattle.session_model.specs.Answering.{keys_outcome, reading, told, ordered, keyed, with_listed, message_of, unsaid}
-use Rattle.session_model.specs.Answering.{by_line}
-use Rattle.session_model.specs.Given.{Given, has_x, with_order, order_in, ok_of}
-use Rattle.session_model.specs.Promises.{unread}
-use Rattle.session_model.specs.Run.{IsStep, after}
-use Rattle.session_laws.specs.Keyed.{typing, listed, heard, IsSaid, WasRefusedByKeys, WasTypedAlone, IsAnswered}
-use Rattle.session_laws.specs.Keyed.{IsNoCommand, KeysAreAnswered, KeysDidTheirRow}
+use Rattle.session_laws.proofs.Vocabulary.{◌≡◌, ℕ, true, List, [], ◌∷◌, ◌++◌, Option, Some, None, Ok, Err, Result, refl}
+use Rattle.session_laws.proofs.Vocabulary.{ap, sym, ◌∙◌, subst, map, take, AllByRecursion, Act, followed_by, Order}
+use Rattle.session_laws.proofs.Vocabulary.{ParseFault, Item, typed, bound, line, Effect, Say, StatusMessage, Text}
+use Rattle.session_laws.proofs.Vocabulary.{Refusal, NoWindow, Line, Verdict, EventValue, Keys, Reply, Entry, Tables}
+use Rattle.session_laws.proofs.Vocabulary.{Client, client_at, text_of, Caller, caller_of, read_line, checks}
+use Rattle.session_laws.proofs.Vocabulary.{first_fault, Deed, Answer, does, ruling, taken, step_items, typed_bytes}
+use Rattle.session_laws.proofs.Vocabulary.{command_item, outcome, Outcome, refused, left_acts, keys_outcome, reading}
+use Rattle.session_laws.proofs.Vocabulary.{told, ordered, keyed, with_listed, message_of, unsaid, by_line, Given, has_x}
+use Rattle.session_laws.proofs.Vocabulary.{with_order, order_in, ok_of, unread, IsStep, after, typing, listed, heard}
+use Rattle.session_laws.proofs.Vocabulary.{IsSaid, WasRefusedByKeys, WasTypedAlone, IsAnswered, IsNoCommand}
+use Rattle.session_laws.proofs.Vocabulary.{KeysAreAnswered, KeysDidTheirRow, all_weaken}
 use Rattle.session_laws.proofs.Inputs.{append_nil}
-use Rattle.session_laws.proofs.Lists.{all_weaken}
 use Rattle.session_laws.proofs.Passing.{passed_has_x}
 use Rattle.session_laws.proofs.Asking.{keys_given}
 use Rattle.session_laws.proofs.Unread.{SameClients, typing_clients, nobody_left, left_unread}
@@ -126,11 +104,9 @@ module _ (t : Tables) (c : Client) (read : List ℕ) where
 
   by_item : (cs : List Client) (item : Option Item) → SameClients t cs
       → AllByRecursion (Ordered (record t { clients = cs }) item) (with_order (caller_of t c) (order_in item))
-  by_item cs None same = tt
-  by_item cs (Some (typed b)) same = tt
   by_item cs (Some (bound order)) same = (by_order cs order same, tt)
-  by_item cs (Some (line [])) same = tt
   by_item cs (Some (line (b ∷ bs))) same = by_read cs b bs (read_line (b ∷ bs)) same
+  by_item cs item same = tt
 
   abbrev Faulty : Tables → Option Item → Type 0
   Faulty v (Some (bound order)) = Unit {0}
@@ -149,13 +125,9 @@ module _ (t : Tables) (c : Client) (read : List ℕ) where
   read_faulty cs (Err f) same = why_said t cs c.serial (Line f) Text same
 
   by_fault : (cs : List Client) (item : Option Item) → SameClients t cs → Faulty (record t { clients = cs }) item
-  by_fault cs None same = record { acts = refl; left = nobody_left t.clients cs same; effects = refl; tables = refl }
-  by_fault cs (Some (typed b)) same = record
-      { acts = refl; left = nobody_left t.clients cs same; effects = refl; tables = refl }
   by_fault cs (Some (bound order)) same = tt
-  by_fault cs (Some (line [])) same = record
-      { acts = refl; left = nobody_left t.clients cs same; effects = refl; tables = refl }
   by_fault cs (Some (line (b ∷ bs))) same = read_faulty cs (read_line (b ∷ bs)) same
+  by_fault cs item same = record { acts = refl; left = nobody_left t.clients cs same; effects = refl; tables = refl }
 
 -- ---- entries
 

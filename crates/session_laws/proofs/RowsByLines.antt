@@ -1,32 +1,13 @@
 -- A Command event that isn't refused did its command's row; it is refused exactly for the reasons
 -- that the law lists.
-use Rattle.std.proofs.Common.{◌≡◌, ℕ, Bool, true, false, List, [], ◌++◌, Option, Some, Result, Ok, Err, refl, ap, sym}
-use Rattle.std.proofs.Common.{◌∙◌, subst, inl}
-use Rattle.std.specs.Prelude.{if◌then◌else◌}
-use Rattle.acl.specs.declared.user_id.UserId.{UserId}
-use Rattle.acl.specs.declared.act.Act.{Act}
-use Rattle.acl.specs.History.{followed_by}
-use Rattle.session_model.specs.declared.event.Effect.{Effect}
-use Rattle.session_model.specs.declared.event.Done.{Done}
-use Rattle.session_model.specs.declared.verdict.Verdict.{Verdict}
-use Rattle.session_model.specs.declared.refusal.Refusal.{Refusal}
-use Rattle.session_model.specs.declared.refusal.Refusal.TheVariants.{UnknownUser, Line}
-use Rattle.command_lang.specs.declared.command.Command.{Command as Order}
-use Rattle.command_lang.specs.declared.fault.ParseFault.{ParseFault}
-use Rattle.session_model.specs.Trace.{EventValue, Command, Reply, Entry}
-use Rattle.session_model.specs.Tables.{Tables, is_known}
-use Rattle.session_model.specs.Lines.{Caller, line_caller, read_line}
-use Rattle.session_model.specs.Checks.{checks, verdicts}
-use Rattle.session_model.specs.Deeds.{Deed, Answer}
-use Rattle.session_model.specs.Commands.{does, ruling}
-use Rattle.session_model.specs.Outcomes.{Outcome, finished, reply_of, left_acts, refused}
-use Rattle.session_model.specs.Events.{outcome}
-use Rattle.session_model.specs.Answering.{answered, commanded, line_ruling}
-use Rattle.session_model.specs.Given.{Given, commands_of, has_x, with_order, ok_of}
-use Rattle.session_model.specs.Promises.{SomeOf}
-use Rattle.session_model.specs.Run.{IsStep}
-use Rattle.session_laws.specs.Laws.{DidItsRow, LineDidItsRow, refusal_in, IsRefusedSo}
-use Rattle.session_laws.proofs.Lists.{some_weaken}
+use Rattle.session_laws.proofs.Vocabulary.{◌≡◌, ℕ, Bool, true, false, List, [], ◌++◌, Option, Some, Result, Ok, Err}
+use Rattle.session_laws.proofs.Vocabulary.{refl, ap, sym, ◌∙◌, subst, inl, if◌then◌else◌, UserId, Act, followed_by}
+use Rattle.session_laws.proofs.Vocabulary.{Effect, Done, Verdict, Refusal, UnknownUser, Line, Order, ParseFault}
+use Rattle.session_laws.proofs.Vocabulary.{EventValue, Command, Reply, Entry, Tables, is_known, Caller, line_caller}
+use Rattle.session_laws.proofs.Vocabulary.{read_line, checks, verdicts, Deed, Answer, does, ruling, Outcome, finished}
+use Rattle.session_laws.proofs.Vocabulary.{reply_of, left_acts, refused, outcome, answered, commanded, line_ruling}
+use Rattle.session_laws.proofs.Vocabulary.{Given, commands_of, has_x, with_order, ok_of, SomeOf, IsStep, DidItsRow}
+use Rattle.session_laws.proofs.Vocabulary.{LineDidItsRow, refusal_in, IsRefusedSo, some_weaken}
 use Rattle.session_laws.proofs.Passing.{passed_has_x}
 use Rattle.session_laws.proofs.Asking.{line_given}
 use Rattle.session_laws.proofs.Outcomes as outcomes

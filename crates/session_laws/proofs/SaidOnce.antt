@@ -1,45 +1,24 @@
 -- No client is told the same text twice in a step.
-use Rattle.std.proofs.Common.{◌≡◌, ℕ, ◌<◌, Bool, true, false, not, List, [], ◌∷◌, ◌++◌, Option, Some, None, Ok, Err}
-use Rattle.std.proofs.Common.{Result, refl, ap, sym, ◌∙◌, subst, map, filter, length, take, arith, ⊎_elim}
-use Rattle.std.specs.Prelude.{if◌then◌else◌, ◌==◌, ◌||◌, MatchOption, codes}
-use Rattle.std.specs.List.{AllByRecursion, list_any}
-use Rattle.std.specs.Str.{bytes_eq}
-use Rattle.std.proofs.lemmas.Slice.Eq.{bytes_eq-Decides}
-use Rattle.std.proofs.lemmas.Bool.Decides.{nat_tests}
+use Rattle.session_laws.proofs.Vocabulary.{◌≡◌, ℕ, ◌<◌, Bool, true, false, not, List, [], ◌∷◌, ◌++◌, Option, Some, None}
+use Rattle.session_laws.proofs.Vocabulary.{Ok, Err, Result, refl, ap, sym, ◌∙◌, subst, map, filter, length, take, arith}
+use Rattle.session_laws.proofs.Vocabulary.{⊎_elim, if◌then◌else◌, ◌==◌, ◌||◌, MatchOption, codes, AllByRecursion}
+use Rattle.session_laws.proofs.Vocabulary.{list_any, bytes_eq, bytes_eq-Decides, nat_tests, Order, ParseFault, Item}
+use Rattle.session_laws.proofs.Vocabulary.{bound, line, reads, Effect, Input, Deliver, Say, Gone, StatusMessage}
+use Rattle.session_laws.proofs.Vocabulary.{Refusal, EventValue, Draw, Entry, Tables, Window, Client, client_at}
+use Rattle.session_laws.proofs.Vocabulary.{with_client, focused_window, terminal_of, Caller, caller_of, line_caller}
+use Rattle.session_laws.proofs.Vocabulary.{read_line, checks, first_fault, typing_checks, Deed, Answer, changing, tells}
+use Rattle.session_laws.proofs.Vocabulary.{does, typed_bytes, command_item, taken, step_items, types, says_why}
+use Rattle.session_laws.proofs.Vocabulary.{input_in, ordered, keyed, with_listed, message_of, reading, unsaid}
+use Rattle.session_laws.proofs.Vocabulary.{says_same, keys_outcome, outcome, Outcome, IsStep, HasEffects, IsDraw}
+use Rattle.session_laws.proofs.Vocabulary.{DrawsWhereNeeded, Rises, AreSound, client_serials, SomeOf, IsDoneBy}
+use Rattle.session_laws.proofs.Vocabulary.{IsSaidOnce, AreSaidOnce, all_of, all_weaken, all_append, all_filter}
+use Rattle.session_laws.proofs.Vocabulary.{all_passed, members, both_true, itself, contradicts}
 use Rattle.acl.specs.Names.{name_of}
-use Rattle.command_lang.specs.declared.command.Command.{Command as Order}
 use Rattle.command_lang.specs.declared.command.Command.TheVariants as command
-use Rattle.command_lang.specs.declared.fault.ParseFault.{ParseFault}
-use Rattle.keys.specs.Grammar.{Item, typed, bound, line}
-use Rattle.terminal_model.specs.Reading.{reads}
-use Rattle.session_model.specs.declared.event.Effect.{Effect}
-use Rattle.session_model.specs.declared.event.Effect.TheVariants.{Input, Deliver, Say, Gone}
 use Rattle.session_model.specs.declared.event.Peer.TheVariants as peer
 use Rattle.session_model.specs.declared.event.Reason.TheVariants as reason
-use Rattle.session_model.specs.declared.message.StatusMessage.{StatusMessage}
-use Rattle.session_model.specs.declared.refusal.Refusal.{Refusal}
-use Rattle.session_model.specs.Trace.{EventValue, Detach, Keys, Command, Output, Closed, Draw, Entry}
-use Rattle.session_model.specs.Tables.{Tables, Window, Client, window_at, client_at, with_client, focused_window}
-use Rattle.session_model.specs.Tables.{is_known}
-use Rattle.session_model.specs.Terminals.{terminal_of}
-use Rattle.session_model.specs.Lines.{Caller, caller_of, line_caller, read_line}
-use Rattle.session_model.specs.Checks.{checks, first_fault, typing_checks}
-use Rattle.session_model.specs.Deeds.{Deed, Answer, changing, parts, closes, tells}
-use Rattle.session_model.specs.Commands.{does}
-use Rattle.session_model.specs.Keying.{typed_bytes, command_item, taken, step_items}
-use Rattle.session_model.specs.Answering.{types, says_why, input_in, ordered, keyed, with_listed, message_of, reading}
-use Rattle.session_model.specs.Answering.{unsaid, says_same, keys_outcome}
-use Rattle.session_model.specs.Events.{outcome}
-use Rattle.session_model.specs.Outcomes.{finished, done, Outcome}
-use Rattle.session_model.specs.Comings.{outputs}
 use Rattle.session_model.specs.Answering as answering
-use Rattle.session_model.specs.Run.{IsStep, HasEffects, IsDraw, DrawsWhereNeeded}
-use Rattle.session_model.specs.Sound.{Rises, AreSound, client_serials}
-use Rattle.session_model.specs.Promises.{SomeOf, IsDoneBy}
-use Rattle.session_laws.specs.Laws.{IsSaidOnce, AreSaidOnce}
 use Rattle.session_laws.proofs.Inputs.{is_say}
-use Rattle.session_laws.proofs.Lists.{all_of, all_weaken, all_append, all_filter, all_passed, members, both_true}
-use Rattle.session_laws.proofs.Lists.{itself, contradicts}
 use Rattle.session_laws.proofs.Doing.{Either, giving}
 use Rattle.session_laws.proofs.CommandEffects.{HasDone, done_by}
 use Rattle.session_laws.proofs.SoundMoves.{client_firsts, firsts}
@@ -221,11 +200,9 @@ read_once v d (Ok order) rise = order_once v d order rise
 
 item_once : (v : Tables) (d : Client) (item : Option Item) → Rises (client_serials v.clients) v.next_client
     → AreSaidOnce (ordered v d item).deed.effects
-item_once v d None rise = tt
-item_once v d (Some (typed b)) rise = tt
 item_once v d (Some (bound order)) rise = order_once v d order rise
-item_once v d (Some (line [])) rise = tt
 item_once v d (Some (line (b ∷ bs))) rise = read_once v d (read_line (b ∷ bs)) rise
+item_once v d item rise = tt
 
 keys_once : (t : Tables) (client : ℕ) (bytes : List ℕ) (c : Client) → client_at t client ≡ Some c → AreSound t
     → AreSaidOnce (keys_outcome t c (take (taken c.keys bytes) bytes)).effects
@@ -244,10 +221,6 @@ keys_once t client bytes c is s =
 
 -- ---- events
 
-deed_once : (a : Answer) (d : Deed) → a ≡ Ok d → Either SaysOnce a → AreSaidOnce d.effects
-deed_once (Ok e) d is all = let same : e ≡ d = cc (is) in subst (λ (x : Deed). AreSaidOnce x.effects) same all.effects
-deed_once (Err r) d is all = absurd (cc (is))
-
 gone_clients : (cs : List Client) → AreSaidOnce (map (λ (c : Client). Gone (peer.Client c.serial) reason.Detached) cs)
 gone_clients [] = tt
 gone_clients (c ∷ cs) = (tt, gone_clients cs)
@@ -263,24 +236,18 @@ input_once at bytes false = (tt, tt)
 abbrev Once : Outcome → Type 0
 Once o = AreSaidOnce o.effects
 
+happened : (t : Tables) (event : EventValue) (o : Outcome) → outcomes.Happens t event o → AreSound t → Once o
+happened t _ _ (outcomes.detached client c at) s = gone_clients (filter (λ (d : Client). d.serial == client) t.clients)
+happened t _ _ (outcomes.keyed client bytes c at) s = keys_once t client bytes c at s
+happened t _ _ (outcomes.obeyed user number bytes c d known read passes is) s =
+    (subst (Either SaysOnce) is (says_once t (line_caller t user number) c s.clients_rise)).effects
+happened t _ _ (outcomes.wrote window bytes v at) s =
+    input_once v.serial (reads (terminal_of v) bytes).reports (length (reads (terminal_of v) bytes).reports == 0)
+happened t _ _ (outcomes.closed window v at) s = gone_windows (filter (λ (x : Window). x.serial == window) t.windows)
+happened t _ _ h s = tt
+
 once : (t : Tables) (event : EventValue) → AreSound t → Once (outcome t event)
-once t (Detach client) s =
-    outcomes.found Once t (λ c. finished t [] done (parts (λ d. d.serial == client) reason.Detached t))
-    (client_at t client) tt (λ c is. gone_clients (filter (λ (d : Client). d.serial == client) t.clients))
-once t (Keys client bytes) s = outcomes.found Once t (λ c. keys_outcome t c (take (taken c.keys bytes) bytes))
-    (client_at t client) tt (λ c is. keys_once t client bytes c is s)
-once t (Command user number bytes) s =
-    outcomes.by_line Once t (line_caller t user number) (is_known t user) (read_line bytes) (λ vs f. tt)
-    (λ c d known read passes is. deed_once (does t (line_caller t user number) c) d is
-    (says_once t (line_caller t user number) c s.clients_rise))
-once t (Output window bytes) s =
-    outcomes.found Once t (λ v. finished t [] done (outputs t v bytes)) (window_at t window) tt
-    (λ v is. input_once v.serial (reads (terminal_of v) bytes).reports
-    (length (reads (terminal_of v) bytes).reports == 0))
-once t (Closed window) s =
-    outcomes.found Once t (λ v. finished t [] done (closes (λ x. x.serial == window) reason.Detached t))
-    (window_at t window) tt (λ v is. gone_windows (filter (λ (x : Window). x.serial == window) t.windows))
-once t event s = subst AreSaidOnce (sym (outcomes.quiet t event refl)) tt
+once t event s = happened t event (outcome t event) (outcomes.happens t event) s
 
 drawn_once : (t : Tables) (effects : List Effect) (o : Option Client) → MatchOption o (effects ≡ []) (IsDraw t effects)
     → AreSaidOnce effects

@@ -1,42 +1,21 @@
 -- Each event moves windows and clients as `Moves` says, unless it brings new ones.
-use Rattle.std.proofs.Common.{◌≡◌, ℕ, Bool, true, false, not, List, [], ◌∷◌, ◌++◌, Option, Some, None, Ok, Err, Result}
-use Rattle.std.proofs.Common.{refl, ap, sym, ◌∙◌, subst, map, filter, length, take, arith, append_assoc}
-use Rattle.std.specs.Prelude.{if◌then◌else◌, ◌==◌, ◌||◌}
-use Rattle.std.specs.Option.{option_and_then}
-use Rattle.acl.specs.declared.act.Act.{Act}
+use Rattle.session_laws.proofs.Vocabulary.{◌≡◌, ℕ, Bool, true, false, not, List, [], ◌∷◌, ◌++◌, Option, Some, None, Ok}
+use Rattle.session_laws.proofs.Vocabulary.{Err, Result, refl, ap, sym, ◌∙◌, subst, map, filter, length, take, arith}
+use Rattle.session_laws.proofs.Vocabulary.{append_assoc, if◌then◌else◌, ◌==◌, ◌||◌, option_and_then, Act, Order}
+use Rattle.session_laws.proofs.Vocabulary.{ParseFault, Item, bound, line, StatusMessage, Text, Refusal, Verdict, Tables}
+use Rattle.session_laws.proofs.Vocabulary.{Window, Client, row_of, window_at, client_at, with_client, focused}
+use Rattle.session_laws.proofs.Vocabulary.{is_in_focus, with_number, text_of, Caller, caller_of, line_caller, read_line}
+use Rattle.session_laws.proofs.Vocabulary.{checks, first_fault, verdicts, Deed, Answer, changing, parts, closes}
+use Rattle.session_laws.proofs.Vocabulary.{hearing, does, typed_bytes, command_item, taken, step_items, left_acts_of}
+use Rattle.session_laws.proofs.Vocabulary.{left_acts, finished, done, Outcome, reply_of, told, ordered, keyed}
+use Rattle.session_laws.proofs.Vocabulary.{with_listed, message_of, reading, keys_outcome, outputs, Reply, unread}
+use Rattle.session_laws.proofs.Vocabulary.{reads, Effect, EventValue, Attach, Open, terminal_of, input_of, outcome}
+use Rattle.session_laws.proofs.Vocabulary.{AreSound, ◌≤◌, Keys, Command, Draw, drawn, drawn_on, row_serial, itself}
+use Rattle.session_laws.proofs.Vocabulary.{equal}
 use Rattle.acl.specs.declared.act.Act.TheVariants as act
-use Rattle.command_lang.specs.declared.command.Command.{Command as Order}
-use Rattle.command_lang.specs.declared.fault.ParseFault.{ParseFault}
-use Rattle.keys.specs.Grammar.{Item, typed, bound, line}
 use Rattle.terminal_model.specs.Writing as written
 use Rattle.session_model.specs.declared.event.Reason.TheVariants as reason
-use Rattle.session_model.specs.declared.message.StatusMessage.{StatusMessage}
-use Rattle.session_model.specs.declared.message.StatusMessage.TheVariants.{Text}
-use Rattle.session_model.specs.declared.refusal.Refusal.{Refusal}
-use Rattle.session_model.specs.declared.verdict.Verdict.{Verdict}
-use Rattle.session_model.specs.Tables.{Tables, Window, Client, row_of, window_at, client_at, with_client, focused}
-use Rattle.session_model.specs.Tables.{is_in_focus}
-use Rattle.session_model.specs.Naming.{with_number}
-use Rattle.session_model.specs.Texts.{text_of}
-use Rattle.session_model.specs.Lines.{Caller, caller_of, line_caller, read_line}
-use Rattle.session_model.specs.Checks.{checks, first_fault, verdicts}
-use Rattle.session_model.specs.Deeds.{Deed, Answer, changing, parts, closes, hearing}
-use Rattle.session_model.specs.Commands.{does}
-use Rattle.session_model.specs.Keying.{typed_bytes, command_item, taken, step_items}
-use Rattle.session_model.specs.Outcomes.{left_acts_of, left_acts, finished, done, Outcome, reply_of}
-use Rattle.session_model.specs.Answering.{told, ordered, keyed, with_listed, message_of, reading, keys_outcome}
-use Rattle.session_model.specs.Comings.{outputs}
-use Rattle.session_model.specs.Trace.{Reply}
 use Rattle.session_model.specs.Answering as answering
-use Rattle.session_model.specs.Promises.{unread}
-use Rattle.terminal_model.specs.Reading.{reads}
-use Rattle.session_model.specs.declared.event.Effect.{Effect}
-use Rattle.session_model.specs.Trace.{EventValue, Attach, Open}
-use Rattle.session_model.specs.Terminals.{terminal_of}
-use Rattle.session_model.specs.Deeds.{input_of}
-use Rattle.session_model.specs.Events.{outcome}
-use Rattle.session_model.specs.Sound.{AreSound}
-use Rattle.session_laws.proofs.Lists.{row_serial, itself, equal}
 use Rattle.session_laws.proofs.DifferentNumbers.{serial_of, Differ}
 use Rattle.session_laws.proofs.Doing.{Either}
 use Rattle.session_laws.proofs.Moving.{AllAside, Moves, DeedMoves, id_of, ids, serials, closed, parted, stays}
@@ -156,11 +135,9 @@ read_moves v d (Ok order) = order_moves v d order
 
 item_moves : (v : Tables) (d : Client) (item : Option Item)
     → let e : Deed = (ordered v d item).deed in Moves v e.tables e.acts 0
-item_moves v d None = still_moves v
-item_moves v d (Some (typed b)) = still_moves v
 item_moves v d (Some (bound order)) = order_moves v d order
-item_moves v d (Some (line [])) = still_moves v
 item_moves v d (Some (line (b ∷ bs))) = read_moves v d (read_line (b ∷ bs))
+item_moves v d item = still_moves v
 
 -- the clients at the beginning are the same
 ids_unread : (cs : List Client) → map id_of cs ≡ map id_of (map unread cs)
@@ -229,10 +206,6 @@ pub line_row : (t : Tables) (number : Option ℕ) (w : Window) → Differ t.wind
 line_row t None w all is = absurd (cc (is))
 line_row t (Some n) w all is = number_row t.windows n w all is
 
-pub deed_moves : (t : Tables) (a : Answer) (d : Deed) → a ≡ Ok d → Either (DeedMoves t) a → DeedMoves t d
-deed_moves t (Ok e) d is m = let same : e ≡ d = cc (is) in subst (DeedMoves t) same m
-deed_moves t (Err r) d is m = absurd (cc (is))
-
 -- ---- all events but those that bring a new window or client
 
 abbrev pub is_new : EventValue → Bool
@@ -255,7 +228,7 @@ moved t _ _ (outcomes.keyed client bytes c at) s other = keys_moves t client byt
 moved t _ _ (outcomes.obeyed user number bytes c d known read passes is) s other =
     let k : Caller = line_caller t user number in
     finished_moves t d _ (verdicts t (checks t k c)) (reply_of 0 0 0 d.lists)
-    (deed_moves t (does t k c) d is
+    (subst (Either (DeedMoves t)) is
     (moves t k (λ w at. line_row t number w (differ t.windows t.next_window s.windows_rise) at) c))
 moved t _ _ (outcomes.wrote window bytes v is) s other =
     let effects : List Effect = input_of v.serial (reads (terminal_of v) bytes).reports in
@@ -271,3 +244,35 @@ moved t _ _ h s other = absurd (cc (other))
 
 pub moving : (t : Tables) (event : EventValue) → AreSound t → is_new event ≡ false → MovesTo t (outcome t event)
 moving t event s other = moved t event (outcome t event) (outcomes.happens t event) s other
+
+-- ---- the next serials
+
+-- they don't fall
+abbrev pub Grown : Tables → Tables → Type 0
+Grown t u = (t.next_window ≤ u.next_window) × (t.next_client ≤ u.next_client)
+
+same_next : (a b : ℕ) → a ≡ b → b ≤ a
+same_next a b is = omega (arith, is)
+
+by_moves : (t : Tables) (o : Outcome) → MovesTo t o → Grown t o.tables
+by_moves t o m = (same_next _ _ m.next_window, same_next _ _ m.next_client)
+
+grown : (t : Tables) (event : EventValue) (o : Outcome) → outcomes.Happens t event o → AreSound t → Grown t o.tables
+grown t _ _ (outcomes.keyed client bytes c at) s = by_moves t (keys_outcome t c (take (taken c.keys bytes) bytes))
+    (moved t (Keys client bytes) _ (outcomes.keyed client bytes c at) s refl)
+grown t _ _ (outcomes.obeyed user number bytes c d known read passes is) s = by_moves t
+    (finished t (verdicts t (checks t (line_caller t user number) c)) (reply_of 0 0 0 d.lists) d)
+    (moved t (Command user number bytes) _ (outcomes.obeyed user number bytes c d known read passes is) s refl)
+grown t _ _ h s = (omega arith, omega arith)
+
+drawn_grown : (t u : Tables) (o : Option Client) (effects : List Effect) → Grown t u → Grown t (drawn_on o effects u)
+drawn_grown t u None effects g = g
+drawn_grown t u (Some c) effects g = g
+
+pub after_grows : (t : Tables) (event : EventValue) (effects : List Effect) → AreSound t
+    → Grown t (drawn event effects (outcome t event).tables)
+after_grows t (Draw client) effects s =
+    let u : Tables = (outcome t (Draw client)).tables in
+    drawn_grown t u (client_at u client) effects (grown t (Draw client) (outcome t (Draw client))
+    (outcomes.happens t (Draw client)) s)
+after_grows t event effects s = grown t event (outcome t event) (outcomes.happens t event) s

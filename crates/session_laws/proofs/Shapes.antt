@@ -2,44 +2,24 @@
 -- each kind.
 -- A kind that only one command does names that command by an equation: a match on the command would
 -- have to be made again for each of them.
-use Rattle.std.proofs.Common.{◌≡◌, ℕ, ◌-◌, true, false, not, List, [], ◌∷◌, ◌++◌, Option, Some, None, Ok, Err, refl, ap}
-use Rattle.std.specs.Prelude.{◌==◌, slice_get, codes}
-use Rattle.std.specs.Option.{option_map, option_map_or, option_and_then}
-use Rattle.acl.specs.declared.act.Act.{Act}
+use Rattle.session_laws.proofs.Vocabulary.{◌≡◌, ℕ, ◌-◌, true, false, not, List, [], ◌∷◌, ◌++◌, Option, Some, None, Ok}
+use Rattle.session_laws.proofs.Vocabulary.{Err, refl, ap, ◌==◌, slice_get, codes, option_map, option_map_or}
+use Rattle.session_laws.proofs.Vocabulary.{option_and_then, Act, LockMode, Object, BitChange, UserId, named_by}
+use Rattle.session_laws.proofs.Vocabulary.{change_fault, known_name_fault, group_acts, mask_fault, mask_acts, Order}
+use Rattle.session_laws.proofs.Vocabulary.{Leader, Mask, Users, Arrangement, empty, Writing, Size, Detached, Killed}
+use Rattle.session_laws.proofs.Vocabulary.{Quit, SingleUser, Refusal, Acl, Windows, NoWindow, NoSuchWindow, Tables}
+use Rattle.session_laws.proofs.Vocabulary.{Window, Client, window_at, with_window, focused, known_users, leaders_in}
+use Rattle.session_laws.proofs.Vocabulary.{add_acts_in, group_fault_in, names_of, objects_of, every_window}
+use Rattle.session_laws.proofs.Vocabulary.{every_command, new_leader_of, window_named, window_after, window_before}
+use Rattle.session_laws.proofs.Vocabulary.{group_text, Caller, Deed, Answer, given, unless, removes, parts, closes}
+use Rattle.session_laws.proofs.Vocabulary.{is_of, selects, enters, arranges, former_of, changing, acting, listing, both}
+use Rattle.session_laws.proofs.Vocabulary.{input_of, tells, writes, shown_in_focus, does, caller_client, on_client}
+use Rattle.session_laws.proofs.Vocabulary.{known_fault, changing_bits, mask_entries, is_taken, coding_of, told_by}
+use Rattle.session_laws.proofs.Vocabulary.{needs, order_writing}
 use Rattle.acl.specs.declared.act.Act.TheVariants as act
-use Rattle.acl.specs.declared.act.LockMode.{LockMode}
-use Rattle.acl.specs.declared.act.Object.{Object}
-use Rattle.acl.specs.declared.bits.BitChange.{BitChange}
-use Rattle.acl.specs.declared.user_id.UserId.{UserId}
-use Rattle.acl.specs.Names.{named_by, name_of}
-use Rattle.acl.specs.Commands.{change_fault, known_name_fault, group_acts, mask_fault, mask_acts}
-use Rattle.command_lang.specs.declared.command.Command.{Command as Order}
+use Rattle.acl.specs.Names.{name_of}
 use Rattle.command_lang.specs.declared.command.Command.TheVariants as command
-use Rattle.command_lang.specs.declared.command.Leader.{Leader}
-use Rattle.command_lang.specs.declared.command.Mask.{Mask}
-use Rattle.command_lang.specs.declared.command.Users.{Users}
-use Rattle.regions.specs.Layouts.{Arrangement, empty}
-use Rattle.terminal_model.specs.Writing.{Writing}
 use Rattle.terminal_model.specs.Writing as written
-use Rattle.session_model.specs.declared.event.Effect.TheVariants.{Size}
-use Rattle.session_model.specs.declared.event.Reason.TheVariants.{Detached, Killed, Quit, SingleUser}
-use Rattle.session_model.specs.declared.refusal.Refusal.{Refusal}
-use Rattle.session_model.specs.declared.refusal.Refusal.TheVariants.{Acl, Windows, NoWindow}
-use Rattle.session_model.specs.windows_fault.WindowsFault.TheVariants.{NoSuchWindow}
-use Rattle.session_model.specs.Tables.{Tables, Window, Client, window_at, with_window, focused, known_users}
-use Rattle.session_model.specs.Rights.{leaders_in, add_acts_in, group_fault_in}
-use Rattle.session_model.specs.Naming.{names_of, objects_of, every_window, every_command, new_leader_of, window_named}
-use Rattle.session_model.specs.Naming.{window_after, window_before}
-use Rattle.session_model.specs.Texts.{group_text}
-use Rattle.session_model.specs.Lines.{Caller}
-use Rattle.session_model.specs.Deeds.{Deed, Answer, given, unless, removes, parts, closes, is_of, selects, enters}
-use Rattle.session_model.specs.Deeds.{arranges, former_of, changing, acting, listing, both, input_of, tells, writes}
-use Rattle.session_model.specs.Deeds.{shown_in_focus}
-use Rattle.session_model.specs.Commands.{does, caller_client, on_client, known_fault, changing_bits, mask_entries}
-use Rattle.session_model.specs.Commands.{is_taken, coding_of}
-use Rattle.session_model.specs.Denying.{told_by}
-use Rattle.command_lang.specs.Needs.{needs}
-use Rattle.session_laws.specs.Written.{order_writing}
 use Rattle.session_laws.proofs.Doing.{Either, is_plain, giving, by_given, by_unless, by_refused, by_clear, by_changes}
 use Rattle.session_laws.proofs.Doing.{by_shown}
 use Rattle.session_laws.proofs.Moving.{AllRights, change_rights, add_rights, group_rights, mask_rights}

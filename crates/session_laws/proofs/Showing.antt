@@ -1,17 +1,11 @@
 -- Windows that commands name are open, and pages show open windows.
-use Rattle.std.proofs.Common.{◌≡◌, ℕ, zero, suc, ◌+◌, Bool, true, false, List, [], ◌∷◌, ◌++◌, Option, Some, None, refl}
-use Rattle.std.proofs.Common.{ap, sym, ◌∙◌, subst, filter, take, drop, inl, inr, ⊎_elim, arith}
-use Rattle.std.specs.Prelude.{if◌then◌else◌, ◌==◌, nat_lt, MatchOption, slice_get, slice_set, unwrap_or, find}
-use Rattle.std.specs.List.{AllByRecursion, insert, remove}
-use Rattle.std.specs.Option.{option_and_then, option_or}
-use Rattle.session_model.specs.Naming.{spelled}
-use Rattle.regions.specs.declared.shown.Shown.{Shown}
-use Rattle.regions.specs.Layouts.{Arrangement, empty}
-use Rattle.session_model.specs.Tables.{Tables, Window, Client, with_row, window_at}
-use Rattle.session_model.specs.Naming.{with_number, lower, lowest, higher, highest, window_named, window_after}
-use Rattle.session_model.specs.Naming.{window_before}
-use Rattle.session_model.specs.Promises.{SomeOf}
-use Rattle.session_laws.proofs.Lists.{all_append, some_row}
+use Rattle.session_laws.proofs.Vocabulary.{◌≡◌, ℕ, zero, suc, ◌+◌, Bool, true, false, List, [], ◌∷◌, ◌++◌, Option, Some}
+use Rattle.session_laws.proofs.Vocabulary.{None, refl, ap, sym, ◌∙◌, subst, filter, take, drop, inl, inr, ⊎_elim, arith}
+use Rattle.session_laws.proofs.Vocabulary.{if◌then◌else◌, ◌==◌, nat_lt, MatchOption, slice_get, slice_set, unwrap_or}
+use Rattle.session_laws.proofs.Vocabulary.{find, AllByRecursion, insert, remove, option_and_then, option_or, spelled}
+use Rattle.session_laws.proofs.Vocabulary.{Shown, Arrangement, empty, Tables, Window, Client, with_row, window_at}
+use Rattle.session_laws.proofs.Vocabulary.{with_number, lower, lowest, higher, highest, window_named, window_after}
+use Rattle.session_laws.proofs.Vocabulary.{window_before, SomeOf, all_append, some_row}
 use Rattle.session_laws.proofs.DifferentNumbers.{serial_of}
 
 -- ---- lists

@@ -1,24 +1,15 @@
 -- Commands, whether read from a line or bound to keys, give windows numbers below 40.
-use Rattle.std.proofs.Common.{◌≡◌, ℕ, zero, suc, ◌<◌, Bool, true, false, List, [], ◌∷◌, ◌++◌, Option, Some, None}
-use Rattle.std.proofs.Common.{Result, Ok, Err, drop, refl, ap, sym, ◌∙◌, arith}
-use Rattle.std.specs.Prelude.{◌==◌, if◌then◌else◌, find, length}
-use Rattle.std.specs.List.{AllByRecursion, list_all}
-use Rattle.std.specs.Option.{option_map, option_map_or}
-use Rattle.std.specs.Str.{chars}
-use Rattle.command_lang.specs.declared.command.Command.{Command as Order}
+use Rattle.session_laws.proofs.Vocabulary.{◌≡◌, ℕ, zero, suc, Bool, true, false, List, [], ◌∷◌, ◌++◌, Option, Some}
+use Rattle.session_laws.proofs.Vocabulary.{None, Result, Ok, Err, drop, refl, ap, sym, ◌∙◌, ◌==◌, if◌then◌else◌, find}
+use Rattle.session_laws.proofs.Vocabulary.{length, AllByRecursion, list_all, option_map, option_map_or, chars, Order}
+use Rattle.session_laws.proofs.Vocabulary.{AreSmall, line_small, ParseFault, words, line_command, first_of, faults_of}
+use Rattle.session_laws.proofs.Vocabulary.{command_or, Item, typed, bound, line, Rest, nothing, command_key, prompt}
+use Rattle.session_laws.proofs.Vocabulary.{bindings, binding, bound_items, key_items, line_items, line_after_key}
+use Rattle.session_laws.proofs.Vocabulary.{ends_line, stays, rest_step, items_from, items, Client, items_behind}
+use Rattle.session_laws.proofs.Vocabulary.{is_command, command_item, step_items, taken, all_append, and_first}
+use Rattle.session_laws.proofs.Vocabulary.{and_second}
+use Rattle.command_lang.specs.Relation.{read_line}
 pub use Rattle.command_lang.proofs.Numbers.{is_small, small_below}
-use Rattle.command_lang.proofs.Numbers.{AreSmall, line_small}
-use Rattle.command_lang.specs.declared.fault.ParseFault.{ParseFault}
-use Rattle.command_lang.specs.Lines.{words}
-use Rattle.command_lang.specs.Meaning.{line_command}
-use Rattle.command_lang.specs.Table.{first_of}
-use Rattle.command_lang.specs.Relation.{faults_of, command_or, read_line}
-use Rattle.keys.specs.Grammar.{Item, typed, bound, line, Rest, nothing, command_key, prompt, bindings, binding}
-use Rattle.keys.specs.Grammar.{bound_items, key_items, line_items, line_after_key, ends_line, stays, rest_step}
-use Rattle.keys.specs.Grammar.{items_from, items}
-use Rattle.session_model.specs.Tables.{Client}
-use Rattle.session_model.specs.Keying.{items_behind, is_command, command_item, step_items, taken}
-use Rattle.session_laws.proofs.Lists.{all_append, and_first, and_second}
 
 pub read_small : (text : List ℕ) (c : Order) → read_line text ≡ Ok c → is_small c ≡ true
 read_small text c is = on (first_of (faults_of text)) is where

@@ -1,13 +1,8 @@
 -- Tables stay sound when windows and clients move.
-use Rattle.std.proofs.Common.{◌≡◌, ℕ, ◌+◌, ◌<◌, ◌≤◌, Bool, true, false, not, List, [], ◌∷◌, ◌++◌, None, refl, ap, sym}
-use Rattle.std.proofs.Common.{◌∙◌, subst, map, filter, length, arith}
-use Rattle.std.specs.Prelude.{if◌then◌else◌, ◌==◌}
-use Rattle.std.specs.List.{AllByRecursion}
-use Rattle.std.proofs.lemmas.Bool.Decides.{nat_tests}
-use Rattle.acl.specs.declared.user_id.UserId.{UserId}
-use Rattle.acl.specs.declared.act.Act.{Act}
-use Rattle.session_model.specs.Tables.{Tables, Window, Client, row_of}
-use Rattle.session_model.specs.Sound.{Rises, AreSound, AreSoundRows, client_serials}
+use Rattle.session_laws.proofs.Vocabulary.{◌≡◌, ℕ, ◌+◌, ◌<◌, ◌≤◌, Bool, true, false, not, List, [], ◌∷◌, ◌++◌, None}
+use Rattle.session_laws.proofs.Vocabulary.{refl, ap, sym, ◌∙◌, subst, map, filter, length, arith, if◌then◌else◌, ◌==◌}
+use Rattle.session_laws.proofs.Vocabulary.{AllByRecursion, nat_tests, UserId, Act, Tables, Window, Client, row_of}
+use Rattle.session_laws.proofs.Vocabulary.{Rises, AreSound, AreSoundRows, client_serials}
 use Rattle.session_laws.proofs.DifferentNumbers.{serial_of, Differ}
 use Rattle.session_laws.proofs.Moving.{Moves, id_of, ids, serials}
 use Rattle.session_laws.proofs.CommandMoves.{length_map, length_filter}

@@ -1,31 +1,15 @@
 -- After each event, the tables are sound.
-use Rattle.std.proofs.Common.{◌≡◌, ℕ, ◌+◌, ◌<◌, ◌≤◌, ◌^◌, Bool, true, List, [], ◌∷◌, ◌++◌, Option, Some, None, refl, ap}
-use Rattle.std.proofs.Common.{sym, ◌∙◌, subst, map, length, arith}
-use Rattle.std.specs.Prelude.{◌&&◌, nat_lt, is_some}
-use Rattle.std.proofs.lemmas.Bool.Decides.{nat_tests}
-use Rattle.acl.specs.declared.user_id.UserId.{UserId}
-use Rattle.acl.specs.declared.command_name.CommandName.TheVariants.{Screen}
-use Rattle.acl.specs.declared.bits.Bit.TheVariants.{Execute}
+use Rattle.session_laws.proofs.Vocabulary.{◌≡◌, ℕ, ◌+◌, ◌<◌, ◌≤◌, ◌^◌, Bool, true, List, [], ◌∷◌, ◌++◌, Option, Some}
+use Rattle.session_laws.proofs.Vocabulary.{None, refl, ap, sym, ◌∙◌, subst, map, length, arith, ◌&&◌, nat_lt, is_some}
+use Rattle.session_laws.proofs.Vocabulary.{nat_tests, UserId, Screen, Execute, View, Check, right, must, Effect}
+use Rattle.session_laws.proofs.Vocabulary.{NotMultiuser, UnknownUser, TooManyClients, BadSize, Windows, Full, BadTitle}
+use Rattle.session_laws.proofs.Vocabulary.{EventValue, Attach, Open, Draw, Entry, Tables, Window, Client, client_at}
+use Rattle.session_laws.proofs.Vocabulary.{is_known, fresh, free_number, is_title, first_fault, verdicts, outcome}
+use Rattle.session_laws.proofs.Vocabulary.{attach_checks, attaches, new_client, open_checks, opens, new_window}
+use Rattle.session_laws.proofs.Vocabulary.{has_place, is_client_size, is_window_size, is_let_in, reply_of, granted_view}
+use Rattle.session_laws.proofs.Vocabulary.{drawn, drawn_on, with_drawn, tables_from, Rises, AreSound, client_serials}
+use Rattle.session_laws.proofs.Vocabulary.{window_serials, and_first}
 use Rattle.acl.specs.declared.act.Object.TheVariants as object
-use Rattle.terminal_model.specs.Shows.{View}
-use Rattle.session_model.specs.declared.check.Check.{Check}
-use Rattle.session_model.specs.declared.check.Check.TheVariants.{Right as right, Must as must}
-use Rattle.session_model.specs.declared.event.Effect.{Effect}
-use Rattle.session_model.specs.declared.refusal.Refusal.TheVariants.{NotMultiuser, UnknownUser, TooManyClients, BadSize}
-use Rattle.session_model.specs.declared.refusal.Refusal.TheVariants.{Windows}
-use Rattle.session_model.specs.windows_fault.WindowsFault.TheVariants.{Full, BadTitle}
-use Rattle.session_model.specs.Trace.{EventValue, Attach, Open, Draw, Entry}
-use Rattle.session_model.specs.Tables.{Tables, Window, Client, client_at, is_known, fresh}
-use Rattle.session_model.specs.Naming.{free_number, is_title}
-use Rattle.session_model.specs.Checks.{first_fault, verdicts}
-use Rattle.session_model.specs.Events.{outcome}
-use Rattle.session_model.specs.Comings.{attach_checks, attaches, new_client, open_checks, opens, new_window, has_place}
-use Rattle.session_model.specs.Comings.{is_client_size, is_window_size, is_let_in}
-use Rattle.session_model.specs.Outcomes.{reply_of}
-use Rattle.session_model.specs.Granted.{granted_view}
-use Rattle.session_model.specs.Run.{drawn, drawn_on, with_drawn, tables_from}
-use Rattle.session_model.specs.Sound.{Rises, AreSound, client_serials, window_serials}
-use Rattle.session_laws.proofs.Lists.{and_first}
 use Rattle.session_laws.proofs.DifferentNumbers.{more_numbers, number_free}
 use Rattle.session_laws.proofs.Passing.{behind, first_passes}
 use Rattle.session_laws.proofs.Moving.{id_of, ids}

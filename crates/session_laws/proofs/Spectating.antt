@@ -1,41 +1,18 @@
 -- A step of a spectator changes the spectator's own client alone; Spectators proves what others keep.
-use Rattle.std.proofs.Common.{◌≡◌, ◌<◌, ℕ, Bool, true, false, List, [], ◌∷◌, ◌++◌, Option, Some, None, Ok, Err, Result}
-use Rattle.std.proofs.Common.{refl, ap, ◌∙◌, subst, arith}
-use Rattle.std.specs.Prelude.{if◌then◌else◌, ◌==◌}
-use Rattle.std.specs.List.{AllByRecursion}
-use Rattle.acl.specs.declared.user_id.UserId.{UserId}
-use Rattle.acl.specs.declared.act.Act.{Act}
+use Rattle.session_laws.proofs.Vocabulary.{◌≡◌, ◌<◌, ℕ, Bool, true, false, List, [], ◌∷◌, ◌++◌, Option, Some, None, Ok}
+use Rattle.session_laws.proofs.Vocabulary.{Err, Result, refl, ap, ◌∙◌, subst, arith, if◌then◌else◌, ◌==◌}
+use Rattle.session_laws.proofs.Vocabulary.{AllByRecursion, UserId, Act, Write, Execute, CommandName, followed_by, may}
+use Rattle.session_laws.proofs.Vocabulary.{same_user, Order, ParseFault, name_of, Item, bound, line, unlocked, Say}
+use Rattle.session_laws.proofs.Vocabulary.{StatusMessage, Refusal, Line, NoWindow, Tables, Window, Client, row_of}
+use Rattle.session_laws.proofs.Vocabulary.{with_client, focused_window, may_in, text_of, Caller, caller_of, read_line}
+use Rattle.session_laws.proofs.Vocabulary.{first_fault, checks, checks_by, typing_checks, needs, entry_denial, Deed}
+use Rattle.session_laws.proofs.Vocabulary.{Answer, changing, does, caller_client, ruling, items_behind, typed_bytes}
+use Rattle.session_laws.proofs.Vocabulary.{command_item, left_acts, types, says, says_why, message_of, with_listed}
+use Rattle.session_laws.proofs.Vocabulary.{keyed, by_line, ordered, unsaid, reading, input_in, Rises, client_serials}
+use Rattle.session_laws.proofs.Vocabulary.{not_so, row_serial, equal, all_append, all_filter, is_watching}
+use Rattle.session_laws.proofs.Vocabulary.{others_clients, IsSpectator}
 use Rattle.acl.specs.declared.act.Object.TheVariants as object
-use Rattle.acl.specs.declared.bits.Bit.TheVariants.{Write, Execute}
-use Rattle.acl.specs.declared.command_name.CommandName.{CommandName}
-use Rattle.acl.specs.History.{followed_by, may}
-use Rattle.acl.specs.Same.{same_user}
-use Rattle.command_lang.specs.declared.command.Command.{Command as Order}
-use Rattle.command_lang.specs.declared.fault.ParseFault.{ParseFault}
-use Rattle.command_lang.specs.Names.{name_of}
-use Rattle.keys.specs.Grammar.{Item, typed, bound, line}
-use Rattle.session_model.specs.declared.check.Check.TheVariants.{Unlocked as unlocked}
-use Rattle.session_model.specs.declared.event.Effect.TheVariants.{Say}
-use Rattle.session_model.specs.declared.message.StatusMessage.{StatusMessage}
-use Rattle.session_model.specs.declared.refusal.Refusal.{Refusal}
-use Rattle.session_model.specs.declared.refusal.Refusal.TheVariants.{Line, NoWindow}
-use Rattle.session_model.specs.Tables.{Tables, Window, Client, row_of, with_client, focused_window}
-use Rattle.session_model.specs.Rights.{may_in}
-use Rattle.session_model.specs.Texts.{text_of}
-use Rattle.session_model.specs.Lines.{Caller, caller_of, read_line}
-use Rattle.session_model.specs.Checks.{first_fault, checks, checks_by, typing_checks}
-use Rattle.command_lang.specs.Needs.{needs}
-use Rattle.session_model.specs.Denials.{entry_denial}
-use Rattle.session_model.specs.Deeds.{Deed, Answer, changing}
-use Rattle.session_model.specs.Commands.{does, caller_client, ruling}
-use Rattle.session_model.specs.Keying.{items_behind, typed_bytes, command_item}
-use Rattle.session_model.specs.Outcomes.{left_acts}
-use Rattle.session_model.specs.Answering.{types, says, says_why, message_of, with_listed, keyed, by_line, ordered}
-use Rattle.session_model.specs.Answering.{unsaid, reading, input_in}
-use Rattle.session_model.specs.Sound.{Rises, client_serials}
-use Rattle.session_laws.proofs.Lists.{row_serial, equal, all_append, all_filter}
 use Rattle.session_laws.proofs.Events.{all_left}
-use Rattle.session_laws.specs.Watching.{is_watching, others_clients, IsSpectator}
 use Rattle.session_laws.proofs.Watching.{is_presence, Presence, is_it, is_to, IfDone, AllHis, Still, as_before, put}
 use Rattle.session_laws.proofs.Watching.{told_still, Leaves, watched}
 
@@ -47,10 +24,7 @@ later_differ s [] all = tt
 later_differ s (c ∷ cs) all = (all.0, later_differ s cs all.1)
 
 differs : (s n : ℕ) → s < n → (n == s) ≡ false
-differs s n less = on (n == s) refl where
-  on : (b : Bool) → (n == s) ≡ b → b ≡ false
-  on false is = refl
-  on true is = let same : n ≡ s = equal n s is in absurd (omega (arith, less, same))
+differs s n less = not_so (n == s) (λ is. let same : n ≡ s = equal n s is in absurd (omega (arith, less, same)))
 
 none_later : (user : UserId) (s : ℕ) (cs : List Client) → AllByRecursion (λ (c : Client). s < c.serial) cs
     → AllHis user (Some s) cs
@@ -183,11 +157,9 @@ module _ (user : UserId) (own : Option ℕ) (t : Tables) (watches : IsSpectator 
         (answer_of v (caller_of v c) order mine s (of_own v))
 
     itemed : (v : Tables) (item : Option Item) → Still user own t v → Of (ordered v c item).deed
-    itemed v None s = record { tables = s; acts = tt; effects = tt }
-    itemed v (Some (typed b)) s = record { tables = s; acts = tt; effects = tt }
     itemed v (Some (bound order)) s = lined v (Ok order) s
-    itemed v (Some (line [])) s = record { tables = s; acts = tt; effects = tt }
     itemed v (Some (line (b ∷ bytes))) s = lined v (read_line (b ∷ bytes)) s
+    itemed v item s = record { tables = s; acts = tt; effects = tt }
 
     may_not : (v : Tables) (w : ℕ) → Still user own t v → may_in v c.user Write (object.Window w) ≡ false
     may_not v w s =

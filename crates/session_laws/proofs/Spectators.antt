@@ -1,56 +1,28 @@
 -- What a spectator's step does: its acts say where the user is, and its effects are for the user.
-use Rattle.std.proofs.Common.{◌≡◌, ℕ, Bool, true, false, not, List, [], ◌∷◌, ◌++◌, Option, Some, None, Ok, Err, Result}
-use Rattle.std.proofs.Common.{refl, ap, sym, ◌∙◌, subst, take}
-use Rattle.std.specs.Prelude.{if◌then◌else◌, ◌==◌, ◌&&◌, ◌^◌, nat_lt, MatchOption}
-use Rattle.std.specs.List.{AllByRecursion}
-use Rattle.std.specs.Option.{option_map, option_map_or}
-use Rattle.acl.specs.declared.user_id.UserId.{UserId}
-use Rattle.acl.specs.declared.act.Act.{Act}
+use Rattle.session_laws.proofs.Vocabulary.{◌≡◌, ℕ, Bool, true, false, not, List, [], ◌∷◌, ◌++◌, Option, Some, None, Ok}
+use Rattle.session_laws.proofs.Vocabulary.{Err, Result, refl, ap, sym, ◌∙◌, subst, take, if◌then◌else◌, ◌==◌, ◌&&◌, ◌^◌}
+use Rattle.session_laws.proofs.Vocabulary.{nat_lt, MatchOption, AllByRecursion, option_map, option_map_or, UserId, Act}
+use Rattle.session_laws.proofs.Vocabulary.{Execute, followed_by, same_user, same_user-refl, Order, ParseFault, Check}
+use Rattle.session_laws.proofs.Vocabulary.{must, is_title, Full, BadTitle, Effect, Deliver, Say, Gone, Refusal, Line}
+use Rattle.session_laws.proofs.Vocabulary.{BadSize, NoWindow, UnknownUser, NotMultiuser, Windows, Verdict, EventValue}
+use Rattle.session_laws.proofs.Vocabulary.{Attach, Detach, Keys, Command, Open, Output, Closed, Draw, Reply, Tables}
+use Rattle.session_laws.proofs.Vocabulary.{Client, client_at, with_client, focused, is_known, may_in, Caller}
+use Rattle.session_laws.proofs.Vocabulary.{line_caller, read_line, first_fault, verdicts, entry_denial, Deed, Answer}
+use Rattle.session_laws.proofs.Vocabulary.{changing, parts, entering, ruling, taken, Outcome, left_acts, finished}
+use Rattle.session_laws.proofs.Vocabulary.{refused, done, reply_of, where_passed, outcome, attach_checks, attaches}
+use Rattle.session_laws.proofs.Vocabulary.{new_client, open_checks, opens, new_window, is_window_size, is_let_in}
+use Rattle.session_laws.proofs.Vocabulary.{has_place, line_ruling, answered, commanded, keys_outcome, granted_view}
+use Rattle.session_laws.proofs.Vocabulary.{AreFit, HasEffects, IsDraw, DrawsWhereNeeded, drawn, drawn_on, with_drawn}
+use Rattle.session_laws.proofs.Vocabulary.{row_serial, equal, itself, user_of, is_client_of, others_clients}
+use Rattle.session_laws.proofs.Vocabulary.{is_for_theirs, IsSpectator}
 use Rattle.acl.specs.declared.act.Object.TheVariants as object
-use Rattle.acl.specs.declared.bits.Bit.TheVariants.{Execute}
 use Rattle.acl.specs.declared.command_name.CommandName.TheVariants as name
-use Rattle.acl.specs.History.{followed_by}
-use Rattle.acl.specs.Same.{same_user}
-use Rattle.acl.proofs.StandsForLemmas.{same_user-refl}
-use Rattle.command_lang.specs.declared.command.Command.{Command as Order}
-use Rattle.command_lang.specs.declared.fault.ParseFault.{ParseFault}
-use Rattle.session_model.specs.declared.check.Check.{Check}
-use Rattle.session_model.specs.declared.check.Check.TheVariants.{Must as must}
-use Rattle.session_model.specs.Naming.{is_title}
-use Rattle.session_model.specs.windows_fault.WindowsFault.TheVariants.{Full, BadTitle}
-use Rattle.session_model.specs.declared.event.Effect.{Effect}
-use Rattle.session_model.specs.declared.event.Effect.TheVariants.{Input, Deliver, Say, Size, Gone}
 use Rattle.session_model.specs.declared.event.Peer.TheVariants as peer
 use Rattle.session_model.specs.declared.event.Reason.TheVariants as reason
-use Rattle.session_model.specs.declared.refusal.Refusal.{Refusal}
-use Rattle.session_model.specs.declared.refusal.Refusal.TheVariants.{Line, BadSize, NoWindow, UnknownUser, NotMultiuser}
-use Rattle.session_model.specs.declared.refusal.Refusal.TheVariants.{Windows}
-use Rattle.session_model.specs.declared.verdict.Verdict.{Verdict}
-use Rattle.session_model.specs.Trace.{EventValue, Attach, Detach, Keys, Command, Open, Output, Closed, Draw, Reply}
-use Rattle.session_model.specs.Tables.{Tables, Client, client_at, with_client, focused, is_known}
-use Rattle.session_model.specs.Rights.{may_in}
-use Rattle.session_model.specs.Lines.{Caller, line_caller, read_line}
-use Rattle.session_model.specs.Checks.{first_fault, verdicts}
-use Rattle.session_model.specs.Denials.{entry_denial}
-use Rattle.session_model.specs.Deeds.{Deed, Answer, changing, parts, entering}
-use Rattle.session_model.specs.Commands.{ruling}
-use Rattle.session_model.specs.Keying.{taken}
-use Rattle.session_model.specs.Outcomes.{Outcome, left_acts, finished, refused, done, reply_of, where_passed}
-use Rattle.session_model.specs.Events.{outcome}
-use Rattle.session_model.specs.Comings.{attach_checks, attaches, new_client, open_checks, opens, new_window}
-use Rattle.session_model.specs.Comings.{is_window_size, is_let_in, has_place}
-use Rattle.session_model.specs.Answering.{line_ruling, answered, commanded, keys_outcome}
-use Rattle.session_model.specs.Granted.{granted_view}
-use Rattle.session_model.specs.Sound.{AreFit}
-use Rattle.session_model.specs.Run.{HasEffects, IsDraw, DrawsWhereNeeded, drawn, drawn_on, with_drawn}
-use Rattle.session_laws.proofs.Lists.{row_serial, equal, itself}
 use Rattle.session_laws.proofs.Leaving.{none_left}
 use Rattle.session_laws.proofs.Outcomes.{Change, change_of, Changes, changes}
 use Rattle.session_laws.proofs.Drawing.{draw_after}
-use Rattle.session_laws.specs.Locking.{user_of}
 use Rattle.session_laws.proofs.Events.{changed_by}
-use Rattle.session_laws.specs.Observed.{is_client_of}
-use Rattle.session_laws.specs.Watching.{others_clients, is_for_theirs, IsSpectator}
 use Rattle.session_laws.proofs.Watching.{Presence, is_it, is_to, AllTo, IfDone, AllHis, Still, as_before}
 use Rattle.session_laws.proofs.Watching.{put, parted_by, Leaves}
 use Rattle.session_laws.proofs.Spectating.{all_theirs, Stepped, stays, did, answer_of, keys_leave}
@@ -68,9 +40,7 @@ for_theirs : (t : Tables) (user : UserId) (own : Option ℕ) (f : Effect)
 for_theirs t user own (Say n bytes) mine is = mine n is
 for_theirs t user own (Deliver n bytes) mine is = mine n is
 for_theirs t user own (Gone (peer.Client n) why) mine is = mine n is
-for_theirs t user own (Input w bytes) mine is = is
-for_theirs t user own (Size w rows columns) mine is = is
-for_theirs t user own (Gone (peer.Window w) why) mine is = is
+for_theirs t user own f mine is = is
 
 all_for_theirs : (t : Tables) (user : UserId) (own : Option ℕ) (fs : List Effect)
     → ((n : ℕ) → is_it own n ≡ true → is_client_of t user n ≡ true) → AllTo own fs
@@ -206,12 +176,7 @@ module _ (t : Tables) (user : UserId) (fit : AreFit t) (watches : IsSpectator t 
     drew : (effects : List Effect) → DrawsWhereNeeded t c effects → AllTo (Some client) effects
     drew [] draws = tt
     drew (Deliver to bytes ∷ []) draws = (ap (λ n. n == client) draws.0 ∙ is_own, tt)
-    drew (Deliver to bytes ∷ f ∷ fs) draws = absurd draws
-    drew (Input w bytes ∷ fs) draws = absurd draws
-    drew (Say to bytes ∷ fs) draws = absurd draws
-    drew (Size w rows columns ∷ fs) draws = absurd draws
-    drew (Gone (peer.Window w) why ∷ fs) draws = absurd draws
-    drew (Gone (peer.Client d) why ∷ fs) draws = absurd draws
+    drew effects draws = absurd draws
 
     with_own : (effects : List Effect) (v : Tables) → Still user (Some client) t v
         → Still user (Some client) t (with_client v (with_drawn effects (granted_view v c) c))

@@ -1,38 +1,20 @@
 -- After each event, the tables are fit.
-use Rattle.std.proofs.Common.{◌≡◌, ℕ, zero, suc, ◌+◌, ◌<◌, Bool, true, false, List, [], ◌∷◌, ◌++◌, Option, Some, None}
-use Rattle.std.proofs.Common.{Ok, Err, Result, refl, ap, sym, ◌∙◌, subst, map, take, find, arith}
-use Rattle.std.specs.Prelude.{if◌then◌else◌, ◌==◌, ◌||◌, MatchOption, unwrap_or, not}
-use Rattle.std.specs.List.{AllByRecursion, list_any, range_with_len}
-use Rattle.std.specs.Option.{option_map}
-use Rattle.acl.specs.declared.edition.Edition.{Edition}
-use Rattle.acl.specs.declared.user_id.UserId.{UserId}
-use Rattle.command_lang.specs.declared.command.Command.{Command as Order}
-use Rattle.command_lang.specs.declared.fault.ParseFault.{ParseFault}
-use Rattle.keys.specs.Grammar.{Item, typed, bound, line}
-use Rattle.regions.specs.declared.shown.Shown.{Shown}
-use Rattle.terminal_model.specs.Shows.{View}
-use Rattle.session_model.specs.declared.event.Effect.{Effect}
+use Rattle.session_laws.proofs.Vocabulary.{◌≡◌, ℕ, zero, suc, ◌+◌, ◌<◌, Bool, true, false, List, [], ◌∷◌, ◌++◌, Option}
+use Rattle.session_laws.proofs.Vocabulary.{Some, None, Ok, Err, Result, refl, ap, sym, ◌∙◌, subst, map, take, find}
+use Rattle.session_laws.proofs.Vocabulary.{arith, if◌then◌else◌, ◌==◌, ◌||◌, MatchOption, unwrap_or, not}
+use Rattle.session_laws.proofs.Vocabulary.{AllByRecursion, list_any, range_with_len, option_map, Edition, UserId, Order}
+use Rattle.session_laws.proofs.Vocabulary.{ParseFault, Item, bound, line, Shown, View, Effect, StatusMessage, Refusal}
+use Rattle.session_laws.proofs.Vocabulary.{EventValue, Draw, Entry, Tables, Window, Client, fresh, client_at}
+use Rattle.session_laws.proofs.Vocabulary.{with_client, focused, lowest, free_number, has_number, Caller, caller_of}
+use Rattle.session_laws.proofs.Vocabulary.{line_caller, read_line, checks, first_fault, verdicts, Deed, Answer}
+use Rattle.session_laws.proofs.Vocabulary.{changing, closes, hearing, does, taken, step_items, typed_bytes}
+use Rattle.session_laws.proofs.Vocabulary.{command_item, outcome, Outcome, finished, done, reply_of, new_client, opens}
+use Rattle.session_laws.proofs.Vocabulary.{new_window, outputs, reading, told, ordered, keyed, with_listed, message_of}
+use Rattle.session_laws.proofs.Vocabulary.{granted_view, drawn, drawn_on, with_drawn, after, tables_from, unread}
+use Rattle.session_laws.proofs.Vocabulary.{ShowsOpen, AreFit, all_weaken, all_append, all_map, all_filter}
 use Rattle.session_model.specs.declared.event.Reason.TheVariants as reason
-use Rattle.session_model.specs.declared.message.StatusMessage.{StatusMessage}
-use Rattle.session_model.specs.declared.refusal.Refusal.{Refusal}
-use Rattle.session_model.specs.Trace.{EventValue, Draw, Entry}
-use Rattle.session_model.specs.Tables.{Tables, Window, Client, fresh, client_at, with_client, focused}
-use Rattle.session_model.specs.Naming.{lowest, free_number, has_number}
-use Rattle.session_model.specs.Lines.{Caller, caller_of, line_caller, read_line}
-use Rattle.session_model.specs.Checks.{checks, first_fault, verdicts}
-use Rattle.session_model.specs.Deeds.{Deed, Answer, changing, closes, hearing}
-use Rattle.session_model.specs.Commands.{does}
-use Rattle.session_model.specs.Keying.{taken, step_items, typed_bytes, command_item}
-use Rattle.session_model.specs.Events.{outcome}
-use Rattle.session_model.specs.Outcomes.{Outcome, finished, done, reply_of}
-use Rattle.session_model.specs.Comings.{new_client, opens, new_window, outputs}
-use Rattle.session_model.specs.Answering.{reading, told, ordered, keyed, with_listed, message_of}
 use Rattle.session_model.specs.Answering as answering
-use Rattle.session_model.specs.Granted.{granted_view}
-use Rattle.session_model.specs.Run.{drawn, drawn_on, with_drawn, after, tables_from}
-use Rattle.session_model.specs.Promises.{unread}
-use Rattle.session_model.specs.Sound.{IsOpen, ShowsOpen, AreFit}
-use Rattle.session_laws.proofs.Lists.{all_weaken, all_append, all_map, all_filter}
+use Rattle.session_model.specs.Sound.{IsOpen}
 use Rattle.session_laws.proofs.DifferentNumbers.{serial_of}
 use Rattle.session_laws.proofs.Doing.{Either}
 use Rattle.session_laws.proofs.Moving.{serials}
@@ -82,12 +64,10 @@ read_holds v d (Ok order) small h = order_holds v d order (small order refl) h
 
 item_holds : (v : Tables) (d : Client) (item : Option Item) → is_small_order item ≡ true → Holds v
     → Holds (ordered v d item).deed.tables
-item_holds v d None small h = h
-item_holds v d (Some (typed b)) small h = h
 item_holds v d (Some (bound order)) small h = order_holds v d order small h
-item_holds v d (Some (line [])) small h = h
 item_holds v d (Some (line (b ∷ bs))) small h = read_holds v d (read_line (b ∷ bs))
     (λ order is. read_small (b ∷ bs) order is) h
+item_holds v d item small h = h
 
 -- the same clients, keys and messages aside, have the same pages
 pages_read : (ns : List ℕ) (cs : List Client) → AllByRecursion (PageIn ns) (map unread cs)
@@ -162,10 +142,6 @@ ended : (t : Tables) (d : Deed) (vs : List Rattle.session_model.specs.declared.v
     (reply : Rattle.session_model.specs.Trace.Reply) → Holds d.tables → HoldsIn (finished t vs reply d)
 ended t d vs reply h = by_deed d.tables (finished t vs reply d).tables refl refl h
 
-deed_holds : (a : Answer) (d : Deed) → a ≡ Ok d → Either (λ (e : Deed). Holds e.tables) a → Holds d.tables
-deed_holds (Ok e) d is h = let same : e ≡ d = cc (is) in subst (λ (x : Deed). Holds x.tables) same h
-deed_holds (Err r) d is h = absurd (cc (is))
-
 happened : (t : Tables) (event : EventValue) (o : Outcome) → outcomes.Happens t event o → Holds t → HoldsIn o
 happened t _ _ (outcomes.failed event vs r why) h = h
 happened t _ _ (outcomes.changed event x c is f at) h =
@@ -199,7 +175,7 @@ happened t _ _ (outcomes.keyed client bytes c is) h =
 happened t _ _ (outcomes.obeyed user number bytes c d known read passes is) h =
     let k : Caller = line_caller t user number in
     ended t d (verdicts t (checks t k c)) (reply_of 0 0 0 d.lists)
-    (deed_holds (does t k c) d is
+    (subst (Either (λ (e : Deed). Holds e.tables)) is
     (holds t k h (λ w at. number_there t.windows number w at) c (read_small bytes c read)))
 happened t _ _ (outcomes.opened user rows columns keep title passes) h =
     let v : Window = new_window t rows columns keep title in ended t (opens t user v) [] done

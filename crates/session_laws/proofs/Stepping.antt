@@ -1,29 +1,14 @@
 -- A step of two runs whose tables are alike: they stay so, and a user observes the same of it.
-use Rattle.std.proofs.Common.{◌≡◌, ℕ, Bool, true, false, List, [], ◌∷◌, ◌++◌, Option, Some, None, refl, ap, sym, ◌∙◌}
-use Rattle.std.proofs.Common.{map, filter, length}
-use Rattle.std.specs.Prelude.{if◌then◌else◌, ◌==◌, MatchOption}
-use Rattle.std.specs.Option.{option_map, option_map_or}
-use Rattle.acl.specs.declared.user_id.UserId.{UserId}
-use Rattle.acl.specs.Same.{same_user}
-use Rattle.terminal_model.specs.Reading.{reads}
-use Rattle.session_model.specs.declared.event.Effect.{Effect}
-use Rattle.session_model.specs.declared.event.Effect.TheVariants.{Input, Deliver, Say, Size, Gone}
+use Rattle.session_laws.proofs.Vocabulary.{◌≡◌, ℕ, Bool, true, false, List, [], ◌∷◌, ◌++◌, Option, Some, None, refl, ap}
+use Rattle.session_laws.proofs.Vocabulary.{sym, ◌∙◌, map, filter, length, if◌then◌else◌, ◌==◌, MatchOption, option_map}
+use Rattle.session_laws.proofs.Vocabulary.{option_map_or, UserId, same_user, reads, Effect, Input, Deliver, Say, Gone}
+use Rattle.session_laws.proofs.Vocabulary.{NoWindow, EventValue, Output, Draw, Reply, Tables, Window, Client, client_at}
+use Rattle.session_laws.proofs.Vocabulary.{window_at, terminal_of, input_of, Outcome, refused, finished, done, outcome}
+use Rattle.session_laws.proofs.Vocabulary.{outputs, granted_view, drawn, drawn_on, HasEffects, IsDraw, DrawsWhereNeeded}
+use Rattle.session_laws.proofs.Vocabulary.{Giver, OfClient, giver_of, user_by, user_of, client_user, row_serial}
+use Rattle.session_laws.proofs.Vocabulary.{is_hidden, Observation, Replied, Told, Drawn, is_users, is_client_of, is_for}
+use Rattle.session_laws.proofs.Vocabulary.{is_any, drawn_for, drawn_to}
 use Rattle.session_model.specs.declared.event.Peer.TheVariants as peer
-use Rattle.session_model.specs.declared.refusal.Refusal.TheVariants.{NoWindow}
-use Rattle.session_model.specs.Trace.{EventValue, Output, Draw, Reply}
-use Rattle.session_model.specs.Tables.{Tables, Window, Client, client_at, window_at}
-use Rattle.session_model.specs.Terminals.{terminal_of}
-use Rattle.session_model.specs.Deeds.{input_of}
-use Rattle.session_model.specs.Outcomes.{Outcome, refused, finished, done}
-use Rattle.session_model.specs.Events.{outcome}
-use Rattle.session_model.specs.Comings.{outputs}
-use Rattle.session_model.specs.Granted.{granted_view}
-use Rattle.session_model.specs.Run.{drawn, drawn_on, HasEffects, IsDraw, DrawsWhereNeeded}
-use Rattle.session_laws.specs.Locking.{Giver, OfUser, OfClient, OfNobody, giver_of, user_by, user_of, client_user}
-use Rattle.session_laws.proofs.Lists.{row_serial}
-use Rattle.session_laws.specs.Hidden.{is_hidden}
-use Rattle.session_laws.specs.Observed.{Observation, Replied, Told, Drawn, is_users, is_client_of, is_for, is_any}
-use Rattle.session_laws.specs.Observed.{drawn_for, drawn_to}
 use Rattle.session_laws.proofs.Cutting.{cut, cut_client}
 use Rattle.session_laws.proofs.GuestsOutcomes.{cut_outcome}
 use Rattle.session_laws.proofs.Keying.{outcome_cut}
@@ -35,12 +20,7 @@ only_delivered : (opened : ℕ → Bool) (t x : Tables) (user : UserId) (c : Cli
     → DrawsWhereNeeded t c effects → filter (is_for opened x user) effects ≡ []
 only_delivered opened t x user c [] draws = refl
 only_delivered opened t x user c (Deliver to bytes ∷ []) draws = refl
-only_delivered opened t x user c (Deliver to bytes ∷ f ∷ fs) draws = absurd draws
-only_delivered opened t x user c (Input w bytes ∷ fs) draws = absurd draws
-only_delivered opened t x user c (Say to bytes ∷ fs) draws = absurd draws
-only_delivered opened t x user c (Size w rows columns ∷ fs) draws = absurd draws
-only_delivered opened t x user c (Gone (peer.Window w) why ∷ fs) draws = absurd draws
-only_delivered opened t x user c (Gone (peer.Client d) why ∷ fs) draws = absurd draws
+only_delivered opened t x user c effects draws = absurd draws
 
 draw_tells : (opened : ℕ → Bool) (t : Tables) (user : UserId) (o : Option Client) (effects : List Effect)
     → MatchOption o (effects ≡ []) (IsDraw t effects) → filter (is_for opened t user) effects ≡ []
@@ -128,9 +108,8 @@ module _ (shown : ℕ → Bool) (seeing : UserId → Bool) (t u : Tables) (same 
         (same_client shown seeing t u client same)
 
     same_giver : (giver : Giver) → user_by t giver ≡ user_by u giver
-    same_giver (OfUser user) = refl
     same_giver (OfClient client) = same_client_user client
-    same_giver OfNobody = refl
+    same_giver giver = refl
 
     -- ---- the users that effects are for
 
@@ -149,12 +128,9 @@ module _ (shown : ℕ → Bool) (seeing : UserId → Bool) (t u : Tables) (same 
           client_read (client_at t client) (client_at u client) (same_client shown seeing t u client same)
 
       same_for : (f : Effect) → is_for opened t user f ≡ is_for opened u user f
-      same_for (Input w bytes) = refl
-      same_for (Size w rows columns) = refl
-      same_for (Gone (peer.Window w) why) = refl
       same_for (Say client bytes) = same_owner client
       same_for (Gone (peer.Client client) why) = same_owner client
-      same_for (Deliver client bytes) = refl
+      same_for f = refl
 
       all_for : (fs : List Effect) → filter (is_for opened t user) fs ≡ filter (is_for opened u user) fs
       all_for [] = refl

@@ -1,37 +1,16 @@
 -- What a step does: nothing, or what a command that passed its checks does, or what its event does.
-use Rattle.std.proofs.Common.{◌≡◌, ℕ, Bool, true, false, List, [], ◌∷◌, ◌++◌, Option, Some, None, Ok, Err, Result, refl}
-use Rattle.std.proofs.Common.{ap, sym, ◌∙◌, subst, map, take, inl, inr}
-use Rattle.std.specs.Prelude.{if◌then◌else◌, ◌==◌, ◌⊎◌, is_ok}
-use Rattle.std.specs.List.{AllByRecursion}
-use Rattle.acl.specs.declared.user_id.UserId.{UserId}
-use Rattle.acl.specs.declared.act.Act.{Act}
-use Rattle.acl.specs.History.{followed_by}
-use Rattle.command_lang.specs.declared.command.Command.{Command as Order}
-use Rattle.command_lang.specs.declared.fault.ParseFault.{ParseFault}
-use Rattle.keys.specs.Grammar.{Item, typed, bound, line}
-use Rattle.session_model.specs.declared.event.Done.{Done}
-use Rattle.session_model.specs.declared.event.Effect.{Effect}
-use Rattle.session_model.specs.declared.verdict.Verdict.{Verdict}
-use Rattle.session_model.specs.declared.message.StatusMessage.TheVariants.{Text}
-use Rattle.session_model.specs.declared.refusal.Refusal.{Refusal}
-use Rattle.session_model.specs.declared.refusal.Refusal.TheVariants.{NoWindow, UnknownUser, Line}
-use Rattle.session_model.specs.Tables.{Tables, Client, row_of, client_at, is_known}
-use Rattle.session_model.specs.Texts.{text_of}
-use Rattle.session_model.specs.Lines.{Caller, caller_of, line_caller, read_line}
-use Rattle.session_model.specs.Checks.{checks, first_fault}
-use Rattle.session_model.specs.Deeds.{Deed, Answer}
-use Rattle.session_model.specs.Commands.{does, ruling}
-use Rattle.session_model.specs.Keying.{taken, step_items, typed_bytes, command_item}
-use Rattle.session_model.specs.Events.{outcome}
-use Rattle.session_model.specs.Outcomes.{Outcome, refused, left_acts}
-use Rattle.session_model.specs.Answering.{reading, keys_outcome, told}
-use Rattle.session_model.specs.Given.{Given, commands_of, with_order, order_in, ok_of}
-use Rattle.session_model.specs.Promises.{SomeOf, OnlyRead, unread, ChangesNothing}
-use Rattle.session_model.specs.Run.{after}
-use Rattle.session_model.specs.Trace.{EventValue, Keys, Command, Reply, Entry}
-use Rattle.session_laws.specs.Keyed.{typing, heard, DidItsRowByKeys, WasRefusedByKeys, WasTypedAlone, IsAnswered}
-use Rattle.session_laws.specs.Keyed.{IsNoCommand, KeysAreAnswered, KeysDidTheirRow}
-use Rattle.session_laws.specs.Laws.{DidItsRow, LineDidItsRow, refusal_in, why_refused}
+use Rattle.session_laws.proofs.Vocabulary.{◌≡◌, ℕ, Bool, true, false, List, [], ◌∷◌, ◌++◌, Option, Some, None, Ok, Err}
+use Rattle.session_laws.proofs.Vocabulary.{Result, refl, ap, sym, ◌∙◌, subst, map, take, inl, inr, if◌then◌else◌, ◌==◌}
+use Rattle.session_laws.proofs.Vocabulary.{◌⊎◌, is_ok, AllByRecursion, UserId, Act, followed_by, Order, ParseFault}
+use Rattle.session_laws.proofs.Vocabulary.{Item, typed, bound, line, Done, Effect, Verdict, Text, Refusal, NoWindow}
+use Rattle.session_laws.proofs.Vocabulary.{UnknownUser, Line, Tables, Client, row_of, client_at, is_known, text_of}
+use Rattle.session_laws.proofs.Vocabulary.{Caller, caller_of, line_caller, read_line, checks, first_fault, Deed, Answer}
+use Rattle.session_laws.proofs.Vocabulary.{does, ruling, taken, step_items, typed_bytes, command_item, outcome, Outcome}
+use Rattle.session_laws.proofs.Vocabulary.{refused, left_acts, reading, keys_outcome, told, Given, commands_of}
+use Rattle.session_laws.proofs.Vocabulary.{with_order, order_in, ok_of, SomeOf, OnlyRead, unread, ChangesNothing, after}
+use Rattle.session_laws.proofs.Vocabulary.{EventValue, Keys, Command, Reply, Entry, typing, heard, DidItsRowByKeys}
+use Rattle.session_laws.proofs.Vocabulary.{WasRefusedByKeys, WasTypedAlone, IsAnswered, IsNoCommand, KeysAreAnswered}
+use Rattle.session_laws.proofs.Vocabulary.{KeysDidTheirRow, DidItsRow, LineDidItsRow, refusal_in, why_refused}
 use Rattle.session_laws.proofs.Unread.{SameClients, typing_clients}
 use Rattle.session_laws.proofs.Granting.{told_read, same_tables}
 use Rattle.session_laws.proofs.Asking.{keys_given}

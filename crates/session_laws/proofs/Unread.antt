@@ -1,47 +1,32 @@
 -- Reading keys, and messages, change nothing else of the clients.
-use Rattle.std.proofs.Common.{◌≡◌, ℕ, Bool, true, false, List, [], ◌∷◌, ◌++◌, Option, Some, None, refl, ap, sym, ◌∙◌}
-use Rattle.std.proofs.Common.{map, subst}
-use Rattle.std.specs.Prelude.{if◌then◌else◌, ◌==◌, ◌||◌, codes}
-use Rattle.acl.specs.declared.user_id.UserId.{UserId}
-use Rattle.acl.specs.declared.act.Act.{Act}
-use Rattle.acl.specs.declared.act.Act.TheVariants.{Left}
-use Rattle.command_lang.specs.declared.command.Command.{Command as Order}
+use Rattle.session_laws.proofs.Vocabulary.{◌≡◌, ℕ, Bool, true, false, List, [], ◌∷◌, ◌++◌, Option, Some, None, refl, ap}
+use Rattle.session_laws.proofs.Vocabulary.{sym, ◌∙◌, map, subst, if◌then◌else◌, ◌||◌, codes, option_and_then, UserId}
+use Rattle.session_laws.proofs.Vocabulary.{Act, Left, Order, Effect, Say, Gone, StatusMessage, Text, Refusal, Tables}
+use Rattle.session_laws.proofs.Vocabulary.{Client, row_of, with_row, client_at, with_client, focused, focused_window}
+use Rattle.session_laws.proofs.Vocabulary.{shows, is_in_focus, text_of, client_item, clients_text, separated}
+use Rattle.session_laws.proofs.Vocabulary.{first_fault, typing_checks, Deed, changing, hearing, left_acts_of, left_acts}
+use Rattle.session_laws.proofs.Vocabulary.{says_why, types, input_in, Given, SomeOf, IsClient, IsDoneBy, is_named}
+use Rattle.session_laws.proofs.Vocabulary.{is_owners, unread, told_by, row_serial, some_weaken, some_map, some_mapped}
 use Rattle.command_lang.specs.declared.command.Command.TheVariants as command
-use Rattle.session_model.specs.declared.event.Effect.{Effect}
-use Rattle.session_model.specs.declared.event.Effect.TheVariants.{Say, Gone}
 use Rattle.session_model.specs.declared.event.Peer.TheVariants as peer
-use Rattle.session_model.specs.declared.message.StatusMessage.{StatusMessage}
-use Rattle.session_model.specs.declared.message.StatusMessage.TheVariants.{Text}
-use Rattle.session_model.specs.declared.refusal.Refusal.{Refusal}
-use Rattle.session_model.specs.Tables.{Tables, Client, row_of, with_row, client_at, with_client, focused}
-use Rattle.session_model.specs.Tables.{focused_window, shows, is_in_focus}
-use Rattle.session_model.specs.Texts.{text_of, client_item, clients_text, separated}
-use Rattle.session_model.specs.Checks.{first_fault, typing_checks}
-use Rattle.session_model.specs.Deeds.{Deed, changing, hearing}
-use Rattle.session_model.specs.Outcomes.{left_acts_of, left_acts}
-use Rattle.session_model.specs.Answering.{says_why, types, input_in}
-use Rattle.session_model.specs.Given.{Given}
-use Rattle.session_model.specs.Promises.{SomeOf, IsClient, IsDoneBy, is_named, is_owners, unread}
-use Rattle.session_model.specs.Denying.{told_by}
+use Rattle.session_laws.proofs.Moving.{map_with_row}
 use Rattle.session_laws.proofs.Leaving.{none_left}
-use Rattle.session_laws.proofs.Lists.{row_serial, some_weaken, some_map, some_mapped}
 
 -- ---- rows
 
 pub read_row : (cs : List Client) (s : ℕ) (c d : Client) → row_of (λ (x : Client). x.serial) cs s ≡ Some c
     → unread d ≡ unread c
     → map unread (with_row (λ (x : Client). x.serial) cs s d) ≡ map unread cs
-read_row [] s c d is same = refl
-read_row (r ∷ cs) s c d is same = on (r.serial == s) is (read_row cs s c d) where
-  on : (b : Bool) → (if b then Some r else row_of (λ (x : Client). x.serial) cs s) ≡ Some c
-      → (row_of (λ (x : Client). x.serial) cs s ≡ Some c → unread d ≡ unread c
-      → map unread (with_row (λ (x : Client). x.serial) cs s d) ≡ map unread cs)
-      → map unread (if b then d ∷ cs else r ∷ with_row (λ (x : Client). x.serial) cs s d) ≡ map unread (r ∷ cs)
-  on true is more = let e : r ≡ c = cc (is) in ap (λ x. x ∷ map unread cs) (same ∙ ap unread (sym e))
-  on false is more = ap (λ xs. unread r ∷ xs) (more is same)
+read_row cs s c d is same = map_with_row unread (λ (x : Client). x.serial) cs s d
+    (λ r at. same ∙ (let e : Some c ≡ Some r = sym is ∙ at in let f : c ≡ r = cc (e) in ap unread f))
 
 pub row_at : (t : Tables) (s : ℕ) (c : Client) → client_at t s ≡ Some c → client_at t c.serial ≡ Some c
 row_at t s c is = ap (client_at t) (row_serial (λ (x : Client). x.serial) t.clients s c is) ∙ is
+
+pub caller_row : (t : Tables) (o : Option ℕ) (c : Client) → option_and_then (client_at t) o ≡ Some c
+    → client_at t c.serial ≡ Some c
+caller_row t None c is = absurd (cc (is))
+caller_row t (Some n) c is = row_at t n c is
 
 -- the same clients, keys and messages aside
 abbrev pub SameClients : Tables → List Client → Type 0
@@ -125,7 +110,6 @@ clients_same t cs same =
 pub told_in : (t : Tables) (cs : List Client) → SameClients t cs → (g : Given) (c : Order)
     → told_by (record t { clients = cs }) g c ≡ told_by t g c
 told_in t cs same g command.Displays = ap Some (clients_same t cs same)
-told_in t cs same g (command.Aclgrp word None) = refl
 told_in t cs same g c = refl
 
 client_in : (t : Tables) (cs : List Client) → SameClients t cs → (p : Client → Bool)

@@ -1,15 +1,10 @@
 -- A user observes the same of two runs that differ only in output that is hidden from the user.
-use Rattle.std.proofs.Common.{◌≡◌, ℕ, Bool, true, false, not, List, [], ◌∷◌, ◌++◌, Option, Some, None, refl, ap, sym}
-use Rattle.std.proofs.Common.{◌∙◌, map, filter}
-use Rattle.std.specs.Prelude.{if◌then◌else◌, ◌||◌, ◌&&◌}
-use Rattle.std.specs.Option.{option_map}
-use Rattle.acl.specs.declared.user_id.UserId.{UserId}
-use Rattle.acl.specs.Same.{same_user}
-use Rattle.session_model.specs.Trace.{EventValue, Output, Draw, Entry}
-use Rattle.session_model.specs.Tables.{Tables, Client, client_at}
-use Rattle.session_model.specs.Run.{IsStep, IsRunFrom, HasEffects, after, tables_from}
-use Rattle.session_laws.specs.Hidden.{is_hidden, is_shown, shown_to, with_shown, has_opened, events_from, unhidden}
-use Rattle.session_laws.specs.Observed.{Told, is_for, observed, observed_from, observations}
+use Rattle.session_laws.proofs.Vocabulary.{◌≡◌, ℕ, Bool, true, false, not, List, [], ◌∷◌, ◌++◌, Option, Some, None}
+use Rattle.session_laws.proofs.Vocabulary.{refl, ap, sym, ◌∙◌, map, filter, if◌then◌else◌, ◌||◌, ◌&&◌, option_map}
+use Rattle.session_laws.proofs.Vocabulary.{UserId, same_user, EventValue, Output, Draw, Entry, Tables, Client}
+use Rattle.session_laws.proofs.Vocabulary.{client_at, IsStep, IsRunFrom, HasEffects, after, tables_from, is_hidden}
+use Rattle.session_laws.proofs.Vocabulary.{is_shown, shown_to, with_shown, has_opened, events_from, unhidden, Told}
+use Rattle.session_laws.proofs.Vocabulary.{is_for, observed, observed_from, observations}
 use Rattle.session_laws.proofs.Cutting.{cut, cut_client, client_cut}
 use Rattle.session_laws.proofs.Hiding.{hidden_cut, cut_more}
 use Rattle.session_laws.proofs.Stepping.{StandsAt, output_unheard}

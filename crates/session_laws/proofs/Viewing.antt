@@ -1,25 +1,13 @@
 -- A client is granted the same view of cut tables if each window that it shows readable is left whole.
-use Rattle.std.proofs.Common.{◌≡◌, ℕ, Bool, true, false, List, [], ◌∷◌, Option, Some, None, refl, ap, sym, ◌∙◌, map}
-use Rattle.std.specs.Prelude.{if◌then◌else◌, ◌&&◌, ◌||◌}
-use Rattle.std.specs.List.{list_any}
-use Rattle.std.specs.Option.{option_map}
-use Rattle.acl.specs.declared.user_id.UserId.{UserId}
-use Rattle.acl.specs.declared.bits.Bit.TheVariants.{Read}
+use Rattle.session_laws.proofs.Vocabulary.{◌≡◌, ℕ, Bool, true, false, List, [], ◌∷◌, Option, Some, None, refl, ap, sym}
+use Rattle.session_laws.proofs.Vocabulary.{◌∙◌, map, if◌then◌else◌, ◌&&◌, ◌||◌, list_any, option_map, UserId, Read}
+use Rattle.session_laws.proofs.Vocabulary.{items, Shown, Writing, StatusMessage, Window, Client, Tables, window_at}
+use Rattle.session_laws.proofs.Vocabulary.{focused, is_window, may_in, open_line, granted_view, part_shown}
+use Rattle.session_laws.proofs.Vocabulary.{part_of_window, window_read, message_text, status_text, layout_of}
+use Rattle.session_laws.proofs.Vocabulary.{terminal_of, row_serial, itself, is_shown}
 use Rattle.acl.specs.declared.act.Object.TheVariants as object
-use Rattle.keys.specs.Grammar.{items}
-use Rattle.regions.specs.declared.shown.Shown.{Shown}
-use Rattle.terminal_model.specs.Writing.{Writing}
 use Rattle.view.specs.Granted as view
-use Rattle.session_model.specs.declared.message.StatusMessage.{StatusMessage}
 use Rattle.session_model.specs.declared.message.StatusMessage.TheVariants as message
-use Rattle.session_model.specs.Tables.{Window, Client, Tables, window_at, focused, is_window}
-use Rattle.session_model.specs.Rights.{may_in}
-use Rattle.session_model.specs.Keying.{open_line}
-use Rattle.session_model.specs.Granted.{granted_view, part_shown, part_of_window, window_read, message_text}
-use Rattle.session_model.specs.Granted.{status_text, layout_of}
-use Rattle.session_model.specs.Terminals.{terminal_of}
-use Rattle.session_laws.proofs.Lists.{row_serial, itself}
-use Rattle.session_laws.specs.Hidden.{is_shown}
 use Rattle.session_laws.proofs.Cutting.{cut_window, cut_client, cut, cut_writing, window_cut}
 use Rattle.session_laws.proofs.Finding.{windows_text_cut, clients_text_cut}
 
@@ -96,10 +84,9 @@ module _ (shown : ℕ → Bool) (seeing : UserId → Bool) (t : Tables) (c : Cli
   -- ---- the status line
 
   message_same : (m : StatusMessage) → message_text (less t) (g c) m ≡ message_text t c m
-  message_same message.Silence = refl
-  message_same (message.Text bytes) = refl
   message_same message.AllWindows = windows_text_cut shown seeing t c.user (focused c)
   message_same message.AllClients = clients_text_cut shown seeing t
+  message_same m = refl
 
   status_same : status_text (less t) (g c) ≡ status_text t c
   status_same = on (open_line (items c.keys).1) where

@@ -1,15 +1,8 @@
 -- Two runs that differ only in hidden output have alike tables after each step.
-use Rattle.std.proofs.Common.{◌≡◌, ℕ, Bool, true, false, not, List, [], ◌∷◌, ◌++◌, refl, ap, sym, ◌∙◌, subst, map}
-use Rattle.std.proofs.Common.{filter}
-use Rattle.std.specs.Prelude.{if◌then◌else◌}
-use Rattle.acl.specs.declared.user_id.UserId.{UserId}
-use Rattle.acl.specs.Same.{same_user}
-use Rattle.session_model.specs.Trace.{EventValue, Output, Draw, Entry}
-use Rattle.session_model.specs.Tables.{Tables}
-use Rattle.session_model.specs.Events.{outcome}
-use Rattle.session_model.specs.Run.{IsStep, IsRunFrom, HasEffects, after, drawn, tables_from}
-use Rattle.session_laws.specs.Hidden.{is_hidden, with_shown, events_from}
-use Rattle.session_laws.specs.Observed.{observed}
+use Rattle.session_laws.proofs.Vocabulary.{◌≡◌, ℕ, Bool, true, false, not, List, [], ◌∷◌, ◌++◌, refl, ap, sym, ◌∙◌}
+use Rattle.session_laws.proofs.Vocabulary.{subst, map, filter, if◌then◌else◌, UserId, same_user, EventValue, Output}
+use Rattle.session_laws.proofs.Vocabulary.{Draw, Entry, Tables, outcome, IsStep, IsRunFrom, HasEffects, after, drawn}
+use Rattle.session_laws.proofs.Vocabulary.{tables_from, is_hidden, with_shown, events_from, observed}
 use Rattle.session_laws.proofs.Cutting.{cut}
 use Rattle.session_laws.proofs.Hiding.{hidden_cut}
 use Rattle.session_laws.proofs.Stepping.{StandsAt, tables_step, seen_step}

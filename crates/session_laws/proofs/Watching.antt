@@ -1,35 +1,19 @@
 -- A command that watches leaves others' clients and all windows as they are, by its kind of deed.
-use Rattle.std.proofs.Common.{◌≡◌, ℕ, Bool, true, false, not, List, [], ◌∷◌, Option, Some, None, Ok, Err, refl, ap, sym}
-use Rattle.std.proofs.Common.{◌∙◌, filter}
-use Rattle.std.specs.Prelude.{if◌then◌else◌, ◌==◌}
-use Rattle.std.specs.List.{AllByRecursion}
-use Rattle.std.specs.Option.{option_and_then}
-use Rattle.acl.specs.declared.user_id.UserId.{UserId}
-use Rattle.acl.specs.declared.act.Act.{Act}
+use Rattle.session_laws.proofs.Vocabulary.{◌≡◌, ℕ, Bool, true, false, not, List, [], ◌∷◌, Option, Some, None, Ok, Err}
+use Rattle.session_laws.proofs.Vocabulary.{refl, ap, sym, ◌∙◌, filter, if◌then◌else◌, ◌==◌, AllByRecursion}
+use Rattle.session_laws.proofs.Vocabulary.{option_and_then, UserId, Act, same_user, Order, name_of, Arrangement, Effect}
+use Rattle.session_laws.proofs.Vocabulary.{Deliver, Say, Gone, StatusMessage, Tables, Client, row_of, with_row}
+use Rattle.session_laws.proofs.Vocabulary.{client_at, with_client, with_layout, focused, Caller, Deed, Answer, parts}
+use Rattle.session_laws.proofs.Vocabulary.{arranges, enters, entering, hearing, does, caller_client, told}
+use Rattle.session_laws.proofs.Vocabulary.{order_writing, row_serial, equal, all_map, all_passed, all_of, is_watching}
+use Rattle.session_laws.proofs.Vocabulary.{others_clients}
 use Rattle.acl.specs.declared.act.Act.TheVariants as act
-use Rattle.acl.specs.Same.{same_user}
-use Rattle.command_lang.specs.declared.command.Command.{Command as Order}
 use Rattle.command_lang.specs.declared.command.Command.TheVariants as command
-use Rattle.command_lang.specs.Names.{name_of}
-use Rattle.regions.specs.Layouts.{Arrangement}
-use Rattle.session_model.specs.declared.event.Effect.{Effect}
-use Rattle.session_model.specs.declared.event.Effect.TheVariants.{Deliver, Say, Gone}
 use Rattle.session_model.specs.declared.event.Peer.TheVariants as peer
 use Rattle.session_model.specs.declared.event.Reason.TheVariants as reason
-use Rattle.session_model.specs.declared.message.StatusMessage.{StatusMessage}
-use Rattle.session_model.specs.Tables.{Tables, Client, row_of, with_row, client_at, with_client, with_layout}
-use Rattle.session_model.specs.Tables.{focused}
-use Rattle.session_model.specs.Lines.{Caller}
 use Rattle.session_model.specs.Deeds as deeds
-use Rattle.session_model.specs.Deeds.{Deed, Answer, parts, arranges, enters}
-use Rattle.session_model.specs.Deeds.{entering, hearing}
-use Rattle.session_model.specs.Commands.{does, caller_client}
-use Rattle.session_model.specs.Answering.{told}
-use Rattle.session_laws.specs.Written.{order_writing}
 use Rattle.session_laws.proofs.Doing.{Either}
 use Rattle.session_laws.proofs.Shapes as shapes
-use Rattle.session_laws.proofs.Lists.{row_serial, equal, all_map, all_passed, all_of}
-use Rattle.session_laws.specs.Watching.{is_watching, others_clients}
 
 -- acts that say where somebody is
 abbrev pub is_presence : Act → Bool

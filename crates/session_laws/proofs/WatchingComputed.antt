@@ -1,17 +1,9 @@
 -- The rows of bob, who watches, proved by computing.
-use Rattle.std.proofs.Common.{◌≡◌, ℕ, Bool, true, false, Some, None, refl}
-use Rattle.std.specs.Prelude.{if◌then◌else◌, ◌==◌, ◌||◌, unwrap_or}
-use Rattle.std.specs.Fmt.{digits}
-use Rattle.acl.specs.declared.bits.Bit.TheVariants.{Write, Execute}
+use Rattle.session_laws.proofs.Vocabulary.{◌≡◌, ℕ, Bool, true, false, Some, None, refl, if◌then◌else◌, ◌==◌, ◌||◌}
+use Rattle.session_laws.proofs.Vocabulary.{unwrap_or, digits, Write, Execute, CommandName, items_from, command_named}
+use Rattle.session_laws.proofs.Vocabulary.{unless, refused_if, given, may_in, is_watching, bob}
 use Rattle.acl.specs.declared.act.Object.TheVariants as object
-use Rattle.acl.specs.declared.command_name.CommandName.{CommandName}
 use Rattle.acl.specs.declared.command_name.CommandName.TheVariants as name
-use Rattle.keys.specs.Grammar.{items_from}
-use Rattle.command_lang.specs.Names.{command_named}
-use Rattle.session_model.specs.Deeds.{unless, refused_if, given}
-use Rattle.session_model.specs.Rights.{may_in}
-use Rattle.session_laws.specs.Watching.{is_watching}
-use Rattle.session_laws.specs.WorkedSetup.{bob}
 use Rattle.session_laws.specs.WorkedWatching as rows
 
 nowhere : (w : ℕ) → may_in rows.watched bob Write (object.Window w) ≡ false

@@ -1,57 +1,33 @@
 -- The windows of a run have had exactly those writings that its entries say.
-use Rattle.std.proofs.Common.{◌≡◌, ℕ, ◌≤◌, Bool, true, false, not, List, [], ◌∷◌, ◌++◌, Option, Some, None, Ok, Err}
-use Rattle.std.proofs.Common.{Result, refl, ap, sym, ◌∙◌, subst, take, filter, inr, ⊎_elim, arith}
-use Rattle.std.specs.Prelude.{if◌then◌else◌, ◌==◌, MatchOption, length}
-use Rattle.std.specs.List.{AllByRecursion, flat_map}
-use Rattle.std.specs.Option.{option_map_or}
-use Rattle.acl.specs.declared.edition.Edition.{Edition}
-use Rattle.acl.specs.declared.user_id.UserId.{UserId}
-use Rattle.command_lang.specs.declared.command.Command.{Command as Order}
-use Rattle.command_lang.specs.declared.fault.ParseFault.{ParseFault}
-use Rattle.keys.specs.Grammar.{Item, typed, bound, line}
-use Rattle.terminal_model.specs.Reading.{reads}
-use Rattle.terminal_model.specs.Writing.{Writing}
+use Rattle.session_laws.proofs.Vocabulary.{◌≡◌, ℕ, ◌≤◌, Bool, true, false, not, List, [], ◌∷◌, ◌++◌, Option, Some, None}
+use Rattle.session_laws.proofs.Vocabulary.{Ok, Err, Result, refl, ap, sym, ◌∙◌, subst, take, filter, inr, ⊎_elim, arith}
+use Rattle.session_laws.proofs.Vocabulary.{if◌then◌else◌, ◌==◌, MatchOption, length, AllByRecursion, flat_map}
+use Rattle.session_laws.proofs.Vocabulary.{option_map_or, Edition, UserId, Order, ParseFault, Item, bound, line, reads}
+use Rattle.session_laws.proofs.Vocabulary.{Writing, Effect, Input, Deliver, StatusMessage, Text, Refusal, NoWindow}
+use Rattle.session_laws.proofs.Vocabulary.{UnknownUser, Line, Verdict, EventValue, Detach, Keys, Command, Open, Output}
+use Rattle.session_laws.proofs.Vocabulary.{Closed, Draw, Reply, Entry, Trace, Tables, Window, Client, fresh, window_at}
+use Rattle.session_laws.proofs.Vocabulary.{client_at, with_client, focused, focused_window, is_known, text_of}
+use Rattle.session_laws.proofs.Vocabulary.{terminal_of, Caller, caller_of, line_caller, read_line, checks, first_fault}
+use Rattle.session_laws.proofs.Vocabulary.{verdicts, typing_checks, Deed, Answer, changing, parts, closes, does, taken}
+use Rattle.session_laws.proofs.Vocabulary.{step_items, typed_bytes, command_item, outcome, Outcome, refused, finished}
+use Rattle.session_laws.proofs.Vocabulary.{done, reply_of, open_checks, opens, new_window, outputs, reading, types}
+use Rattle.session_laws.proofs.Vocabulary.{says, told, ordered, keyed, with_listed, message_of, unsaid, keys_outcome}
+use Rattle.session_laws.proofs.Vocabulary.{commanded, line_ruling, answered, by_line, SomeOf, with_order, order_in}
+use Rattle.session_laws.proofs.Vocabulary.{ok_of, HasEffects, IsDraw, DrawsWhereNeeded, drawn, drawn_on, after, IsStep}
+use Rattle.session_laws.proofs.Vocabulary.{IsRun, IsRunFrom, tables_from, tables_of, AreSound, given_writing, sizes_of}
+use Rattle.session_laws.proofs.Vocabulary.{step_writing, all_written, all_weaken, all_append, row_serial, itself}
+use Rattle.session_laws.proofs.Vocabulary.{some_row, some_elim}
 use Rattle.terminal_model.specs.Writing as written
-use Rattle.session_model.specs.declared.event.Effect.{Effect}
-use Rattle.session_model.specs.declared.event.Effect.TheVariants.{Input, Deliver}
 use Rattle.session_model.specs.declared.event.Reason.TheVariants as reason
-use Rattle.session_model.specs.declared.message.StatusMessage.{StatusMessage}
-use Rattle.session_model.specs.declared.message.StatusMessage.TheVariants.{Text}
-use Rattle.session_model.specs.declared.refusal.Refusal.{Refusal}
-use Rattle.session_model.specs.declared.refusal.Refusal.TheVariants.{NoWindow, UnknownUser, Line}
-use Rattle.session_model.specs.declared.verdict.Verdict.{Verdict}
-use Rattle.session_model.specs.Trace.{EventValue, Attach, Detach, Keys, Command, Open, Output, Closed, Draw, Reply}
-use Rattle.session_model.specs.Trace.{Entry, Trace}
-use Rattle.session_model.specs.Tables.{Tables, Window, Client, fresh, window_at, client_at, with_client, focused}
-use Rattle.session_model.specs.Tables.{focused_window, is_known}
-use Rattle.session_model.specs.Texts.{text_of}
-use Rattle.session_model.specs.Terminals.{terminal_of}
-use Rattle.session_model.specs.Lines.{Caller, caller_of, line_caller, read_line}
-use Rattle.session_model.specs.Checks.{checks, first_fault, verdicts, typing_checks}
-use Rattle.session_model.specs.Deeds.{Deed, Answer, changing, parts, closes}
-use Rattle.session_model.specs.Commands.{does}
-use Rattle.session_model.specs.Keying.{taken, step_items, typed_bytes, command_item}
-use Rattle.session_model.specs.Events.{outcome}
-use Rattle.session_model.specs.Outcomes.{Outcome, refused, finished, done, reply_of}
-use Rattle.session_model.specs.Comings.{attach_checks, attaches, new_client, open_checks, opens, new_window, outputs}
-use Rattle.session_model.specs.Answering.{reading, types, says, told, ordered, keyed, with_listed, message_of, unsaid}
-use Rattle.session_model.specs.Answering.{keys_outcome, commanded, line_ruling, answered, by_line}
-use Rattle.session_model.specs.Promises.{SomeOf}
-use Rattle.session_model.specs.Given.{with_order, order_in, ok_of}
-use Rattle.session_model.specs.Run.{HasEffects, IsDraw, DrawsWhereNeeded, drawn, drawn_on, after, IsStep, IsRun}
-use Rattle.session_model.specs.Run.{IsRunFrom, tables_from, tables_of}
-use Rattle.session_model.specs.Sound.{AreSound}
-use Rattle.session_laws.specs.Written.{given_writing, sizes_of, step_writing, all_written}
+use Rattle.session_laws.proofs.Settling.{after_grows}
 use Rattle.session_laws.proofs.Inputs.{append_nil}
-use Rattle.session_laws.proofs.Lists.{all_weaken, all_append, row_serial, itself, some_row}
 use Rattle.session_laws.proofs.DifferentNumbers.{serial_of}
 use Rattle.session_laws.proofs.Doing.{Either}
 use Rattle.session_laws.proofs.Unread.{typing_clients}
-use Rattle.session_laws.proofs.Settling.{told_same, focus_row, line_row, moving}
+use Rattle.session_laws.proofs.Settling.{told_same, focus_row, line_row}
 use Rattle.session_laws.proofs.SoundMoves.{differ}
 use Rattle.session_laws.proofs.Asking.{keys_given}
 use Rattle.session_laws.proofs.Sounding.{run_sound, fresh_sound}
-use Rattle.session_laws.proofs.ClientsOfRuns.{some_elim}
 use Rattle.session_laws.proofs.Showing.{some_has}
 use Rattle.session_laws.proofs.CommandWritings.{GoesOn, Row, Wrote, alike, kept_same, kept_fewer, kept_wrote, row_wrote}
 use Rattle.session_laws.proofs.CommandWritings.{sizes_append, sizes_unsaid, sizes_gone, sizes_closed, sizes_input}
@@ -159,11 +135,9 @@ module _ (t : Tables) (c : Client) (read : List ℕ) (s : AreSound t) (cs : List
   read_wrote (Ok order) = order_wrote order
 
   item_wrote : (item : Option Item) → InDeed (given (order_in item)) (ordered v (reading read c) item).deed
-  item_wrote None = kept_wrote t (λ n. []) t.windows (λ n. refl) (kept_same t.windows)
-  item_wrote (Some (typed b)) = kept_wrote t (λ n. []) t.windows (λ n. refl) (kept_same t.windows)
   item_wrote (Some (bound order)) = order_wrote order
-  item_wrote (Some (line [])) = kept_wrote t (λ n. []) t.windows (λ n. refl) (kept_same t.windows)
   item_wrote (Some (line (b ∷ bs))) = read_wrote (read_line (b ∷ bs))
+  item_wrote item = kept_wrote t (λ n. []) t.windows (λ n. refl) (kept_same t.windows)
 
 types_sizes : (u : Tables) (d : Client) (bs : List ℕ) (n : ℕ) → sizes_of (types u d bs).effects n ≡ []
 types_sizes u d [] n = refl
@@ -309,36 +283,6 @@ step_wrote t (Draw client) effects s is =
 step_wrote t event effects s is = by_effects t event effects (outcome t event).tables.windows is refl
     (outcome_wrote t event s)
 
--- ---- the next serials
-
-same_next : (a b : ℕ) → a ≡ b → b ≤ a
-same_next a b is = omega (arith, is)
-
-next_grows : (t : Tables) (event : EventValue) → AreSound t → t.next_window ≤ (outcome t event).tables.next_window
-next_grows t (Attach user rows columns) s =
-    outcomes.passed (λ o. t.next_window ≤ o.tables.next_window) t (verdicts t (attach_checks t user rows columns))
-    (first_fault t (attach_checks t user rows columns)) (reply_of 0 t.next_client 0 None)
-    (attaches t (new_client t user rows columns)) (λ r is. omega arith) (λ is. omega arith)
-next_grows t (Open user rows columns keep title) s =
-    let v : Window = new_window t rows columns keep title in
-    outcomes.passed (λ o. t.next_window ≤ o.tables.next_window) t
-    (verdicts t (open_checks t user rows columns keep title))
-    (first_fault t (open_checks t user rows columns keep title)) (reply_of 0 v.serial v.number None)
-    (opens t user v) (λ r is. omega arith) (λ is. omega arith)
-next_grows t event s = same_next _ _ (moving t event s refl).next_window
-
-drawn_next : (o : Option Client) (effects : List Effect) (v : Tables)
-    → (drawn_on o effects v).next_window ≡ v.next_window
-drawn_next None effects v = refl
-drawn_next (Some c) effects v = refl
-
-after_grows : (t : Tables) (event : EventValue) (effects : List Effect) → AreSound t
-    → t.next_window ≤ (drawn event effects (outcome t event).tables).next_window
-after_grows t (Draw client) effects s =
-    let w : Tables = (outcome t (Draw client)).tables in
-    subst (λ n. t.next_window ≤ n) (sym (drawn_next (client_at w client) effects w)) (next_grows t (Draw client) s)
-after_grows t event effects s = next_grows t event s
-
 -- ---- runs
 
 record Recalls (t : Tables) (all : ℕ → List Writing) : Type 0 where
@@ -352,7 +296,7 @@ recalls t all e s step m = record {
       wrote_all.rows;
   later = λ n le.
       let above : t.next_window ≤ n =
-      (let grows : t.next_window ≤ (after t e).next_window = after_grows t e.event e.effects s in omega
+      (let grows : t.next_window ≤ (after t e).next_window = (after_grows t e.event e.effects s).0 in omega
       (arith, grows, le)) in
       ap (λ ws. ws ++ f n) (m.later n above) ∙ wrote_all.above n above;
 } where

@@ -1,34 +1,15 @@
 -- What clients see, proved by computing; what holds of any draw is proved by its definition.
-use Rattle.std.proofs.Common.{◌≡◌, ℕ, Bool, true, List, [], ◌∷◌, ◌++◌, Some, None, refl, ap, sym, ◌∙◌, subst, arith}
-use Rattle.std.specs.Prelude.{if◌then◌else◌, ◌==◌}
-use Rattle.std.proofs.lemmas.Bool.Decides.{nat_tests}
-use Rattle.std.specs.Fmt.{digits}
-use Rattle.std.specs.Str.{chars}
-use Rattle.acl.specs.declared.edition.Edition.TheVariants.{Second}
-use Rattle.keys.specs.Grammar.{items_from}
-use Rattle.command_lang.specs.Names.{command_named}
-use Rattle.terminal_model.specs.Shows.{ShowsFromAny, LooksLike, NeedsDraw}
-use Rattle.terminal_model.specs.Printing.{columns_of, drawn}
-use Rattle.terminal_model.specs.Table.{acted_from}
-use Rattle.terminal_model.specs.Writing.{writes_all}
-use Rattle.terminal_model.specs.Reading.{reads, read_byte, read_units, read_unit, act_all, act}
-use Rattle.charsets.specs.Utf8.{cut, piece as utf8_piece}
-use Rattle.charsets.specs.Shifts.{mapped}
-use Rattle.charsets.specs.Sets.{character_at}
-use Rattle.control_parser.specs.Grammar.{functions_behind, piece}
-use Rattle.unicode_width.specs.Width.{char_width}
-use Rattle.view.specs.Granted.{view_in}
-use Rattle.session_model.specs.declared.event.Effect.{Effect}
-use Rattle.session_model.specs.declared.event.Effect.TheVariants.{Deliver}
-use Rattle.session_model.specs.Deeds.{unless, refused_if, given}
-use Rattle.session_model.specs.Tables.{Tables, Client}
-use Rattle.session_model.specs.Granted.{granted_view}
-use Rattle.session_model.specs.Framed.{IsFrame}
-use Rattle.session_model.specs.Run.{IsDraw, deliveries}
-use Rattle.session_model.specs.Trace.{Draw}
-use Rattle.session_laws.specs.WorkedSetup.{bob, client, several, then_comes}
+use Rattle.session_laws.proofs.Vocabulary.{◌≡◌, ℕ, Bool, true, List, [], ◌∷◌, ◌++◌, Some, None, refl, ap, sym, ◌∙◌}
+use Rattle.session_laws.proofs.Vocabulary.{subst, arith, if◌then◌else◌, ◌==◌, nat_tests, digits, chars, Second}
+use Rattle.session_laws.proofs.Vocabulary.{items_from, command_named, ShowsFromAny, LooksLike, NeedsDraw, columns_of}
+use Rattle.session_laws.proofs.Vocabulary.{acted_from, writes_all, reads, read_byte, read_units, read_unit, act_all}
+use Rattle.session_laws.proofs.Vocabulary.{act, cut, utf8_piece, mapped, character_at, functions_behind, piece}
+use Rattle.session_laws.proofs.Vocabulary.{char_width, view_in, Effect, Deliver, unless, refused_if, given, Tables}
+use Rattle.session_laws.proofs.Vocabulary.{Client, granted_view, IsFrame, IsDraw, deliveries, Draw, bob, client}
+use Rattle.session_laws.proofs.Vocabulary.{several, then_comes, small, after_draw}
+use Rattle.terminal_model.specs.Printing.{drawn}
 use Rattle.session_laws.specs.WorkedDrawing as rows
-use Rattle.session_laws.specs.WorkedDrawing.{resized, small, after_draw, seen_by}
+use Rattle.session_laws.specs.WorkedDrawing.{resized, seen_by}
 
 pub readable : rows.Readable
 unfolding digits items_from command_named unless refused_if given view_in columns_of drawn char_width writes_all reads
@@ -49,7 +30,6 @@ begins : (t : Tables) (d : Client) (effects : List Effect)
     → let c : Client = record d { delivered = []; drawn = None } in IsDraw t effects c
     → (rest : List ℕ) × (effects ≡ Deliver d.serial (0x18 ∷ 0x1B ∷ 0x63 ∷ 0x1B ∷ 0x25 ∷ 0x47 ∷ rest) ∷ [])
     × ShowsFromAny (0x18 ∷ 0x1B ∷ 0x63 ∷ 0x1B ∷ 0x25 ∷ 0x47 ∷ rest) d.rows d.columns (granted_view t c)
-begins t d [] is = absurd is.drawn
 begins t d (Deliver to bytes ∷ []) is =
     let c : Client = record d { delivered = []; drawn = None } in
     let frame : IsFrame d.rows d.columns [] (granted_view t c) bytes = is.drawn.2 in
@@ -60,7 +40,7 @@ begins t d (Deliver to bytes ∷ []) is =
           (append_nil (if to == d.serial then bytes else []) ∙ ap (λ (b : Bool). if b then bytes else []) to_it
           ∙ frame.begins) is.shows,
     )
-begins t d (f ∷ effects) is = absurd is.drawn
+begins t d effects is = absurd is.drawn
 
 pub begins_anew : rows.BeginsAnew
 begins_anew bytes v effects is = begins (resized bytes v) small effects is
@@ -76,7 +56,6 @@ once t u c d (Deliver to bytes ∷ []) was same is =
 once t u c d (f ∷ later) was same is = absurd is.drawn
 
 pub drawn_once : rows.DrawnOnce
-drawn_once [] later is next = absurd is.drawn
 drawn_once (Deliver to bytes ∷ []) later is next =
     once (then_comes (several Second) (Draw 2)) (after_draw (several Second) (Deliver to bytes ∷ [])) (client 2 bob 2)
     (record (client 2 bob 2) {
@@ -84,4 +63,4 @@ drawn_once (Deliver to bytes ∷ []) later is next =
       drawn = Some
           (seen_by (then_comes (several Second) (Draw 2)));
     }) later refl refl next
-drawn_once (f ∷ effects) later is next = absurd is.drawn
+drawn_once it later is next = absurd is.drawn

@@ -1,12 +1,9 @@
 -- A fact of each known user follows if it holds of the owner and of each name that became known.
-use Rattle.std.proofs.Common.{◌≡◌, Bool, true, false, List, [], ◌∷◌, Some, None, refl, subst}
-use Rattle.std.specs.Prelude.{◌||◌, if◌then◌else◌, unwrap_or}
-use Rattle.std.specs.List.{AllByRecursion}
-use Rattle.acl.specs.declared.user_id.UserId.{UserId}
+use Rattle.session_laws.proofs.Vocabulary.{◌≡◌, Bool, true, false, List, [], ◌∷◌, Some, None, refl, subst, ◌||◌}
+use Rattle.session_laws.proofs.Vocabulary.{if◌then◌else◌, unwrap_or, AllByRecursion, UserId, same_user, History, latest}
+use Rattle.session_laws.proofs.Vocabulary.{decides_known, same_user-true}
 use Rattle.acl.specs.declared.act.Act.TheVariants as act
-use Rattle.acl.specs.Same.{same_user}
-use Rattle.acl.specs.History.{History, is_known, latest, decides_known}
-use Rattle.acl.proofs.StandsForLemmas.{same_user-true}
+use Rattle.acl.specs.History.{is_known}
 
 -- the names that the acts of the history made known
 abbrev pub named : History → List UserId
@@ -29,18 +26,7 @@ module _ (P : UserId → Type 0) (u : UserId) where
   by_acts (act.Known v ∷ h) all is = by_known v (same_user v u) refl (latest (decides_known u) false h) is all.0
       (by_acts h all.1)
   by_acts (act.Gone v ∷ h) all is = by_gone (same_user v u) (latest (decides_known u) false h) is (by_acts h all)
-  by_acts (act.Set v bit o value ∷ h) all is = by_acts h all is
-  by_acts (act.Grouped v leader ∷ h) all is = by_acts h all is
-  by_acts (act.Masked by v bit value ∷ h) all is = by_acts h all is
-  by_acts (act.Preset kind bit value ∷ h) all is = by_acts h all is
-  by_acts (act.Opened by w ∷ h) all is = by_acts h all is
-  by_acts (act.Closed w ∷ h) all is = by_acts h all is
-  by_acts (act.Attached client v ∷ h) all is = by_acts h all is
-  by_acts (act.Parted client ∷ h) all is = by_acts h all is
-  by_acts (act.Entered v w ∷ h) all is = by_acts h all is
-  by_acts (act.Left v w ∷ h) all is = by_acts h all is
-  by_acts (act.Mode by w mode ∷ h) all is = by_acts h all is
-  by_acts (act.Default mode ∷ h) all is = by_acts h all is
+  by_acts (a ∷ h) all is = by_acts h all is
 
   pub each_known : (owner : UserId) (h : History) → P owner → AllByRecursion P (named h) → is_known owner h u ≡ true
       → P u

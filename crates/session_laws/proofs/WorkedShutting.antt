@@ -1,24 +1,11 @@
 -- What is computed of listed users, and of each name that became known, gives what the law of
 -- confinement asks of tables.
-use Rattle.std.proofs.Common.{◌≡◌, Bool, true, false, List, [], ◌∷◌, refl, sym, subst, inl, inr}
-use Rattle.std.specs.Prelude.{◌||◌, ◌⊎◌}
-use Rattle.std.specs.List.{AllByRecursion}
-use Rattle.acl.specs.declared.user_id.UserId.{UserId}
-use Rattle.acl.specs.declared.bits.Bit.{Bit}
-use Rattle.acl.specs.declared.bits.Bit.TheVariants.{Execute}
-use Rattle.acl.specs.declared.command_name.CommandName.{CommandName}
+use Rattle.session_laws.proofs.Vocabulary.{◌≡◌, Bool, true, false, List, [], ◌∷◌, refl, sym, subst, inl, inr, ◌||◌, ◌⊎◌}
+use Rattle.session_laws.proofs.Vocabulary.{AllByRecursion, UserId, Bit, Execute, CommandName, mask, same_user}
+use Rattle.session_laws.proofs.Vocabulary.{same_user-true, Tables, is_known, may_in, contradicts, and_first, all_weaken}
+use Rattle.session_laws.proofs.Vocabulary.{changes_rights, AreGuests, may_open, circle, AreShutOut, is_among}
 use Rattle.acl.specs.declared.command_name.CommandName.TheVariants as name
 use Rattle.acl.specs.declared.act.Object.TheVariants as object
-use Rattle.acl.specs.History.{mask}
-use Rattle.acl.specs.Same.{same_user}
-use Rattle.acl.proofs.StandsForLemmas.{same_user-true}
-use Rattle.session_model.specs.Tables.{Tables, is_known}
-use Rattle.session_model.specs.Rights.{may_in}
-use Rattle.session_laws.proofs.Lists.{contradicts, and_first, all_weaken}
-use Rattle.session_laws.specs.Changing.{changes_rights}
-use Rattle.session_laws.specs.Contained.{AreGuests}
-use Rattle.session_laws.specs.Confined.{may_open, circle, AreShutOut}
-use Rattle.session_laws.specs.WorkedAmong.{is_among}
 use Rattle.session_laws.proofs.WorkedKnowing.{named, each_known}
 
 pub among : (P : UserId → Type 0) (users : List UserId) → AllByRecursion P users → (u : UserId)
@@ -38,7 +25,7 @@ None5 t u =
     × (may_in t u Execute (object.Command name.Aclgrp) ≡ false)
     × (may_in t u Execute (object.Command name.Aclumask) ≡ false)
 
-none_of_five : (t : Tables) (u : UserId) → None5 t u → (c : CommandName) → changes_rights c ≡ true
+pub none_of_five : (t : Tables) (u : UserId) → None5 t u → (c : CommandName) → changes_rights c ≡ true
     → may_in t u Execute (object.Command c) ≡ false
 none_of_five t u five name.Acladd is = five.0
 none_of_five t u five name.Aclchg is = five.1

@@ -1,6 +1,4 @@
-use Rattle.std.proofs.Common.{ap, sym, ◌∙◌}
-use Rattle.acl.specs.History.{followed_by}
-use Rattle.session_model.specs.Tables.{fresh}
+use Rattle.session_laws.proofs.Vocabulary.{ap, sym, ◌∙◌, followed_by, fresh}
 use Rattle.session_laws.proofs.acts_agree.Goals as goal
 use Rattle.session_laws.proofs.Sounding.{fresh_sound}
 use Rattle.session_laws.proofs.ActsOfRuns.{after_acts, acts_agree, fresh_agrees, run_agrees}

@@ -1,4 +1,4 @@
-use Rattle.session_model.specs.Tables.{fresh}
+use Rattle.session_laws.proofs.Vocabulary.{fresh}
 use Rattle.session_laws.proofs.tables_stay_sound.Goals as goal
 use Rattle.session_laws.proofs.Sounding.{lasting, fresh_sound, run_sound}
 

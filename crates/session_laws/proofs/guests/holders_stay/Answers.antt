@@ -1,11 +1,8 @@
 use Rattle.session_laws.proofs.guests.holders_stay.Goals as goal
 use Rattle.session_laws.proofs.KeptLocks.{holders_stay}
+use Rattle.session_laws.proofs.Gating.{below}
 
 pub returns : goal.returns
 returns c =
-    holders_stay (record {
-      keep = c.steps_keep_promise.ensures;
-      done = c.commands_do_their_rows.ensures.done;
-      refused = c.commands_do_their_rows.ensures.refused;
-      keyed = c.keys_do_their_rows.ensures;
-    })
+    holders_stay (below c.steps_keep_promise.ensures c.commands_do_their_rows.ensures.done
+    c.commands_do_their_rows.ensures.refused c.keys_do_their_rows.ensures)

@@ -1,50 +1,67 @@
+-- The rows on windows and clients, proved by computing.
+use Rattle.session_laws.proofs.Vocabulary.{refl, digits, items_from, command_named, unless, refused_if, given}
 use Rattle.session_laws.proofs.worked.windows_and_clients.Goals as goal
-use Rattle.session_laws.proofs.OpeningComputed as computed
 
 pub returns-clause-no_more : goal.returns-clause-no_more
-returns-clause-no_more c = computed.no_more
+unfolding digits items_from command_named unless refused_if given
+returns-clause-no_more c = (refl, refl)
 
 pub returns-clause-kill : goal.returns-clause-kill
-returns-clause-kill c = computed.kill
+unfolding digits items_from command_named unless refused_if given
+returns-clause-kill c = refl
 
 pub returns-clause-none_in_focus : goal.returns-clause-none_in_focus
-returns-clause-none_in_focus c = computed.none_in_focus
+unfolding digits items_from command_named unless refused_if given
+returns-clause-none_in_focus c = refl
 
 pub returns-clause-new_serial : goal.returns-clause-new_serial
-returns-clause-new_serial c = computed.new_serial
+unfolding digits items_from command_named unless refused_if given
+returns-clause-new_serial c = (refl, refl)
 
 pub returns-clause-number_taken : goal.returns-clause-number_taken
-returns-clause-number_taken c = computed.number_taken
+unfolding digits items_from command_named unless refused_if given
+returns-clause-number_taken c = refl
 
 pub returns-clause-no_client : goal.returns-clause-no_client
-returns-clause-no_client c = computed.no_client
+unfolding digits items_from command_named unless refused_if given
+returns-clause-no_client c = refl
 
 pub returns-clause-window_list : goal.returns-clause-window_list
-returns-clause-window_list c = computed.window_list
+unfolding digits items_from command_named unless refused_if given
+returns-clause-window_list c = refl
 
 pub returns-clause-client_list : goal.returns-clause-client_list
-returns-clause-client_list c = computed.client_list
+unfolding digits items_from command_named unless refused_if given
+returns-clause-client_list c = refl
 
 pub returns-clause-keys_in_steps : goal.returns-clause-keys_in_steps
-returns-clause-keys_in_steps c = computed.keys_in_steps
+unfolding digits items_from command_named unless refused_if given
+returns-clause-keys_in_steps c = (refl, refl)
 
 pub returns-clause-keys_cut : goal.returns-clause-keys_cut
-returns-clause-keys_cut c = computed.keys_cut
+unfolding digits items_from command_named unless refused_if given
+returns-clause-keys_cut c = (refl, refl)
 
 pub returns-clause-single_user : goal.returns-clause-single_user
-returns-clause-single_user c = computed.single_user
+unfolding digits items_from command_named unless refused_if given
+returns-clause-single_user c = refl
 
 pub returns-clause-not_let_in : goal.returns-clause-not_let_in
-returns-clause-not_let_in c = computed.not_let_in
+unfolding digits items_from command_named unless refused_if given
+returns-clause-not_let_in c = refl
 
 pub returns-clause-unknown : goal.returns-clause-unknown
-returns-clause-unknown c = computed.unknown
+unfolding digits items_from command_named unless refused_if given
+returns-clause-unknown c = refl
 
 pub returns-clause-too_small : goal.returns-clause-too_small
-returns-clause-too_small c = computed.too_small
+unfolding digits items_from command_named unless refused_if given
+returns-clause-too_small c = refl
 
 pub returns-clause-wall : goal.returns-clause-wall
-returns-clause-wall c = computed.wall
+unfolding digits items_from command_named unless refused_if given
+returns-clause-wall c = refl
 
 pub returns-clause-stuff : goal.returns-clause-stuff
-returns-clause-stuff c = computed.stuff
+unfolding digits items_from command_named unless refused_if given
+returns-clause-stuff c = refl
