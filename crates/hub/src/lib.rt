@@ -23,7 +23,7 @@ use acl::UserId;
 pub use hub_check::{Judge, Replay, all_pass, failed, follow_clients, user_of_client};
 pub use hub_ledger::{
     Answer, Begun, CheckFault, FULL, Foreign, Full, Handed, HubFault, Kept, Ledger, Receipt,
-    Receipts, Seat, Sent, Session, Trail, TrailEntry, check_entries, check_trail,
+    Receipts, Ruling, Seat, Sent, Session, Trail, TrailEntry, check_entries, check_trail,
     kept_trails_are_legal,
 };
 pub use hub_record::{EntryList, KeptReply, NewEntry};
@@ -104,7 +104,9 @@ impl<L: Begun> Hub<L> {
 
     /// Whether a user may type into a window at this moment: it is open, the user has w on it, and no
     /// other user holds its lock.
-    pub fn may_type<R: Wait>(&self, rt: &R, user: UserId, window: u32) -> bool {
+    pub fn may_type<R: Wait>(&self, rt: &R, user: UserId, window: u32) -> Ruling
+        ensures { (result.user ≡ user) × (result.window ≡ window) }
+    {
         self.ledger.lock(rt).may_type(user, window)
     }
 

@@ -2,6 +2,7 @@
 use Rattle.std.specs.Prelude.{ℕ, ◌+◌, ◌%◌, ◌^◌, List, [], ◌∷◌, ◌++◌, ◌≡◌, Option, Some, None, length}
 use Rattle.std.specs.Prelude.{Bool, false, true, IfSome, slice_get}
 use Rattle.std.specs.List.{list_any, list_all}
+use Rattle.acl.specs.declared.user_id.UserId.{UserId}
 use Rattle.session.specs.verdict.Verdict.{Verdict}
 use Rattle.session.specs.Trace.{EventValue, Reply}
 pub use Rattle.hub_ledger.specs.States.{StandsFor}
@@ -24,6 +25,12 @@ pub record Told : Type 0 where
   pub checks : Option Bool
   pub checks_execute : Bool
   pub entry : Option Entry
+
+-- whether a user may type into a window
+pub record Ruled : Type 0 where
+  pub user : UserId
+  pub window : ℕ
+  pub may_type : Bool
 
 -- a seat: its number, whether it asks for entries, and its receipts, the oldest first; how many steps
 -- were made for it, and how many effects it was handed (both counts are modulo 2 ^ 64); and what it

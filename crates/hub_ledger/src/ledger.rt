@@ -29,7 +29,7 @@ use crate::filed_session::FiledSession;
 use crate::seat::Seat;
 use crate::waiting::Handed;
 use acl::UserId;
-pub use answer::{Answer, Foreign, Full, HubFault};
+pub use answer::{Answer, Foreign, Full, HubFault, Ruling};
 use hub_record::Receipts;
 use hub_trail::writes_entry;
 use session::{Event, Session};
@@ -242,11 +242,16 @@ impl<L: Begun> Ledger<L> {
 
     /// Whether a user may type into a window at this moment: it is open, the user has w on it, and no
     /// other user holds its lock. It takes no memory.
-    pub fn may_type(&self, user: UserId, window: u32) -> bool
-        ensures { (h : Trace) → StandsFor h self.now.session
-            → result ≡ may_type (tables_of h) user window }
+    pub fn may_type(&self, user: UserId, window: u32) -> Ruling
+        ensures asked { (result.user ≡ user) × (result.window ≡ window) }
+        ensures rules { (h : Trace) → StandsFor h self.now.session
+            → result.may_type ≡ may_type (tables_of h) user window }
     {
-        self.filed.session.may_type(user, window)
+        Ruling {
+            user,
+            window,
+            may_type: self.filed.session.may_type(user, window),
+        }
     }
 
     /// The state is that of a run, and its trail is legal.

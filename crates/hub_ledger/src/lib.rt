@@ -14,7 +14,7 @@ pub use begun::Begun;
 pub use hub_check::CheckFault;
 pub use hub_record::{Kept, Receipt, Receipts, TrailEntry};
 pub use ledger::{
-    Answer, FULL, Foreign, Full, HubFault, Ledger, Trail, check_entries, check_trail,
+    Answer, FULL, Foreign, Full, HubFault, Ledger, Ruling, Trail, check_entries, check_trail,
     kept_trails_are_legal,
 };
 pub use seat::Seat;

@@ -2,6 +2,7 @@
 
 ghost use Rattle.std.specs.Prelude.{◌≡◌, true};
 ghost use Rattle.session.specs.Trace.{happening};
+ghost use Rattle.hub.specs.Seats.{Ruled};
 ghost use Rattle.server_session.specs.Loading.{closed_by, opened_by, size_of};
 ghost use Rattle.server_session.specs.Counting.{millis_of};
 ghost use Rattle.server_session.specs.Outcomes.{checked, outcome_of};
@@ -127,7 +128,9 @@ impl<L: Begun, S: LoopSession<L>, B: Counting> SessionSeat for Seated<'_, L, S, 
     // The session handed these effects to this seat.
     ghost takes = { λ s effects told left. S.hands s.shared.now s.seat effects told left.seat };
 
-    ghost lets_type = { λ s user window may. S.rules s.shared.now user window may };
+    // The session ruled so.
+    ghost lets_type = { λ s user window may.
+        (ruled : Ruled) × S.rules s.shared.now user window ruled × (may ≡ ruled.may_type) };
 
     ghost finds_full = { λ s window is_full. (books : B) × B.finds_full books window is_full };
 
@@ -205,7 +208,7 @@ impl<L: Begun, S: LoopSession<L>, B: Counting> SessionSeat for Seated<'_, L, S, 
     }
 
     fn may_type<R: Wait>(&self, rt: &R, user: UserId, window: u32) -> bool {
-        self.shared.may_type(rt, user, window)
+        self.shared.may_type(rt, user, window).may_type()
     }
 
     fn set_full<R: Wait>(&self, rt: &R, window: u32, is_full: bool) {

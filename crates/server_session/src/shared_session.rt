@@ -7,7 +7,7 @@ ghost use Rattle.hub.specs.Seats.{Answers, with_handed};
 ghost use Rattle.server_session.specs.Seating.{IsFiled};
 
 use acl::UserId;
-use hub::{Answer, Begun, Handed, Hub, HubFault, Seat, TrailEntry};
+use hub::{Answer, Begun, Handed, Hub, HubFault, Ruling, Seat, TrailEntry};
 use server_trail::Recorder;
 use server_users::Users;
 use session::Event;
@@ -65,7 +65,7 @@ pub trait LoopSession<L: Begun> {
     ghost use Rattle.acl.specs.declared.user_id.UserId.{UserId as User};
     ghost use Rattle.session.specs.Trace.{EventValue};
     ghost use Rattle.session.specs.event.Effect.{Effect as Effected};
-    ghost use Rattle.hub.specs.Seats.{Sitting, Told};
+    ghost use Rattle.hub.specs.Seats.{Ruled, Sitting, Told};
     ghost use Rattle.server_users.specs.Entries.{Entry};
 
     // The users who may connect when the server starts.
@@ -78,8 +78,8 @@ pub trait LoopSession<L: Begun> {
     // after that.
     ghost hands: { Self → Sitting → List (Effected × Option User) → Bool → Sitting → Type 0 };
 
-    // A user, a window, and whether the user may type into it.
-    ghost rules: { Self → User → ℕ → Bool → Type 0 };
+    // A user, a window, and what the session ruled on typing.
+    ghost rules: { Self → User → ℕ → Ruled → Type 0 };
 
     fn users(&self) -> &Users
         ensures { result.now ≡ known self.now };
@@ -99,7 +99,7 @@ pub trait LoopSession<L: Begun> {
         ensures { hands self.now seat.old result.0 result.1 seat.new };
 
     /// Whether a user may type into a window.
-    fn may_type<R: Wait>(&self, rt: &R, user: UserId, window: u32) -> bool
+    fn may_type<R: Wait>(&self, rt: &R, user: UserId, window: u32) -> Ruling
         ensures { rules self.now user window result };
 
     /// Says the time to the trail's file, for the entries that follow.
@@ -181,8 +181,8 @@ impl<L: Begun, T: TrailLines> LoopSession<L> for SharedSession<L, T> {
     // The hub handed these effects to this seat.
     ghost hands = { λ shared old effects told new. new ≡ with_handed effects told old };
 
-    // A lock hides the rest.
-    ghost rules = { λ shared user window may. Unit {0} };
+    // The hub ruled on this user and this window.
+    ghost rules = { λ shared user window ruled. (ruled.user ≡ user) × (ruled.window ≡ window) };
 
     fn users(&self) -> &Users {
         &self.users
@@ -201,7 +201,7 @@ impl<L: Begun, T: TrailLines> LoopSession<L> for SharedSession<L, T> {
         self.hub.take(rt, seat)
     }
 
-    fn may_type<R: Wait>(&self, rt: &R, user: UserId, window: u32) -> bool {
+    fn may_type<R: Wait>(&self, rt: &R, user: UserId, window: u32) -> Ruling {
         self.hub.may_type(rt, user, window)
     }
 

@@ -5,6 +5,7 @@ ghost use Rattle.std.specs.Option.{option_copied};
 ghost use Rattle.session.specs.Trace.{happening};
 ghost use Rattle.hub_ledger.specs.declared.ledger.answer.HubFault.TheVariants.{NoMemory as OfMemory};
 
+use acl::UserId;
 use hub_record::TrailEntry;
 use session::{Event, Reply};
 use std::alloc::{AllocError, AllocFailed};
@@ -155,5 +156,31 @@ impl<'a> Answer<'a> {
         ensures { option_copied result ≡ self.now.entry }
     {
         self.entry.as_ref()
+    }
+}
+
+/// Whether a user may type into a window at a moment. Only a ledger makes it, and nothing copies it.
+#[derive(Drop)]
+pub struct Ruling {
+    pub(super) user: UserId,
+    pub(super) window: u32,
+    pub(super) may_type: bool,
+}
+
+impl Model for Ruling {
+    ghost use Rattle.hub_ledger.specs.Seats.{Ruled};
+
+    ghost Value = { Ruled };
+
+    ghost view = { λ r. record { user = r.user; window = r.window; may_type = r.may_type } };
+}
+
+impl Ruling {
+    /// Whether the user may type.
+    pub fn may_type(self) -> bool
+        ensures { result ≡ self.entry.may_type }
+    {
+        let Ruling { may_type, .. } = self;
+        may_type
     }
 }
