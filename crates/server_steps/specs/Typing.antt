@@ -75,6 +75,11 @@ module _ {S : Type 0} where
   abbrev pub sized : ℕ → Peer S → Peer S
   sized now peer = record peer { inbox = record peer.inbox { sizing = after_size now peer.inbox.sizing } }
 
+  -- a size waits that was told
+  abbrev pub wants_size : Option (Peer S) → Bool
+  wants_size None = false
+  wants_size (Some peer) = is_some peer.inbox.sizing.wanted
+
   -- its user is to be told now that keys were dropped
   abbrev pub is_news_at : ℕ → Option (Peer S) → Bool
   is_news_at now None = false

@@ -30,5 +30,5 @@ pub use submitted::{Submitted, entries_of, is_quit, kept_of};
 pub use turns::{Pending, Reads, Writes, drawn_from, next_from};
 pub use typing::{
     Gathered, Target, answer_keys, free_keys, free_strayed, gather, has_keys, hold_keys, idle_at,
-    is_open_at, next_size, take_keys, take_news, target_at, user_at,
+    is_open_at, next_size, take_keys, take_news, target_at, user_at, wants_size,
 };

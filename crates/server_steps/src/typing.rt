@@ -8,7 +8,7 @@ ghost use Rattle.server_steps.specs.Settling.{progress_of, settled};
 ghost use Rattle.server_steps.specs.Typing.{GathersAt, answered, freed_keys, held_keys, idle_at};
 ghost use Rattle.server_steps.specs.Typing.{is_news_at, is_open_at, size_at, sized, strayed, target_at};
 ghost use Rattle.server_steps.specs.Typing.{put_keys, told_news, typed_at, unless_more, user_at};
-ghost use Rattle.server_steps.specs.Typing.{with_typed};
+ghost use Rattle.server_steps.specs.Typing.{wants_size, with_typed};
 
 use crate::progress::{Progress, settle, window_after};
 use server_connections::{Connections, SeatAnswer, SeatFault, Size, Typeahead};
@@ -94,6 +94,16 @@ pub fn next_size<S: Drop>(connections: &mut Connections<S>, key: usize, now: u64
         return None;
     };
     peer.inbox.sizing.next(now)
+}
+
+/// Whether a size waits that was told: it changes before the keys that came after it.
+pub fn wants_size<S: Drop>(connections: &Connections<S>, key: usize) -> bool
+    ensures { result ≡ wants_size (get connections.now.peers key) }
+{
+    match connections.get(key) {
+        Some(peer) => peer.inbox.sizing.wanted.is_some(),
+        None => false,
+    }
 }
 
 /// Whether a user is to be told now that keys were dropped, which is noted as told.
