@@ -179,6 +179,24 @@ trails_of() {
     [ -n "$trails" ] || return 1
     printf '%s\n' "$trails"
 }
+# is_written FILE: whether its server, whose process is in the name, has it open.
+is_written() {
+    server=${1%.trail}
+    server=${server##*.}
+    case $server in '' | *[!0-9]*) return 1 ;; esac
+    [ -n "$(find -L "/proc/$server/fd" -maxdepth 1 -samefile "$1" 2>/dev/null)" ]
+}
+# newest_trail FOLDER: prints the trail that a server has open, else the last one by name.  The clock may have been set
+# back, so the last name alone could be that of a session long over.
+newest_trail() {
+    last='' open=''
+    for next in "$1"/*.trail; do
+        [ -f "$next" ] || continue
+        last=$next
+        ! is_written "$next" || open=$next
+    done
+    printf '%s' "${open:-$last}"
+}
 # Waits until a key is pressed, or for two seconds, so that people can read what stands there before a page comes.  The
 # key isn't read here: it is the first one of what comes.
 wait_for_reader() (
