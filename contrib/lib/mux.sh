@@ -126,10 +126,17 @@ is_command() {
     return 1
 }
 
-# Prints the items of an answer, a line each: a number, a blank, a title.  The answer has two blanks between items, and *
-# at the window in focus.
+# Prints the windows of an answer, a line each: a number, a blank, a title.  The answer has two blanks between windows, and *
+# at the one in focus.  Whoever names a window could make two of it by two blanks and a number: then numbers don't rise.
 items() {
-    sed 's/  /\n/g' | sed 's/^\([0-9]*\)\*\{0,1\} /\1 /'
+    sed 's/  \([0-9][0-9]*\*\{0,1\} \)/\n\1/g' | awk -v program="$program" -v last=-1 '
+        NF == 0 { next }
+        $1 + 0 <= last && !bad { bad = $0 }
+        { last = $1 + 0; line[++n] = last substr($0, length($1) + 1) }
+        END {
+            if (bad == "") for (i = 1; i <= n; i++) print line[i]
+            else { print program ": a title has two blanks, so it looks like a window: before " bad >"/dev/stderr"; exit 1 }
+        }'
 }
 # give LINE: gives a command.  A server that hangs mustn't keep a lock for good.  mux prints a refusal on both streams: the
 # line with its meaning is enough.
