@@ -157,6 +157,13 @@ take_lock() {
     exec 9<"$1"
     flock -w 60 9 || fault "another mux-console, mux-rights or mux-guest has held the lock for a minute: $1: try again"
 }
+# session_mark: prints what names the session: a mark, if it goes on over restarts (muxd-run --again), or else its socket.
+session_mark() {
+    cat -- "$socket.session" 2>/dev/null || socket_now
+}
+socket_now() {
+    stat -c '%d %i %z' -- "$socket" 2>/dev/null
+}
 # make_folder: sets folder to a new one for files of this script.
 make_folder() {
     folder=$(mktemp -d "${TMPDIR:-/tmp}/$program.XXXXXX" 2>&1) || no_folder "$folder"
