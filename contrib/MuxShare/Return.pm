@@ -263,7 +263,13 @@ sub open_of {
     my ($self, $opener, @words) = @_;
     my ($live, $owner) = ($self->{live}, $self->{live}{owner});
     my $is_lent = $opener ne $owner && !($live->bits($opener, 'aclumask') & BIT->{x});
-    $self->give(undef, $owner, "aclchg $opener +x aclumask") if $is_lent;
+    if ($is_lent) {
+        # Until all is in the file, so that the next start takes it back if this server ends meanwhile.
+        my @presets = map { "aclumask $_" . bits_of($live->{presets}{$_}) } qw(? ??);
+        push @{ $self->{old}{lent} }, "aclchg $opener -x aclumask", @presets;
+        $self->save;
+        $self->give(undef, $owner, "aclchg $opener +x aclumask");
+    }
     $self->give_packed(undef, $opener, 'aclumask ', ' ', '', @words);
     return unless $is_lent;
     $self->give(undef, $owner, "aclchg $opener -x aclumask");
@@ -287,6 +293,7 @@ sub save {
     my ($self) = @_;
     my $old = $self->{old};
     my @lines = ('trail ' . field($self->{trail}), 'base ' . field($self->{base}));
+    push @lines, map { 'lent ' . field($_) } @{ $old->{lent} // [] };
     for my $it (@{ $self->{unsure} }) {
         my $bits = join ',', map { "$_:" . $old->bits($_, $it->{serial}) } $old->others;
         push @lines, join ' ', 'window', map({ field($it->{$_}) } FIELDS), field($bits), field($it->{hidden});
@@ -313,17 +320,21 @@ sub write_hidden {
 # Adds to what a trail leaves what the session before it was still bringing back.  SKIPPED are trails that don't count.
 sub take_pending {
     my ($pending, $path, $old, @skipped) = @_;
-    my (%of, @windows, @masks);
+    my (%of, @windows, @masks, @lent);
     for my $line (split /\n/, content($pending)) {
         my ($word, @fields) = split / /, $line;
         if ($word eq 'window') { push @windows, [map { $_ eq '-' ? undef : untext($_) } @fields] }
         elsif ($word eq 'mask') { push @masks, \@fields }
+        elsif ($word eq 'lent') { push @lent, untext($fields[0]) }
         else { $of{$word} = untext($fields[0]) }
     }
     my $is_of_this = ($of{trail} // '') eq $path;
     # A start that ended before users were back: what it had to bring back is all of it.
     my $is_whole = !$is_of_this && ($of{base} // '') eq $path && grep { $_ eq $of{trail} } @skipped;
     return unless $is_of_this || $is_whole;
+    # What a user was lent in the last moment is taken back; a line about somebody who is gone would make them known.
+    $old->{lent} = [grep { !/^aclchg (\w+) / || $old->knows($1) } @lent];
+    $old->{bits}{$_}{aclumask} &= ~BIT->{x} for map { /^aclchg (\w+) / } @{ $old->{lent} };
     $old->{windows} = {} if $is_whole;
     my @waiting = map { window_of($_) } @windows;
     # The file may have windows that came back in the last moment, and that nobody had looked at.

@@ -23,9 +23,19 @@ sub text_of {
     return ($word // '') =~ s/^\.//r =~ s/\\([0-9a-f]{2})/chr hex $1/ger;
 }
 
+# Controls, and what can't be seen or turns the direction of text.
+my $hidden = qr/[\x00-\x1f\x7f-\x9f\xad\x{61c}\x{180e}\x{200b}-\x{200f}\x{2028}-\x{202e}\x{2060}-\x{206f}\x{feff}]/;
+
+# Returns a text as a string of JSON.
 sub quoted {
     my ($text) = @_;
-    return '"' . ($text =~ s/(["\\])/\\$1/gr =~ s/([\x00-\x1f\x7f])/sprintf '\\u%04x', ord $1/ger) . '"';
+    utf8::decode($text);
+    $text =~ s/(["\\])/\\$1/g;
+    $text =~ s/($hidden)/sprintf '\\u%04x', ord $1/ge;
+    # Tags, of which JSON has halves.
+    $text =~ s/([\x{e0001}-\x{e007f}])/sprintf '\\udb40\\u%04x', ord($1) - 0xe0000 + 0xdc00/ge;
+    utf8::encode($text);
+    return qq("$text");
 }
 
 # Returns the words of a command's line: blanks count within quotes.

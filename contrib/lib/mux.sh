@@ -126,10 +126,17 @@ is_command() {
     return 1
 }
 
-# Prints the items of an answer, a line each: a number, a blank, a title.  The answer has two blanks between items, and *
-# at the window in focus.
+# Prints the windows of an answer, a line each: a number, a blank, a title.  The answer has two blanks between windows, and *
+# at the one in focus.  Whoever names a window could make two of it by two blanks and a number: then numbers don't rise.
 items() {
-    sed 's/  /\n/g' | sed 's/^\([0-9]*\)\*\{0,1\} /\1 /'
+    sed 's/  \([0-9][0-9]*\*\{0,1\} \)/\n\1/g' | awk -v program="$program" -v last=-1 '
+        NF == 0 { next }
+        $1 + 0 <= last && !bad { bad = $0 }
+        { last = $1 + 0; line[++n] = last substr($0, length($1) + 1) }
+        END {
+            if (bad == "") for (i = 1; i <= n; i++) print line[i]
+            else { print program ": a title has two blanks, so it looks like a window: before " bad >"/dev/stderr"; exit 1 }
+        }'
 }
 # give LINE: gives a command.  A server that hangs mustn't keep a lock for good.  mux prints a refusal on both streams: the
 # line with its meaning is enough.
@@ -149,6 +156,13 @@ take_lock() {
     [ -r "$1" ] || fault "can't read the lock: $1 (set --lock or MUX_LOCK)"
     exec 9<"$1"
     flock -w 60 9 || fault "another mux-console, mux-rights or mux-guest has held the lock for a minute: $1: try again"
+}
+# session_mark: prints what names the session: a mark, if it goes on over restarts (muxd-run --again), or else its socket.
+session_mark() {
+    cat -- "$socket.session" 2>/dev/null || socket_now
+}
+socket_now() {
+    stat -c '%d %i %z' -- "$socket" 2>/dev/null
 }
 # make_folder: sets folder to a new one for files of this script.
 make_folder() {
@@ -178,6 +192,24 @@ trails_of() {
     trails=$(setting TRAILS "$1/muxd.conf")
     [ -n "$trails" ] || return 1
     printf '%s\n' "$trails"
+}
+# is_written FILE: whether its server, whose process is in the name, has it open.
+is_written() {
+    server=${1%.trail}
+    server=${server##*.}
+    case $server in '' | *[!0-9]*) return 1 ;; esac
+    [ -n "$(find -L "/proc/$server/fd" -maxdepth 1 -samefile "$1" 2>/dev/null)" ]
+}
+# newest_trail FOLDER: prints the trail that a server has open, else the last one by name.  The clock may have been set
+# back, so the last name alone could be that of a session long over.
+newest_trail() {
+    last='' open=''
+    for next in "$1"/*.trail; do
+        [ -f "$next" ] || continue
+        last=$next
+        ! is_written "$next" || open=$next
+    done
+    printf '%s' "${open:-$last}"
 }
 # Waits until a key is pressed, or for two seconds, so that people can read what stands there before a page comes.  The
 # key isn't read here: it is the first one of what comes.
