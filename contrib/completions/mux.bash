@@ -16,6 +16,8 @@ _mux_listed() {
 _mux() {
     local program=$1 current=$2 previous=$3 words='' verb=''
     COMPREPLY=()
+    # mux-join takes an account.
+    [[ ${program##*/} != mux-join || $current == -* || $previous == -* ]] || previous=--with
     case $previous in
     --socket | --users | --setup | --token | --sizes | --trail | --seals | --state | --rights | --trails | --lock | --page | --links | --watch-token)
         mapfile -t COMPREPLY < <(compgen -f -- "$current")
@@ -27,12 +29,14 @@ _mux() {
     --loops) words='1 2 3 4 5 6 7 8' ;;
     --term) words='mux mux-8color vt220' ;;
     --leave) words='none' ;;
-    --login | --to)
-        mapfile -t COMPREPLY < <(compgen -u -- "$current")
+    --login | --to | --with | --give | --drop)
+        # Accounts, the last of several with commas between them.
+        [[ $current != *,* ]] || words=${current%,*},
+        mapfile -t COMPREPLY < <(compgen -u -P "$words" -- "${current##*,}")
         return
         ;;
     --user | --rows | --cols | --title | --keep | --window | --read | --session | --for | --wait | --owner | --at | --since) return ;;
-    --web | --listen | --origin | --watch | --most) return ;;
+    --until | --days | --name | --web | --listen | --origin | --watch | --most) return ;;
     --presets | --guest | --again | --stay | --number | --first) return ;;
     --writers) words='all one' ;;
     *)
