@@ -307,6 +307,13 @@ sub answer_owner {
     push @{ $self->{enders} }, $peer if $self->{ending};
 }
 
+# Whether the owner was here and isn't any more.
+sub is_unwatched {
+    my ($self) = @_;
+    $self->look_again;
+    return $self->{was_attached} && !$self->{session}->clients_of($self->{session}->owner);
+}
+
 # Does a request of mux-share.  Returns a fault or '', and text.
 sub command {
     my ($self, $is_inside, $word, @rest) = @_;
@@ -314,6 +321,9 @@ sub command {
     # Whoever may type in the shell can use mux-share there, so this says what is known of who asks.
     my $typists = join ', ', $guests->typists;
     my $by = $is_inside && $typists ne '' ? "somebody in the shell, while $typists could type" : 'you';
+    my %types = (with => $rest[2], web => $rest[1], give => 1);
+    return ('no terminal of yours is attached, so nobody would see what guests type: mux-share comes back first', '')
+        if $types{$word} && $self->is_unwatched;
     my %requests = (
         with  => sub { ($self->invite($by, @rest), invited($self, map { $rest[4 * $_] } 0 .. $#rest / 4)) },
         web   => sub { $self->let_browse($by, @rest) },

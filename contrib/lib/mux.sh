@@ -171,9 +171,10 @@ make_folder() {
 no_folder() {
     fault "can't make a folder for its files in ${TMPDIR:-/tmp}: ${1##*: }: set TMPDIR to another one"
 }
-# visible TEXT: prints it with ? for all but ASCII's visible characters, whoever named a file in it.
+# visible TEXT: prints it as one line with ? for all but ASCII's visible characters, whoever named a file in it.
 visible() {
-    printf '%s\n' "$1" | LC_ALL=C tr -c '\n -~' '?'
+    printf '%s' "$1" | LC_ALL=C tr -c ' -~' '?'
+    echo
 }
 # exit_on_signals: on a signal the script ends by its trap EXIT.
 exit_on_signals() {
