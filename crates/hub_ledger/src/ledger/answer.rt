@@ -178,7 +178,7 @@ impl Model for Ruling {
 impl Ruling {
     /// Whether the user may type.
     pub fn may_type(self) -> bool
-        ensures { result ≡ self.entry.may_type }
+        ensures { result ≡ self.may_type }
     {
         let Ruling { may_type, .. } = self;
         may_type
