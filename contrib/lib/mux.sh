@@ -193,6 +193,10 @@ trails_of() {
     [ -n "$trails" ] || return 1
     printf '%s\n' "$trails"
 }
+# is_trail FILE: whether it is a file and no link, by which the login that runs muxd could let root read something else.
+is_trail() {
+    [ -f "$1" ] && [ ! -L "$1" ]
+}
 # is_written FILE: whether its server, whose process is in the name, has it open.
 is_written() {
     server=${1%.trail}
@@ -205,7 +209,7 @@ is_written() {
 newest_trail() {
     last='' open=''
     for next in "$1"/*.trail; do
-        [ -f "$next" ] || continue
+        is_trail "$next" || continue
         last=$next
         ! is_written "$next" || open=$next
     done
