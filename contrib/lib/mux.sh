@@ -126,8 +126,9 @@ is_command() {
     return 1
 }
 
-# Prints the windows of an answer, a line each: a number, a blank, a title.  The answer has two blanks between windows, and *
-# at the one in focus.  Whoever names a window could make two of it by two blanks and a number: then numbers don't rise.
+# Prints the windows of an answer, a line each: a number, a blank, a title.  The answer has two blanks between windows,
+# and * at the one in focus.  Whoever names a window could make two of it by two blanks and a number: then numbers don't
+# rise.
 items() {
     sed 's/  \([0-9][0-9]*\*\{0,1\} \)/\n\1/g' | awk -v program="$program" -v last=-1 '
         NF == 0 { next }
@@ -135,7 +136,10 @@ items() {
         { last = $1 + 0; line[++n] = last substr($0, length($1) + 1) }
         END {
             if (bad == "") for (i = 1; i <= n; i++) print line[i]
-            else { print program ": a title has two blanks, so it looks like a window: before " bad >"/dev/stderr"; exit 1 }
+            else {
+                print program ": a title has two blanks, so it looks like a window: before " bad >"/dev/stderr"
+                exit 1
+            }
         }'
 }
 # give LINE: gives a command.  A server that hangs mustn't keep a lock for good.  mux prints a refusal on both streams: the
@@ -157,7 +161,7 @@ take_lock() {
     exec 9<"$1"
     flock -w 60 9 || fault "another mux-console, mux-rights or mux-guest has held the lock for a minute: $1: try again"
 }
-# session_mark: prints what names the session: a mark, if it goes on over restarts (muxd-run --again), or else its socket.
+# session_mark: prints what names the session: a mark, if it goes on over restarts (muxd-run --again), else its socket.
 session_mark() {
     cat -- "$socket.session" 2>/dev/null || socket_now
 }
