@@ -126,8 +126,9 @@ is_command() {
     return 1
 }
 
-# Prints the windows of an answer, a line each: a number, a blank, a title.  The answer has two blanks between windows, and *
-# at the one in focus.  Whoever names a window could make two of it by two blanks and a number: then numbers don't rise.
+# Prints the windows of an answer, a line each: a number, a blank, a title.  The answer has two blanks between windows,
+# and * at the one in focus.  Whoever names a window could make two of it by two blanks and a number: then numbers don't
+# rise.
 items() {
     sed 's/  \([0-9][0-9]*\*\{0,1\} \)/\n\1/g' | awk -v program="$program" -v last=-1 '
         NF == 0 { next }
@@ -135,7 +136,10 @@ items() {
         { last = $1 + 0; line[++n] = last substr($0, length($1) + 1) }
         END {
             if (bad == "") for (i = 1; i <= n; i++) print line[i]
-            else { print program ": a title has two blanks, so it looks like a window: before " bad >"/dev/stderr"; exit 1 }
+            else {
+                print program ": a title has two blanks, so it looks like a window: before " bad >"/dev/stderr"
+                exit 1
+            }
         }'
 }
 # give LINE: gives a command.  A server that hangs mustn't keep a lock for good.  mux prints a refusal on both streams: the
@@ -157,7 +161,7 @@ take_lock() {
     exec 9<"$1"
     flock -w 60 9 || fault "another mux-console, mux-rights or mux-guest has held the lock for a minute: $1: try again"
 }
-# session_mark: prints what names the session: a mark, if it goes on over restarts (muxd-run --again), or else its socket.
+# session_mark: prints what names the session: a mark, if it goes on over restarts (muxd-run --again), else its socket.
 session_mark() {
     cat -- "$socket.session" 2>/dev/null || socket_now
 }
@@ -194,6 +198,10 @@ trails_of() {
     [ -n "$trails" ] || return 1
     printf '%s\n' "$trails"
 }
+# is_trail FILE: whether it is a file and no link, by which the login that runs muxd could let root read something else.
+is_trail() {
+    [ -f "$1" ] && [ ! -L "$1" ]
+}
 # is_written FILE: whether its server, whose process is in the name, has it open.
 is_written() {
     server=${1%.trail}
@@ -206,7 +214,7 @@ is_written() {
 newest_trail() {
     last='' open=''
     for next in "$1"/*.trail; do
-        [ -f "$next" ] || continue
+        is_trail "$next" || continue
         last=$next
         ! is_written "$next" || open=$next
     done
