@@ -10,6 +10,13 @@ our @EXPORT = qw(first_line given greeting invited left list list_for_guest nobo
 
 sub me { return getpwuid($>) // $> }
 
+# Whether the owner went away, and isn't just coming for the first time.
+sub is_away {
+    my ($keeper) = @_;
+    my $session = $keeper->{session};
+    return $keeper->{was_attached} && !$session->clients_of($session->owner);
+}
+
 # Returns the line by which an account joins.
 sub join_line {
     my ($keeper) = @_;
@@ -119,8 +126,7 @@ sub list {
 sub list_for_guest {
     my ($keeper) = @_;
     my ($guests, $session) = @$keeper{qw(guests session)};
-    my $is_here = $session->clients_of($session->owner);
-    return (me() . ', whose shell it is: ' . ($is_here ? 'here' : 'away, so nobody can type'),
+    return (me() . ', whose shell it is: ' . (is_away($keeper) ? 'away, so nobody can type' : 'here'),
         map { "$_->{account}: here" . ($_->{types} ? ', may type' : '') }
         grep { $session->clients_of($_->{name}) } $guests->all);
 }
@@ -131,7 +137,7 @@ sub welcome {
     my $session = $keeper->{session};
     my $limit = MuxShare::Guests::limit($guest);
     my $what = ($guest->{types} ? 'you can type' : 'you can look, not type') . ($limit eq '' ? '' : ", $limit");
-    $what .= ', and ' . me() . ' is away' unless $session->clients_of($session->owner);
+    $what .= ', and ' . me() . ' is away' if is_away($keeper);
     return (join(' ', $session->size), $what);
 }
 

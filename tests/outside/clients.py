@@ -261,6 +261,13 @@ def no_right_to_detach():
             check("and is a detaching", b"[detached from" in it.out, str(it.out[-80:]))
         time.sleep(0.2)
         check("the client is gone", b"bob" not in server.give(b"displays"))
+        for line, said in ((b"acldel bob", b": you were removed, and its owner"), (b"multiuser off", b"is single-user now: nobody")):
+            server.give(b"multiuser on")
+            server.give(b"acladd bob")
+            with Terminal([script("mux-attach"), "--socket", server.path, "--user", "bob", "--token", token]) as it:
+                assert it.is_drawn(), "bob isn't attached"
+                server.give(line)
+                check(f"{line.decode()} sends bob away, who is told", it.shows(said), str(it.out[-90:]))
 
 
 def stopped_server():
