@@ -151,8 +151,11 @@ sub serve {
 sub turn {
     my ($self, $left) = @_;
     return $self->{ending} = 1 if defined $left && ($left <= 0 || !kill 0, $self->{caller});
+    return $self->{ending} = 1 unless $self->{session}->go_on;
+    $self->{look_at} = now() + BACK if $self->{session}->is_anew;
     my $wait = $self->{guests}->keep_time;
-    $wait = LOOK if (defined $left || $self->{look_at} || $self->{greet_at}) && LOOK < $wait;
+    my $is_soon = defined $left || $self->{look_at} || $self->{greet_at} || $self->{session}->is_lost;
+    $wait = LOOK if $is_soon && LOOK < $wait;
     my $ready = '';
     my @news = $self->{session}->news_pipes;
     vec($ready, fileno $_, 1) = 1 for @$self{qw(door came here)}, @news;
@@ -179,7 +182,6 @@ sub reap {
         elsif ($self->{session}->is_web($gone)) { $self->{guests}->drop_browsers }
         elsif ($self->{session}->is_ended_by($gone, $?)) { $self->{ending} = 1 }
     }
-    $self->{look_at} = now() + BACK if $self->{session}->is_anew;
 }
 
 # Handles clients that came and went, as muxd says, and CHANGES that nobody has said.
@@ -257,7 +259,7 @@ sub answer_door {
     accept(my $peer, $self->{door}) or return;
     my $uid = peer_uid($peer);
     if ($uid == $>) { $self->answer_owner($peer) }
-    elsif (!$self->{was_here} || $self->{look_at} || $self->{guests}->is_pending) { return }
+    elsif (!$self->{was_here} || $self->{look_at} || $self->{guests}->is_pending || $self->{session}->is_lost) { return }
     elsif ($self->{guests}->guest($uid)) { $self->let_in($peer, $uid) }
 }
 

@@ -234,6 +234,9 @@ sub prepare {
 # Starts muxd, which goes on where the last trail ends.  Trails are as private as the place, and go with it.
 sub start_server {
     my ($self) = @_;
+    # It must know no guest who has gone.
+    my $fault = $self->is_unwritten ? $self->write_users : '';
+    die "$fault\n" if $fault ne '';
     my @words = ('--users', "$self->{own}/users", '--setup', "$self->{own}/first", '--trails', "$self->{own}/trails",
         '--again', STAY, '--', '--user-clients', CLIENTS, '--log');
     $self->{server} = $self->start_read(undef, "$self->{scripts}/muxd-run", '--socket', $self->{socket}, @words);
@@ -363,9 +366,27 @@ sub is_ended_by {
     $self->{server} = undef;
     return 1 if $status == 0 || ++$self->{starts} > OFTEN;
     log_line('muxd has ended: the session goes on');
-    return 0 if eval { $self->start_server; $self->{is_anew} = 1 };
+    @$self{qw(lost tried)} = (now(), 0);
+    return 0;
+}
+
+# Whether muxd has ended and isn't there again.
+sub is_lost { return $_[0]{lost} }
+
+# Starts muxd anew if it has ended, at most once a second: a disk may be full.  Returns whether the session goes on,
+# whose shell waits for STAY seconds.
+sub go_on {
+    my ($self) = @_;
+    return 1 if !$self->{lost} || now() < $self->{tried} + 1;
+    $self->{tried} = now();
+    if (eval { $self->start_server; 1 }) {
+        @$self{qw(lost is_anew)} = (0, 1);
+        return 1;
+    }
     log_line($@ =~ s/\n$//r);
-    return 1;
+    kill 'TERM', $self->{server} if $self->{server} && $self->is_own($self->{server});
+    $self->{server} = undef;
+    return now() < $self->{lost} + STAY;
 }
 
 # Whether muxd was started anew since the last call.
