@@ -6,6 +6,9 @@ use std::fs;
 use std::fs::{File, Files};
 use std::time::{Clock, SystemTime};
 
+// The file of a link has no more bytes.
+const MOST: u64 = 200;
+
 /// What a link stands for.
 #[derive(Drop)]
 pub struct Linked {
@@ -31,13 +34,18 @@ fn read_link<R: Clock + AllocGlobal>(rt: &R, text: &str) -> Option<Linked> {
 }
 
 /// What the link with this secret stands for. Its file in the folder has the secret as its name, and only one use can
-/// remove it. None if it was used, is too old, or never was.
+/// remove it. None if it was used, is too old, or never was, or if something else than a short file has that name.
 pub fn take_link<R>(rt: &R, folder: &str, secret: &Token) -> Option<Linked>
 where
     R: Files<File = File> + Clock + AllocGlobal,
 {
     let digits = str::from_utf8(secret.as_slice()).ok()?;
     let path = format!(in rt.alloc(); "{folder}/{digits}").ok()?;
+    // Opening a FIFO would wait.
+    let found = fs::metadata(rt, path.as_str()).ok()?;
+    if !found.is_file() || found.len() > MOST {
+        return None;
+    }
     let text = fs::read_to_string(rt, path.as_str()).ok()?;
     fs::remove_file(rt, path.as_str()).ok()?;
     read_link(rt, text.as_str())
