@@ -1,6 +1,6 @@
--- What clients hear, read after read.
-use Rattle.std.proofs.Common.{◌≡◌, ℕ, zero, suc, List, [], ◌∷◌, ◌++◌, Option, Some, None, refl, sym, ap, subst, ◌∙◌}
-use Rattle.std.proofs.Common.{Result, Ok, Err, IfErr, OnOk, ◌≢◌}
+-- What clients hear of one read.
+use Rattle.std.proofs.Common.{◌≡◌, ℕ, zero, suc, List, Option, refl, sym, ap, subst, inl, inr}
+use Rattle.std.proofs.Common.{Result, Ok, Err, IfErr, OnErr, OnOk, ◌≢◌, ◌∙◌}
 use Rattle.std.specs.IoError.{error_kind}
 use Rattle.std.specs.declared.io.Error.{Error}
 use Rattle.std.specs.declared.io.ErrorKind.{ErrorKind}
@@ -11,29 +11,13 @@ use Rattle.web_client.specs.declared.identity.Identity.{Identity}
 use Rattle.web_client.specs.declared.identity.Identity.TheVariants.{Nobody, Own, Watching, Link, Unknown, Left}
 use Rattle.web_client.specs.Asking.{IfOwn, IsOwn, Keeps}
 use Rattle.web_client.specs.Sending.{HearsNext}
-use Rattle.web_page.specs.Hearing.{WebDisplay, Hears}
-use Rattle.web_relay.specs.declared.streams.ReadOutcome.{ReadOutcome}
-use Rattle.web_relay.specs.declared.streams.ReadOutcome.TheVariants.{End}
-use Rattle.web_relay.specs.Hearing.{HearsAll, HearsEach, HearsOnly}
+use Rattle.web_relay.specs.declared.streams.ReadOutcome.TheVariants.{End, More, Nothing}
+use Rattle.web_relay.specs.Hearing.{MayHear, HearsOnly}
 use Rattle.web_relay.specs.Tokens.{failed, outcome}
-
-hears_append : (ps qs : List (List ℕ)) (a b c : WebDisplay) → HearsAll ps a b → HearsAll qs b c
-    → HearsAll (ps ++ qs) a c
-hears_append [] qs a b c e h = subst (λ (d : WebDisplay). HearsAll qs d c) e h
-hears_append (p ∷ ps) qs a b c all h = (all.0, all.1, hears_append ps qs all.0 b c all.2 h)
-
-pub each_self : (d : WebDisplay) → HearsEach d d
-each_self d = ([], refl)
-
-pub each_one : (bytes : List ℕ) (a b : WebDisplay) → Hears a bytes b → HearsEach a b
-each_one bytes a b h = (bytes ∷ [], (b, h, refl))
-
-pub each_then : (a b c : WebDisplay) → HearsEach a b → HearsEach b c → HearsEach a c
-each_then a b c p q = (p.0 ++ q.0, hears_append p.0 q.0 a b c p.1 q.1)
 
 pub only_self : (s : Identity) → HearsOnly s s
 only_self Nobody = refl
-only_self (Own c) = (refl, each_self c.display)
+only_self (Own c) = (refl, inl refl)
 only_self (Watching rows columns) = refl
 only_self (Link secret) = refl
 only_self Unknown = refl
@@ -41,24 +25,6 @@ only_self Left = refl
 
 pub only_same : (s t : Identity) → t ≡ s → HearsOnly s t
 only_same s t e = subst (λ (v : Identity). HearsOnly s v) (sym e) (only_self s)
-
-pub only_then : (a b c : Identity) → HearsOnly a b → HearsOnly b c → HearsOnly a c
-only_then Nobody b c h k = subst (λ (v : Identity). HearsOnly v c) h k
-only_then (Own a) Nobody c h k = absurd h
-only_then (Own a) (Own b) Nobody h k = k
-only_then (Own a) (Own b) (Own c) h k = (k.0 ∙ h.0, each_then a.display b.display c.display h.1 k.1)
-only_then (Own a) (Own b) (Watching rows columns) h k = k
-only_then (Own a) (Own b) (Link secret) h k = k
-only_then (Own a) (Own b) Unknown h k = k
-only_then (Own a) (Own b) Left h k = k
-only_then (Own a) (Watching rows columns) c h k = absurd h
-only_then (Own a) (Link secret) c h k = absurd h
-only_then (Own a) Unknown c h k = absurd h
-only_then (Own a) Left c h k = absurd h
-only_then (Watching rows columns) b c h k = subst (λ (v : Identity). HearsOnly v c) h k
-only_then (Link secret) b c h k = subst (λ (v : Identity). HearsOnly v c) h k
-only_then Unknown b c h k = subst (λ (v : Identity). HearsOnly v c) h k
-only_then Left b c h k = subst (λ (v : Identity). HearsOnly v c) h k
 
 -- a stream that has to be asked again didn't give what can't be heard
 pub not_invalid : (k : ErrorKind) → (failed k ≡ End → ⊥) → k ≢ InvalidData
@@ -68,7 +34,7 @@ own-heard : (left later : Option (List ℕ)) (a b : Identity) → Keeps a b
     → IfOwn a (λ old. IsOwn b (λ new. HearsNext left old.display later new.display)) → HearsOnly a b
 own-heard left later Nobody b k h = k
 own-heard left later (Own a) Nobody k h = h
-own-heard left later (Own a) (Own b) k h = (k, each_one h.0 a.display b.display h.2)
+own-heard left later (Own a) (Own b) k h = (k, inr (h.0, h.2))
 own-heard left later (Own a) (Watching rows columns) k h = h
 own-heard left later (Own a) (Link secret) k h = h
 own-heard left later (Own a) Unknown k h = h
@@ -90,8 +56,21 @@ heard (Err e) left later a b goes_on k h u =
 
 pub shared_heard : (r : Result ℕ Error) (left later : Option (List ℕ)) (a b : SharedClient) → (outcome r ≡ End → ⊥)
     → OnOk r (HearsNext left a.client.display later b.client.display)
-    → IfErr r (λ e. error_kind e ≢ InvalidData → b ≡ a) → HearsEach a.client.display b.client.display
+    → IfErr r (λ e. error_kind e ≢ InvalidData → b ≡ a) → MayHear a.client.display b.client.display
 shared_heard (Ok zero) left later a b goes_on h u = absurd (goes_on refl)
-shared_heard (Ok (suc n)) left later a b goes_on h u = each_one h.0 a.client.display b.client.display h.2
+shared_heard (Ok (suc n)) left later a b goes_on h u = inr (h.0, h.2)
 shared_heard (Err e) left later a b goes_on h u =
-    ([], ap (λ (c : SharedClient). c.client.display) (u (not_invalid (error_kind e) goes_on)))
+    inl (ap (λ (c : SharedClient). c.client.display) (u (not_invalid (error_kind e) goes_on)))
+
+-- a read that has nothing to give now is an error, and not one of what came
+pub nothing_came : (r : Result ℕ Error) (P : Type 0) → outcome r ≡ Nothing → OnErr r P → P
+nothing_came (Ok zero) P is p = absurd (let wrong : End ≡ Nothing = is in cc)
+nothing_came (Ok (suc n)) P is p = absurd (let wrong : More ≡ Nothing = is in cc)
+nothing_came (Err e) P is p = p
+
+pub nothing_heard : (r : Result ℕ Error) (P : Type 0) → outcome r ≡ Nothing
+    → IfErr r (λ e. error_kind e ≢ InvalidData → P) → P
+nothing_heard (Ok zero) P is p = absurd (let wrong : End ≡ Nothing = is in cc)
+nothing_heard (Ok (suc n)) P is p = absurd (let wrong : More ≡ Nothing = is in cc)
+nothing_heard (Err e) P is p =
+    p (not_invalid (error_kind e) (λ ends. let wrong : End ≡ Nothing = sym ends ∙ is in cc))

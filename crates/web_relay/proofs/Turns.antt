@@ -1,23 +1,16 @@
 -- Halls, place by place.
-use Rattle.std.proofs.Common.{◌≡◌, ◌≢◌, ℕ, ◌+◌, ◌≤◌, ◌<◌, [], refl, sym, subst, ◌∙◌, inl, inr, Option, Some, None}
-use Rattle.std.proofs.Common.{◌==◌, Bool, true, false, if◌then◌else◌, IsSome, ap, length, arith}
-use Rattle.std.proofs.Common.{Result, Ok, Err, OnErr}
-use Rattle.std.specs.Prelude.{IsSomeAnd, MatchBool, IfOk, OnSome}
-use Rattle.std.proofs.lemmas.Bool.{cases_eq, cases_lt}
+use Rattle.std.proofs.Common.{◌≡◌, ◌≢◌, ℕ, suc, ◌+◌, ◌≤◌, ◌<◌, List, [], ◌∷◌, refl, sym, subst, ◌∙◌, inl, inr}
+use Rattle.std.proofs.Common.{◌==◌, Bool, true, false, if◌then◌else◌, Option, Some, None, ap, length, get_or, arith}
+use Rattle.std.proofs.Common.{Result, Ok, Err, OnErr, count_by}
+use Rattle.std.specs.Prelude.{IfOk, IfSome, OnSome, is_some}
+use Rattle.std.proofs.lemmas.Bool.{cases_lt}
 use Rattle.std.proofs.lemmas.List.{get_or_past}
-use Rattle.slab.specs.Slab.{Slab, get, with_value, Updates}
-use Rattle.slab.proofs.SlabLemmas.{Updates-with_value}
+use Rattle.slab.specs.Slab.{Slab, get, Updates}
 use Rattle.web_relay.specs.declared.hall.Hall.{Hall}
-use Rattle.web_relay.specs.Halls.{AtBoth, IsNewer, Renews, Turns, hall_of, with_serial}
-use Rattle.web_relay.specs.Relaying.{Loses}
-use Rattle.web_relay.specs.Seeing.{SeesHall, Watches}
+use Rattle.web_relay.specs.Halls.{IsNewer, Renews, hall_of, with_serial}
 use Rattle.web_relay.specs.declared.halls.HallNumber.{HallNumber}
-use Rattle.web_relay.specs.declared.upstream.TheConstants.{ENDED}
 use Rattle.std.specs.declared.time.Duration.{Duration}
-use Rattle.web_client.specs.declared.visitor.Visitor.{Visitor}
-use Rattle.web_client.proofs.Writing.{more_written}
 use Rattle.web_requests.specs.declared.site.Watcher.{Watcher}
-use Rattle.web_relay.proofs.Hearing.{each_self, each_then}
 
 -- ---- each place in its turn
 
@@ -61,28 +54,8 @@ newer-later w now early late (Some old) (Some new) le n = (n.0, omega (arith, n.
 -- a hall that is newer than a later serial
 pub renews-later : (w : Option Watcher) (now : Duration) (early late : ℕ) (old new : Option Hall) → early ≤ late
     → Renews w now late old new → Renews w now early old new
-renews-later w now early late old new le (inl same) = inl same
+renews-later w now early late old new le (inl stays) = inl stays
 renews-later w now early late old new le (inr newer) = inr (newer-later w now early late old new le newer)
-
-pub not-over : (a b : Bool) → (a ≡ true → b ≡ true) → b ≡ false → a ≡ false
-not-over true b h e = let t : b ≡ true = h refl in cc
-not-over false b h e = refl
-
--- ---- what a hall's client hears and asks
-
-pub turns_then : (a b c : Hall) → Turns a b → Turns b c → Turns a c
-turns_then a b c p q = record {
-  heard = λ e. each_then a.client.client.display b.client.client.display c.client.client.display
-      (p.heard (not-over b.is_lost c.is_lost q.lost e)) (q.heard e);
-  asked = more_written a.client.client.outgoing b.client.client.outgoing c.client.client.outgoing p.asked q.asked;
-  lost = λ e. q.lost (p.lost e);
-  rest = q.rest ∙ ap (λ (h : Hall). record h {
-    client = c.client;
-    stream = c.stream;
-    is_ready = c.is_ready;
-    is_lost = c.is_lost;
-  }) p.rest;
-}
 
 -- ---- a hall's number
 
@@ -91,35 +64,17 @@ only-one : (there hall : Hall) (b : Bool) → if◌then◌else◌ {A = Option Ha
 only-one there hall true e = cc
 only-one there hall false e = cc
 
-hall-is : (halls : Slab Hall) (number : HallNumber) (there hall : Hall) → get halls number.place ≡ Some there
+pub hall-is : (halls : Slab Hall) (number : HallNumber) (there hall : Hall) → get halls number.place ≡ Some there
     → hall_of halls number ≡ Some hall → there ≡ hall
 hall-is halls number there hall is found =
     only-one there hall (there.serial == number.serial)
     (subst (λ (v : Option Hall). with_serial number.serial v ≡ Some hall) is found)
 
-module _ (halls : Slab Hall) (number : HallNumber) (there hall after : Hall) (old v new : Visitor)
-    (is : get halls number.place ≡ Some there) (found : hall_of halls number ≡ Some hall)
-    (sees : SeesHall there after old v) where
-  shown : MatchBool there.is_lost (Loses ENDED.now v new) (new ≡ v)
-      → IsSomeAnd (get (with_value halls number.place after) number.place) (λ a. Watches hall a old new)
-  shown ends =
-      let contains : IsSome (get halls number.place) = subst (λ (o : Option Hall). IsSome o) (sym is) refl in
-      let u = Updates-with_value halls number.place after contains in
-      subst (λ (o : Option Hall). IsSomeAnd o (λ a. Watches hall a old new)) (sym u.changed)
-      (subst (λ (h : Hall). Watches h after old new) (hall-is halls number there hall is found) (v, sees, ends))
-
-  lost-then : (b : Bool) → after.is_lost ≡ b → there.is_lost ≡ b
-  lost-then b e = sym (ap (λ (h : Hall). h.is_lost) sees.rest) ∙ e
-
-  pub shown-last : after.is_lost ≡ true → Loses ENDED.now v new
-      → IsSomeAnd (get (with_value halls number.place after) number.place) (λ a. Watches hall a old new)
-  shown-last lost loses =
-      shown (subst (λ (b : Bool). MatchBool b (Loses ENDED.now v new) (new ≡ v)) (sym (lost-then true lost)) loses)
-
-  pub shown-on : after.is_lost ≡ false → new ≡ v
-      → IsSomeAnd (get (with_value halls number.place after) number.place) (λ a. Watches hall a old new)
-  shown-on lost same =
-      shown (subst (λ (b : Bool). MatchBool b (Loses ENDED.now v new) (new ≡ v)) (sym (lost-then false lost)) same)
+-- no hall is there
+pub no-halls : (halls : List (Option Hall)) → ((q : ℕ) → get_or halls q None ≡ None) → count_by is_some halls ≡ 0
+no-halls [] all = refl
+no-halls (None ∷ halls) all = no-halls halls (λ q. all (suc q))
+no-halls (Some hall ∷ halls) all = absurd (let e : Some hall ≡ None = all 0 in cc)
 
 -- ---- a hall that comes for another one
 
@@ -137,3 +92,7 @@ insert-others (Ok key) before after place hall next is updates err other apart =
     updates.others other (λ (e : other ≡ key). apart (e ∙ is ∙ next))
 insert-others (Err e) before after place hall next is updates err other apart =
     ap (λ (s : Slab Hall). get s other) err
+
+pub some_more : (P Q : ℕ → Type 0) (r : Option ℕ) → ((n : ℕ) → P n → Q n) → IfSome r P → IfSome r Q
+some_more P Q None more h = tt
+some_more P Q (Some n) more h = more n h

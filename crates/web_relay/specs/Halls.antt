@@ -1,10 +1,10 @@
 -- The halls of watchers.
-use Rattle.std.specs.Prelude.{◌≡◌, ◌==◌, ◌+◌, ◌⊎◌, ◌≤◌, nat_lt, ℕ, true, false, Option, Some, None, if◌then◌else◌, IsSome}
-use Rattle.std.specs.Prelude.{List, ◌++◌, IsSomeAnd}
+use Rattle.std.specs.Prelude.{◌≡◌, ◌==◌, ◌+◌, ◌⊎◌, ◌<◌, ◌≤◌, nat_lt, ℕ, true, false, Option, Some, None}
+use Rattle.std.specs.Prelude.{List, ◌++◌, IfSome, IsSome, IsSomeAnd, if◌then◌else◌}
 use Rattle.std.specs.String.{string_bytes}
 use Rattle.std.specs.Duration.{as_nanos}
 use Rattle.std.specs.declared.time.Duration.{Duration}
-use Rattle.slab.specs.Slab.{Slab, get}
+use Rattle.slab.specs.Slab.{Slab, SameValues, Updates, get, slab_len}
 use Rattle.attach_proto.specs.declared.message.Message.TheVariants.{Attach, Keys}
 use Rattle.attach_proto.specs.Spelling.{spelling}
 use Rattle.web_client.specs.declared.client.SharedClient.{SharedClient}
@@ -12,9 +12,13 @@ use Rattle.web_client.specs.Sending.{IsRest}
 use Rattle.web_page.specs.Hearing.{IsBlank}
 use Rattle.web_page.specs.Vacant.{IsVacant}
 use Rattle.web_requests.specs.declared.site.Watcher.{Watcher}
-use Rattle.web_relay.specs.Hearing.{HearsEach}
+use Rattle.web_relay.specs.Hearing.{MayHear}
+use Rattle.web_relay.specs.Walking.{Repeats}
 use Rattle.web_relay.specs.declared.hall.Hall.{Hall}
+use Rattle.web_relay.specs.declared.halls.Halls.{Halls}
 use Rattle.web_relay.specs.declared.halls.HallNumber.{HallNumber}
+use Rattle.web_relay.specs.declared.streams.ReadOutcome.{ReadOutcome}
+use Rattle.web_relay.specs.declared.streams.ReadOutcome.TheVariants.{More, Nothing, End}
 
 -- the hall at a place, if it has this serial
 abbrev pub with_serial : ℕ → Option Hall → Option Hall
@@ -30,6 +34,37 @@ abbrev pub HasSize : (ℕ × ℕ) → Option Hall → Type 0
 HasSize size None = ⊥
 HasSize size (Some hall) = hall.size ≡ size
 
+-- no hall of this size is there
+abbrev pub HasNone : (ℕ × ℕ) → Slab Hall → Type 0
+HasNone size halls = (place : ℕ) → HasSize size (get halls place) → ⊥
+
+-- its page isn't larger than this
+abbrev pub FitsIn : (ℕ × ℕ) → Hall → Type 0
+FitsIn size hall = (hall.size.0 ≤ size.0) × (hall.size.1 ≤ size.1)
+
+-- a hall whose page isn't larger than this, or any hall if all are larger
+abbrev pub IsStandIn : (ℕ × ℕ) → Slab Hall → ℕ → Type 0
+IsStandIn size halls place = IsSomeAnd (get halls place) (λ hall. FitsIn size hall
+    ⊎ ((other : ℕ) → IfSome (get halls other) (λ it. FitsIn size it → ⊥)))
+
+-- of the halls that were looked at the best is at this place, or still at the other one
+abbrev pub IsBetterOf : (ℕ × ℕ) → ℕ → Hall → Option ℕ → Option ℕ → Type 0
+IsBetterOf size place hall None new = new ≡ Some place
+IsBetterOf size place hall (Some old) new =
+    (FitsIn size hall × (new ≡ Some place)) ⊎ ((FitsIn size hall → ⊥) × (new ≡ Some old))
+
+abbrev pub numbered : ℕ → Option Hall → Option HallNumber
+numbered place None = None
+numbered place (Some hall) = Some (record { place = place; serial = hall.serial })
+
+-- the number of the hall at a place
+abbrev pub number_at : Slab Hall → ℕ → Option HallNumber
+number_at halls place = numbered place (get halls place)
+
+abbrev pub number_of : Slab Hall → Option ℕ → Option HallNumber
+number_of halls None = None
+number_of halls (Some place) = number_at halls place
+
 -- Nothing is there before and after, or a hall of which this holds.
 abbrev pub AtBoth : (Hall → Hall → Type 0) → Option Hall → Option Hall → Type 0
 AtBoth P None new = new ≡ None
@@ -42,21 +77,34 @@ AtEach P old new = (place : ℕ) → AtBoth P (get old place) (get new place)
 
 -- ---- what a hall's client hears and asks
 
--- What came of the server is heard, unless the connection ended, and what waits for it may be written.
-pub record Turns (old new : Hall) : Type 0 where
-  pub heard : new.is_lost ≡ false → HearsEach old.client.client.display new.client.client.display
-  pub asked : IsRest old.client.client.outgoing new.client.client.outgoing
-  pub lost : old.is_lost ≡ true → new.is_lost ≡ true
-  pub rest : new ≡ record old {
-    client = new.client;
-    stream = new.stream;
-    is_ready = new.is_ready;
-    is_lost = new.is_lost;
-  }
+-- What came of the server was heard, perhaps nothing; or nothing comes now; or the connection ended.
+abbrev pub HallHearsAs : ReadOutcome → Hall → Hall → Type 0
+HallHearsAs More old new =
+    MayHear old.client.client.display new.client.client.display
+    × (new.client.client.outgoing ≡ old.client.client.outgoing)
+    × (new ≡ record old { client = new.client; stream = new.stream })
+HallHearsAs Nothing old new = new ≡ record old { stream = new.stream; is_ready = false }
+HallHearsAs End old new =
+    (new.client.client.outgoing ≡ old.client.client.outgoing)
+    × (new ≡ record old { client = new.client; stream = new.stream; is_lost = true })
 
--- nobody counts as its audience yet
-abbrev pub TurnsAlone : Hall → Hall → Type 0
-TurnsAlone old new = Turns (record old { audience = 0 }) new
+-- one read of the server
+abbrev pub HallHears : Hall → Hall → Type 0
+HallHears old new = (came : ReadOutcome) × HallHearsAs came old new
+
+abbrev pub IsHallToHear : Hall → Type 0
+IsHallToHear hall = (hall.is_ready ≡ true) × (hall.is_lost ≡ false)
+
+-- what waits for the server may be written, and the connection may have ended
+pub record HallWrites (old new : Hall) : Type 0 where
+  pub asked : IsRest old.client.client.outgoing new.client.client.outgoing
+  pub shown : new.client.client.display ≡ old.client.client.display
+  pub lost : (new.is_lost ≡ old.is_lost) ⊎ (new.is_lost ≡ true)
+  pub rest : new ≡ record old { client = new.client; stream = new.stream; is_lost = new.is_lost }
+
+-- What the server sent is heard, in up to 16 reads, and what waits for it written. Nobody counts as its audience yet.
+abbrev pub HallTurns : Hall → Hall → Type 0
+HallTurns old new = (mid : Hall) × Repeats IsHallToHear HallHears 16 (record old { audience = 0 }) mid × HallWrites mid new
 
 -- its connection has something to read, or has room
 abbrev pub heeds : Hall → Hall
@@ -88,6 +136,10 @@ IsStuck now hall =
     (as_nanos hall.opened + 10000000000 ≤ as_nanos now)
     × IsVacant hall.client.client.display.sheet.terminal.screen.page
 
+abbrev pub IsStuckAt : Duration → Option Hall → Type 0
+IsStuckAt now None = ⊥
+IsStuckAt now (Some hall) = IsStuck now hall
+
 -- a hall that opens now, and was watched last at a time: its client attaches as the user as whom anybody may watch
 pub record IsOpened (watcher : Watcher) (size : ℕ × ℕ) (now watched : Duration) (hall : Hall) : Type 0 where
   pub asks : hall.client.client.outgoing
@@ -106,6 +158,26 @@ pub record IsOpened (watcher : Watcher) (size : ℕ × ℕ) (now watched : Durat
 -- the same, if anybody may watch
 abbrev pub OpensBy : Option Watcher → ℕ × ℕ → Duration → Duration → Hall → Type 0
 OpensBy watcher size now watched hall = IsSomeAnd watcher (λ w. IsOpened w size now watched hall)
+
+-- A hall opens where none was, with a serial that none had before `next`. If none can be opened, nothing is there.
+pub record Opens (watcher : Option Watcher) (now : Duration) (size : ℕ × ℕ) (old : Halls) (opened : Option ℕ)
+    (new : Halls) : Type 0 where
+  pub none : opened ≡ None → SameValues old.list new.list
+  pub some : IfSome opened (λ place. (get old.list place ≡ None) × (hall : Hall)
+      × (hall.serial ≡ old.next) × OpensBy watcher size now now hall
+      × Updates old.list new.list place (Some hall))
+  pub next : old.next ≤ new.next
+  pub rest : new ≡ record old { list = new.list; next = new.next }
+
+-- The hall of a size: the one that is there; or a stand-in, if all places are taken by others; or one that opens now.
+pub record Enters (watcher : Option Watcher) (now : Duration) (size : ℕ × ℕ) (old : Halls)
+    (found : Option HallNumber) (new : Halls) : Type 0 where
+  pub known : (place : ℕ) → HasSize size (get old.list place) → (new ≡ old) × (there : ℕ)
+      × HasSize size (get old.list there) × (found ≡ number_at old.list there)
+  pub full : HasNone size old.list → 8 ≤ slab_len old.list → (new ≡ old) × (there : ℕ)
+      × IsStandIn size old.list there × (found ≡ number_at old.list there)
+  pub opens : HasNone size old.list → slab_len old.list < 8 → (opened : Option ℕ)
+      × Opens watcher now size old opened new × (found ≡ number_of new.list opened)
 
 -- who watches it is noted
 abbrev pub noted : Duration → Hall → Hall
@@ -131,6 +203,7 @@ IsNewer watcher now next (Some old) None = IsStuck now old
 IsNewer watcher now next (Some old) (Some new) =
     IsStuck now old × (next ≤ new.serial) × OpensBy watcher old.size now old.watched new
 
--- A hall stays, or, if it is stuck, goes and perhaps another one of its size comes for it.
+-- A hall that is stuck goes, and perhaps another one of its size comes for it. Every other one stays.
 abbrev pub Renews : Option Watcher → Duration → ℕ → Option Hall → Option Hall → Type 0
-Renews watcher now next old new = (new ≡ old) ⊎ IsNewer watcher now next old new
+Renews watcher now next old new =
+    ((IsStuckAt now old → ⊥) × (new ≡ old)) ⊎ IsNewer watcher now next old new

@@ -1,5 +1,6 @@
 pub mod Hearing
 pub mod Tokens
+pub mod Walking
 pub mod Halls
 pub mod Places
 pub mod Relaying

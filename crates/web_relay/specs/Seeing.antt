@@ -1,11 +1,49 @@
 -- What browsers see: of their own client, or of a hall.
-use Rattle.std.specs.Prelude.{◌≡◌, MatchBool}
+use Rattle.std.specs.Prelude.{◌≡◌, ◌≢◌, ◌⊎◌, ◌+◌, ◌-◌, ◌^◌, ℕ, Bool, true, false, min, MatchBool}
+use Rattle.std.specs.Prelude.{Option, Some, None, is_none}
+use Rattle.std.specs.declared.time.Duration.{Duration}
+use Rattle.slab.specs.Slab.{with_value}
 use Rattle.web_client.specs.declared.visitor.Visitor.{Visitor}
-use Rattle.web_client.specs.Asking.{IsOwn, IfOwn}
+use Rattle.web_client.specs.declared.identity.Identity.TheVariants.{Watching}
+use Rattle.web_client.specs.Asking.{IsOwn, IfOwn, IsWatcher, Keeps}
 use Rattle.web_client.specs.Rows.{IsDue, Shows, SendsAll}
+use Rattle.web_requests.specs.declared.site.Watcher.{Watcher}
 use Rattle.web_relay.specs.declared.hall.Hall.{Hall}
-use Rattle.web_relay.specs.Relaying.{IsOpen, HasClient, Loses}
+use Rattle.web_relay.specs.declared.halls.Halls.{Halls}
+use Rattle.web_relay.specs.declared.halls.HallNumber.{HallNumber}
+use Rattle.web_relay.specs.declared.relay.Relay.{Relay}
+use Rattle.web_relay.specs.declared.relay.TheConstants.{NO_SERVER}
+use Rattle.web_relay.specs.Halls.{Enters, hall_of}
+use Rattle.web_relay.specs.Relaying.{HasClient, IsOpen, LosesPage}
 use Rattle.web_relay.specs.declared.upstream.TheConstants.{ENDED}
+
+-- ---- a seat
+
+-- a browser that watches is told that there is no hall for it, if none was found
+abbrev pub MissesHall : Option HallNumber → Relay → Relay → Type 0
+MissesHall None old new = LosesPage NO_SERVER.now old new
+MissesHall (Some number) old new = new ≡ old
+
+-- a browser that was sent nothing of its hall's page
+abbrev pub seated_afresh : Option HallNumber → Relay → Relay
+seated_afresh found r =
+    record r { hall = found; visitor = record r.visitor { view = record { is_welcomed = false; since = 0 } } }
+
+-- It stays in the hall that it has, or sits in another one; and whether it had none before.
+abbrev pub SitsIn : Option HallNumber → Relay → Bool → Relay → Type 0
+SitsIn found old begins new =
+    (mid : Relay) × MissesHall found old mid
+    × (((found ≡ old.hall) × (new ≡ mid) × (begins ≡ false))
+    ⊎ ((found ≢ old.hall) × (new ≡ seated_afresh found mid) × (begins ≡ is_none old.hall)))
+
+-- Only a browser that watches sits, in a hall for its size.
+pub record Seats (watcher : Option Watcher) (now : Duration) (halls : Halls) (old : Relay) (begins : Bool) (after : Halls)
+    (new : Relay) : Type 0 where
+  pub apart : (IsWatcher old.visitor.identity → ⊥) → (new ≡ old) × (after ≡ halls) × (begins ≡ false)
+  pub sits : (rows columns : ℕ) → old.visitor.identity ≡ Watching rows columns
+      → (found : Option HallNumber) × Enters watcher now (rows, columns) halls found after × SitsIn found old begins new
+
+-- ---- a page
 
 -- A browser with a client of its own is sent what that client's display shows, and one without a client nothing.
 pub record SeesOwn (old new : Visitor) : Type 0 where
@@ -17,6 +55,13 @@ pub record SeesOwn (old new : Visitor) : Type 0 where
       → (new.view.since ≡ old.view.since) × IsOwn new.identity (λ after. after ≡ before))
   pub apart : (HasClient old.identity → ⊥) → new ≡ old
 
+-- the same; it is over if memory is refused, or too much waits
+pub record ShowsOwn (old new : Relay) : Type 0 where
+  pub sees : new.is_over ≡ false → SeesOwn old.visitor new.visitor
+  pub keeps : Keeps old.visitor.identity new.visitor.identity
+  pub over : old.is_over ≡ true → new.is_over ≡ true
+  pub rest : new ≡ record old { visitor = new.visitor; is_over = new.is_over }
+
 -- A browser that watches is sent what its hall shows.
 pub record SeesHall (hall after : Hall) (old new : Visitor) : Type 0 where
   pub shows : IsOpen old → IsDue hall.client.client.display old.wire
@@ -25,10 +70,27 @@ pub record SeesHall (hall after : Hall) (old new : Visitor) : Type 0 where
   pub later : (IsDue hall.client.client.display old.wire → ⊥)
       → (new.view.since ≡ old.view.since) × (after.client ≡ hall.client)
   pub closed : (IsOpen old → ⊥) → (new ≡ old) × (after.client ≡ hall.client)
-  pub identity : new.identity ≡ old.identity
-  pub rest : after ≡ record hall { client = after.client; audience = after.audience }
+
+-- the same, and it counts as the hall's audience
+pub record ShowsHall (hall after : Hall) (old new : Relay) : Type 0 where
+  pub sees : new.is_over ≡ false → SeesHall hall after old.visitor new.visitor
+  pub identity : new.visitor.identity ≡ old.visitor.identity
+  pub over : old.is_over ≡ true → new.is_over ≡ true
+  pub rest : new ≡ record old { visitor = new.visitor; is_over = new.is_over }
+  pub counted : after
+      ≡ record hall { client = after.client; audience = min (hall.audience + 1) (2 ^ 64 - 1) }
 
 -- If its connection had ended, the browser is told that afterwards.
-abbrev pub Watches : (hall after : Hall) (old new : Visitor) → Type 0
+abbrev pub Watches : (hall after : Hall) (old new : Relay) → Type 0
 Watches hall after old new =
-    (v : Visitor) × SeesHall hall after old v × MatchBool hall.is_lost (Loses ENDED.now v new) (new ≡ v)
+    (mid : Relay) × ShowsHall hall after old mid × MatchBool hall.is_lost (LosesPage ENDED.now mid new) (new ≡ mid)
+
+-- A browser is shown the page of its hall if it watches, and else of its own client. No other page is shown to it.
+pub record ShowsPage (halls : Halls) (old : Relay) (after : Halls) (new : Relay) : Type 0 where
+  pub own : (IsWatcher old.visitor.identity → ⊥) → (after ≡ halls) × ShowsOwn old new
+  pub none : IsWatcher old.visitor.identity → old.hall ≡ None → (after ≡ halls) × LosesPage ENDED.now old new
+  pub gone : IsWatcher old.visitor.identity → (number : HallNumber) → old.hall ≡ Some number
+      → hall_of halls.list number ≡ None → (after ≡ halls) × LosesPage ENDED.now old new
+  pub hall : IsWatcher old.visitor.identity → (number : HallNumber) (hall : Hall) → old.hall ≡ Some number
+      → hall_of halls.list number ≡ Some hall → (then : Hall)
+      × (after ≡ record halls { list = with_value halls.list number.place then }) × Watches hall then old new

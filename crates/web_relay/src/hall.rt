@@ -1,7 +1,8 @@
 //! A page that several watchers share, and its client of the server.
 
 ghost use Rattle.std.specs.Prelude.{◌≡◌, ◌↔◌, IsTrue};
-ghost use Rattle.web_relay.specs.Halls.{Chooses, IsOver, IsStuck, IsToChoose, Turns, TurnsAlone, noted};
+ghost use Rattle.web_relay.specs.Halls.{Chooses, HallHears, IsOver, IsStuck, IsToChoose, IsHallToHear, HallTurns, noted};
+ghost use Rattle.web_relay.specs.Walking.{Repeats};
 
 use crate::streams::{ReadOutcome, outcome_of};
 use mio::net::UnixStream;
@@ -39,7 +40,7 @@ pub struct Hall {
 impl Hall {
     // Reads the server once.
     fn hear(&mut self, buffer: &mut [u8])
-        ensures { Turns self.old self.new }
+        ensures { HallHears self.old self.new }
     {
         match outcome_of(self.client.receive(&mut self.stream, buffer)) {
             ReadOutcome::Nothing => self.is_ready = false,
@@ -48,17 +49,31 @@ impl Hall {
         }
     }
 
-    // Reads what the server has sent, and writes what waits for it. Nobody counts as its audience yet.
-    pub(crate) fn turn(&mut self, buffer: &mut [u8])
-        ensures { TurnsAlone self.old self.new }
+    // Whether the server may have sent something.
+    fn is_to_hear(&self) -> bool
+        ensures { IsTrue result ↔ IsHallToHear self.now }
     {
-        self.audience = 0;
+        self.is_ready && !self.is_lost
+    }
+
+    // Reads what the server has sent.
+    fn hear_all(&mut self, buffer: &mut [u8])
+        ensures { Repeats IsHallToHear HallHears READS self.old self.new }
+    {
         'reads: for _ in 0..READS {
-            if !self.is_ready || self.is_lost {
-                break;
+            if !self.is_to_hear() {
+                return;
             }
             self.hear(buffer);
         }
+    }
+
+    // Reads what the server has sent, and writes what waits for it. Nobody counts as its audience yet.
+    pub(crate) fn turn(&mut self, buffer: &mut [u8])
+        ensures { HallTurns self.old self.new }
+    {
+        self.audience = 0;
+        self.hear_all(buffer);
         if self.client.send_all(&mut self.stream).is_err() {
             self.is_lost = true;
         }

@@ -1,10 +1,10 @@
 //! Pages that several watchers share: one client of the server for each size.
 
-ghost use Rattle.std.specs.Prelude.{◌≡◌, ◌≢◌, ◌⊎◌, ◌≤◌, ℕ, [], Some, None, IsSome, IfSome, IfNone, IsSomeAnd};
+ghost use Rattle.std.specs.Prelude.{◌≡◌, ◌≢◌, ◌⊎◌, ◌<◌, ◌≤◌, ℕ, [], Some, None, IfSome, IsSomeAnd};
 ghost use Rattle.std.specs.String.{string_bytes};
 ghost use Rattle.slab.specs.Slab.{get, slab_len};
-ghost use Rattle.web_relay.specs.Halls.{hall_of, heeds, AtBoth, AtEach, Chooses, Closes, HasSize, IsStuck, OpensBy};
-ghost use Rattle.web_relay.specs.Halls.{Renews, TurnsAlone};
+ghost use Rattle.web_relay.specs.Halls.{AtBoth, AtEach, Chooses, Closes, Enters, HallTurns, HasNone, HasSize, IsStandIn};
+ghost use Rattle.web_relay.specs.Halls.{IsBetterOf, IsStuck, IsStuckAt, Opens, OpensBy, Renews, heeds, number_at};
 ghost use Rattle.web_relay.specs.Places.{changed_at};
 
 use crate::hall::Hall;
@@ -46,11 +46,23 @@ fn choose_all(halls: &mut Slab<Hall>, choice: &str, now: Duration)
 
 // Reads and writes for the hall at this place.
 fn turn_at(halls: &mut Slab<Hall>, place: usize, buffer: &mut [u8])
-    ensures at { AtBoth TurnsAlone (get halls.old place) (get halls.new place) }
+    ensures at { AtBoth HallTurns (get halls.old place) (get halls.new place) }
     ensures others { (other : ℕ) → other ≢ place → get halls.new other ≡ get halls.old other }
 {
     if let Some(hall) = halls.get_mut(place) {
         hall.turn(buffer);
+    }
+}
+
+// The better place for a page of this size: this one, or the best of those that were looked at.
+fn better(best: Option<usize>, place: usize, hall: &Hall, size: (u16, u16)) -> Option<usize>
+    ensures { IsBetterOf size place hall.now best result }
+{
+    let fits = hall.size.0 <= size.0 && hall.size.1 <= size.1;
+    if best.is_none() || fits {
+        Some(place)
+    } else {
+        best
     }
 }
 
@@ -89,9 +101,7 @@ impl Halls {
 
     // The number of the hall at this place.
     fn number(&self, place: usize) -> Option<HallNumber>
-        ensures is { IfSome result (λ number. IsSome (hall_of self.now.list number)) }
-        ensures place { IfSome result (λ number. number.place ≡ place) }
-        ensures none { IfNone result (get self.now.list place ≡ None) }
+        ensures { result ≡ number_at self.now.list place }
     {
         match self.list.get(place) {
             Some(hall) => Some(HallNumber {
@@ -105,7 +115,7 @@ impl Halls {
     // The place of the hall of this size.
     fn of_size(&self, size: (u16, u16)) -> Option<usize>
         ensures some { IfSome result (λ place. HasSize size (get self.now.list place)) }
-        ensures none { result ≡ None → (place : ℕ) → HasSize size (get self.now.list place) → ⊥ }
+        ensures none { result ≡ None → HasNone size self.now.list }
     {
         'halls: for place in 0..self.list.capacity() {
             if let Some(hall) = self.list.get(place) {
@@ -119,14 +129,13 @@ impl Halls {
 
     // The place of a hall whose page isn't larger than this, or else of any.
     fn stand_in(&self, size: (u16, u16)) -> Option<usize>
-        ensures { IfSome result (λ place. IsSome (get self.now.list place)) }
+        ensures some { IfSome result (IsStandIn size self.now.list) }
+        ensures none { result ≡ None → (place : ℕ) → get self.now.list place ≡ None }
     {
-        let mut best = None;
+        let mut best: Option<usize> = None;
         'halls: for place in 0..self.list.capacity() {
             if let Some(hall) = self.list.get(place) {
-                if best.is_none() || (hall.size.0 <= size.0 && hall.size.1 <= size.1) {
-                    best = Some(place);
-                }
+                best = better(best, place, hall, size);
             }
         }
         best
@@ -134,16 +143,17 @@ impl Halls {
 
     // The place of the hall of this size, or a stand-in if all places are taken by others.
     fn find(&self, size: (u16, u16)) -> Option<usize>
-        ensures some { IfSome result (λ place. IsSome (get self.now.list place)) }
-        ensures size { IfSome result (λ place. HasSize size (get self.now.list place)
-            ⊎ (MOST ≤ slab_len self.now.list)) }
-        ensures none { result ≡ None → (place : ℕ) → HasSize size (get self.now.list place) → ⊥ }
+        ensures some { IfSome result (λ place. HasSize size (get self.now.list place)
+            ⊎ (HasNone size self.now.list × (MOST ≤ slab_len self.now.list) × IsStandIn size self.now.list place)) }
+        ensures none { result ≡ None → HasNone size self.now.list × (slab_len self.now.list < MOST) }
     {
-        match self.of_size(size) {
-            Some(place) => Some(place),
-            None if self.list.len() < MOST => None,
-            None => self.stand_in(size),
+        if let Some(place) = self.of_size(size) {
+            return Some(place);
         }
+        if self.list.len() < MOST {
+            return None;
+        }
+        self.stand_in(size)
     }
 
     // A new hall of this size for this place.
@@ -154,7 +164,7 @@ impl Halls {
         size: (u16, u16),
         place: usize,
     ) -> Option<Hall>
-        ensures list { self.new.list ≡ self.old.list }
+        ensures same { self.new ≡ record self.old { next = self.new.next } }
         ensures next { self.old.next ≤ self.new.next }
         ensures serial { IfSome result (λ hall. hall.serial ≡ self.old.next) }
         ensures opens { IfSome result (OpensBy around.entry.site.now.watcher size around.entry.now around.entry.now) }
@@ -180,10 +190,7 @@ impl Halls {
 
     // Opens a hall of this size.
     fn open<R: Net>(&mut self, rt: &R, around: Around<'_>, size: (u16, u16)) -> Option<usize>
-        ensures opens { IfSome result (λ place. IsSomeAnd (get self.new.list place)
-            (OpensBy around.entry.site.now.watcher size around.entry.now around.entry.now)) }
-        ensures others { (other : ℕ) → IsSome (get self.old.list other)
-            → get self.new.list other ≡ get self.old.list other }
+        ensures { Opens around.entry.site.now.watcher around.entry.now size self.old result self.new }
     {
         let place = self.list.vacant_key();
         let hall = self.made(rt, around, size, place)?;
@@ -200,24 +207,22 @@ impl Halls {
         around: Around<'_>,
         size: (u16, u16),
     ) -> Option<HallNumber>
-        ensures some { IfSome result (λ number. IsSome (hall_of self.new.list number)) }
-        ensures size { IfSome result (λ number. HasSize size (get self.new.list number.place)
-            ⊎ (MOST ≤ slab_len self.old.list)) }
-        ensures known { (place : ℕ) → HasSize size (get self.old.list place) → self.new ≡ self.old }
-        ensures others { (other : ℕ) → IsSome (get self.old.list other)
-            → get self.new.list other ≡ get self.old.list other }
+        ensures { Enters around.entry.site.now.watcher around.entry.now size self.old result self.new }
     {
-        let place = match self.find(size) {
-            Some(place) => place,
-            None => self.open(rt, around, size)?,
-        };
-        self.number(place)
+        if let Some(place) = self.find(size) {
+            return self.number(place);
+        }
+        match self.open(rt, around, size) {
+            Some(place) => self.number(place),
+            None => None,
+        }
     }
 
     // The size of the hall at this place, and when it was watched last, if its client is to attach again.
     fn stuck(&self, place: usize, now: Duration) -> Option<((u16, u16), Duration)>
-        ensures { IfSome result (λ stuck. IsSomeAnd (get self.now.list place) (λ hall.
+        ensures some { IfSome result (λ stuck. IsSomeAnd (get self.now.list place) (λ hall.
             IsStuck now hall × (stuck.0 ≡ hall.size) × (stuck.1 ≡ hall.watched))) }
+        ensures none { result ≡ None → IsStuckAt now (get self.now.list place) → ⊥ }
     {
         match self.list.get(place) {
             Some(hall) if hall.is_stuck(now) => Some((hall.size, hall.watched)),
@@ -231,6 +236,7 @@ impl Halls {
             (get self.old.list place) (get self.new.list place) }
         ensures others { (other : ℕ) → other ≢ place → get self.new.list other ≡ get self.old.list other }
         ensures next { self.old.next ≤ self.new.next }
+        ensures same { self.new ≡ record self.old { list = self.new.list; next = self.new.next } }
     {
         let Some((size, watched)) = self.stuck(place, around.now) else {
             return;
@@ -246,8 +252,9 @@ impl Halls {
     /// Attaches the clients again whose window has closed. They then see the first window that there
     /// is.
     pub fn renew<R: Net>(&mut self, rt: &R, around: Around<'_>)
-        ensures { (place : ℕ) → Renews around.entry.site.now.watcher around.entry.now self.old.next
+        ensures renews { (place : ℕ) → Renews around.entry.site.now.watcher around.entry.now self.old.next
             (get self.old.list place) (get self.new.list place) }
+        ensures same { self.new ≡ record self.old { list = self.new.list; next = self.new.next } }
     {
         'places: for place in 0..self.list.capacity() {
             self.renew_at(rt, around, place);
@@ -259,6 +266,7 @@ impl Halls {
         ensures none { self.old.choice ≡ None → self.new ≡ self.old }
         ensures some { IfSome self.old.choice (λ choice.
             AtEach (Chooses (string_bytes choice) now) self.old.list self.new.list) }
+        ensures same { self.new ≡ record self.old { list = self.new.list } }
     {
         let Some(choice) = &self.choice else {
             return;
@@ -268,7 +276,8 @@ impl Halls {
 
     /// Reads and writes for all halls. Nobody counts as their audience yet.
     pub fn turn(&mut self, buffer: &mut [u8])
-        ensures { AtEach TurnsAlone self.old.list self.new.list }
+        ensures each { AtEach HallTurns self.old.list self.new.list }
+        ensures same { self.new ≡ record self.old { list = self.new.list } }
     {
         'places: for place in 0..self.list.capacity() {
             turn_at(&mut self.list, place, buffer);
@@ -279,6 +288,7 @@ impl Halls {
     fn close_at(&mut self, place: usize, now: Duration)
         ensures closes { Closes now (get self.old.list place) (get self.new.list place) }
         ensures others { (other : ℕ) → other ≢ place → get self.new.list other ≡ get self.old.list other }
+        ensures same { self.new ≡ record self.old { list = self.new.list } }
     {
         let is_over = match self.list.get_mut(place) {
             Some(hall) => {
@@ -294,7 +304,8 @@ impl Halls {
 
     /// Closes the halls that ended, and those that nobody has watched for a while.
     pub fn close(&mut self, now: Duration)
-        ensures { (place : ℕ) → Closes now (get self.old.list place) (get self.new.list place) }
+        ensures closes { (place : ℕ) → Closes now (get self.old.list place) (get self.new.list place) }
+        ensures same { self.new ≡ record self.old { list = self.new.list } }
     {
         'places: for place in 0..self.list.capacity() {
             self.close_at(place, now);

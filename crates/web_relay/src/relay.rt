@@ -1,13 +1,13 @@
 //! A browser, and the connection to the server of its own client.
 
-ghost use Rattle.std.specs.Prelude.{◌≡◌, ◌↔◌, ◌⊎◌, ℕ, List, None, IsTrue, IsSome, IfSome, true, false};
-ghost use Rattle.web_client.specs.Frames.{TakesBytes};
-ghost use Rattle.web_client.specs.Asking.{Asks, Keeps, IsOwn};
+ghost use Rattle.std.specs.Prelude.{◌≡◌, ◌↔◌, ℕ, List, None, IsTrue, IsSome, IfSome, true, false};
+ghost use Rattle.web_client.specs.Asking.{Asks, IsOwn};
 ghost use Rattle.web_client.specs.Rows.{TellsLast, Refuses, handed};
 ghost use Rattle.web_relay.specs.Places.{has_page, shares, IsNew};
-ghost use Rattle.web_relay.specs.Relaying.{IsOpen, HasClient, HasPage, HasGone, IsConnected, Loses, IsRefused};
-ghost use Rattle.web_relay.specs.Relaying.{ReadsOnly, TakesEach, TakesOnce};
-ghost use Rattle.web_client.specs.declared.wire.Phase.TheVariants as phase;
+ghost use Rattle.web_relay.specs.Relaying.{Connects, EndsBy, HasClient, HasGone, HasPage, IsOpen, IsRefused, LosesPage};
+ghost use Rattle.web_relay.specs.Relaying.{IsToRead, ReadsBrowser, ReadsOnce, TakesNow, TakesRest, TurnsAway};
+ghost use Rattle.web_relay.specs.Relaying.{WantsServer};
+ghost use Rattle.web_relay.specs.Walking.{Repeats};
 
 use crate::halls::HallNumber;
 use crate::streams::{Around, Browser, ReadOutcome, outcome_of};
@@ -96,11 +96,7 @@ impl Relay {
     pub fn read_browser(&mut self, around: Around<'_>, buffer: &mut [u8]) -> bool
         ensures asks { Asks self.old.visitor.identity self.new.visitor.identity }
         ensures opens { IsTrue result ↔ ((IsOpen self.old.visitor → ⊥) × IsOpen self.new.visitor) }
-        // Frames are taken in order, and each once.
-        ensures takes { self.new.is_over ≡ false
-            → TakesEach around.entry.site.now self.old.visitor self.new.visitor }
-        ensures over { self.old.is_over ≡ true → self.new.is_over ≡ true }
-        ensures same { ReadsOnly self.old self.new }
+        ensures reads { ReadsBrowser around.entry.site.now around.entry.now self.old self.new }
     {
         let was_open = self.visitor.is_open();
         self.take_rest(around);
@@ -111,27 +107,28 @@ impl Relay {
     // Takes what was left of frames that came.
     fn take_rest(&mut self, around: Around<'_>)
         ensures asks { Asks self.old.visitor.identity self.new.visitor.identity }
-        ensures takes { self.new.is_over ≡ false
-            → TakesEach around.entry.site.now self.old.visitor self.new.visitor }
-        ensures over { self.old.is_over ≡ true → self.new.is_over ≡ true }
-        ensures same { ReadsOnly self.old self.new }
+        ensures takes { TakesRest around.entry.site.now around.entry.now self.old self.new }
     {
         if self.has_more && self.visitor.can_read() {
             self.take(around);
         }
     }
 
+    // Whether all that came of the browser is taken, and more may have come.
+    fn is_to_read(&self) -> bool
+        ensures { IsTrue result ↔ IsToRead self.now }
+    {
+        !self.has_more && self.browser_ready && self.visitor.can_read()
+    }
+
     // Reads the browser while it has sent something.
     fn read_some(&mut self, around: Around<'_>, buffer: &mut [u8])
         ensures asks { Asks self.old.visitor.identity self.new.visitor.identity }
-        ensures takes { self.new.is_over ≡ false
-            → TakesEach around.entry.site.now self.old.visitor self.new.visitor }
-        ensures over { self.old.is_over ≡ true → self.new.is_over ≡ true }
-        ensures same { ReadsOnly self.old self.new }
+        ensures reads { Repeats IsToRead (ReadsOnce around.entry.site.now around.entry.now) READS self.old self.new }
     {
         'reads: for _ in 0..READS {
-            if self.has_more || !self.browser_ready || !self.visitor.can_read() {
-                break;
+            if !self.is_to_read() {
+                return;
             }
             self.read_once(around, buffer);
         }
@@ -140,10 +137,7 @@ impl Relay {
     // Reads the browser once.
     fn read_once(&mut self, around: Around<'_>, buffer: &mut [u8])
         ensures asks { Asks self.old.visitor.identity self.new.visitor.identity }
-        ensures takes { self.new.is_over ≡ false
-            → TakesOnce around.entry.site.now self.old.visitor self.new.visitor }
-        ensures over { self.old.is_over ≡ true → self.new.is_over ≡ true }
-        ensures same { ReadsOnly self.old self.new }
+        ensures reads { ReadsOnce around.entry.site.now around.entry.now self.old self.new }
     {
         match outcome_of(self.visitor.receive(&mut self.browser, buffer)) {
             ReadOutcome::Nothing => self.browser_ready = false,
@@ -158,15 +152,7 @@ impl Relay {
     // Takes what came of the browser.
     fn take(&mut self, around: Around<'_>)
         ensures asks { Asks self.old.visitor.identity self.new.visitor.identity }
-        ensures takes { self.new.is_over ≡ false → TakesBytes around.entry.site.now self.old.visitor.wire.phase
-            self.old.visitor self.new.visitor self.new.has_more }
-        ensures over { self.old.is_over ≡ true → self.new.is_over ≡ true }
-        ensures same { self.new ≡ record self.old {
-          visitor = self.new.visitor;
-          heard = around.entry.now;
-          has_more = self.new.has_more;
-          is_over = self.new.is_over;
-        } }
+        ensures takes { TakesNow around.entry.site.now around.entry.now self.old self.new }
     {
         self.heard = around.now;
         match self.visitor.take(around.site) {
@@ -195,10 +181,7 @@ impl Relay {
 
     /// There is no place for its page, which opens now or is open.
     pub fn turn_away(&mut self, opens: bool, reason: &str)
-        ensures open { opens ≡ false → self.new.is_over ≡ false
-            → Loses reason.now self.old.visitor self.new.visitor }
-        ensures last { opens ≡ true → self.new.is_over ≡ false → self.new.visitor.wire.phase ≡ phase.Last }
-        ensures same { self.new ≡ record self.old { visitor = self.new.visitor; is_over = self.new.is_over } }
+        ensures { TurnsAway opens reason.now self.old self.new }
     {
         if !opens {
             self.lose(reason);
@@ -250,8 +233,7 @@ impl Relay {
 
     /// Whether its own client is to be connected: once, when its page has said who it is.
     pub fn wants_server(&self) -> bool
-        ensures { IsTrue result ↔ (HasClient self.now.visitor.identity × IsOpen self.now.visitor
-            × (self.now.has_begun ≡ true) × (self.now.server ≡ Upstream.Unasked)) }
+        ensures { IsTrue result ↔ WantsServer self.now }
     {
         let is_unasked = match &self.server {
             Upstream::Unasked => true,
@@ -312,17 +294,7 @@ impl Relay {
 
     /// Connects its own client.
     pub fn connect<R: Net>(&mut self, rt: &R, around: Around<'_>, token: mio::Token)
-        ensures keeps { Keeps self.old.visitor.identity self.new.visitor.identity }
-        ensures connects { IsConnected self.new.server → IsConnected self.old.server
-            ⊎ (self.new ≡ record self.old { server = self.new.server }) }
-        ensures loses { (IsConnected self.new.server → ⊥) → self.new.is_over ≡ false
-            → Loses NO_SERVER.now self.old.visitor self.new.visitor }
-        ensures over { self.old.is_over ≡ true → self.new.is_over ≡ true }
-        ensures same { self.new ≡ record self.old {
-          visitor = self.new.visitor;
-          server = self.new.server;
-          is_over = self.new.is_over;
-        } }
+        ensures { Connects self.old self.new }
     {
         match around.connect(rt, token) {
             Ok(stream) => self.server = Upstream::Connected(stream),
@@ -345,12 +317,7 @@ impl Relay {
 
     /// Tells its page which user and token its link stands for, and ends.
     pub fn hand(&mut self, name: &str, token: &str)
-        ensures hands { self.new.is_over ≡ false
-            → TellsLast (handed name.now token.now) self.old.visitor.wire self.new.visitor.wire }
-        ensures identity { self.new.visitor.identity ≡ self.old.visitor.identity }
-        ensures over { self.old.is_over ≡ true → self.new.is_over ≡ true }
-        ensures last { self.new.is_over ≡ false → self.new.visitor.wire.phase ≡ phase.Last }
-        ensures same { self.new ≡ record self.old { visitor = self.new.visitor; is_over = self.new.is_over } }
+        ensures { EndsBy (TellsLast (handed name.now token.now)) self.old self.new }
     {
         match self.visitor.hand(name, token) {
             Ok(()) => {}
@@ -360,12 +327,7 @@ impl Relay {
 
     /// Tells its page why it isn't let in, and ends.
     pub fn refuse(&mut self, reason: &str)
-        ensures refuses { self.new.is_over ≡ false
-            → Refuses reason.now self.old.visitor.wire self.new.visitor.wire }
-        ensures identity { self.new.visitor.identity ≡ self.old.visitor.identity }
-        ensures over { self.old.is_over ≡ true → self.new.is_over ≡ true }
-        ensures last { self.new.is_over ≡ false → self.new.visitor.wire.phase ≡ phase.Last }
-        ensures same { self.new ≡ record self.old { visitor = self.new.visitor; is_over = self.new.is_over } }
+        ensures { EndsBy (Refuses reason.now) self.old self.new }
     {
         match self.visitor.refuse(reason) {
             Ok(()) => {}
@@ -375,10 +337,7 @@ impl Relay {
 
     /// Tells its page why it ends.
     pub fn lose(&mut self, reason: &str)
-        ensures loses { self.new.is_over ≡ false → Loses reason.now self.old.visitor self.new.visitor }
-        ensures over { self.old.is_over ≡ true → self.new.is_over ≡ true }
-        ensures identity { self.new.visitor.identity ≡ self.old.visitor.identity }
-        ensures same { self.new ≡ record self.old { visitor = self.new.visitor; is_over = self.new.is_over } }
+        ensures { LosesPage reason.now self.old self.new }
     {
         match self.visitor.lose(reason) {
             Ok(()) => {}

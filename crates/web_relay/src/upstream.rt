@@ -1,11 +1,10 @@
 //! What a relay does with the server's connection, and when its browser is shown something or ends.
 
-ghost use Rattle.std.specs.Prelude.{◌≡◌, ◌↔◌, true, false, IsTrue};
-ghost use Rattle.web_client.specs.Asking.{AsksOnly, Keeps};
-ghost use Rattle.web_relay.specs.Hearing.{HearsOnly};
-ghost use Rattle.web_relay.specs.Relaying.{HasGone, HasTakenAll, IsBusy, IsDone, IsLate, IsLost, IsToAsk, Loses};
-ghost use Rattle.web_relay.specs.Relaying.{ServesOnly, TellsOnly, WritesOnly};
-ghost use Rattle.web_relay.specs.Seeing.{SeesOwn};
+ghost use Rattle.std.specs.Prelude.{◌≡◌, ◌↔◌, IsTrue};
+ghost use Rattle.web_relay.specs.Relaying.{AsksWhetherThere, HasTakenAll, HearsOnce, IsBusy, IsLate};
+ghost use Rattle.web_relay.specs.Relaying.{IsToAsk, IsToHear, Looks, LosesServer, WritesAll, WritesServer};
+ghost use Rattle.web_relay.specs.Seeing.{ShowsOwn};
+ghost use Rattle.web_relay.specs.Walking.{Repeats};
 
 use crate::relay::{Relay, Upstream};
 use crate::streams::{ReadOutcome, outcome_of};
@@ -33,17 +32,7 @@ const READS: usize = 16;
 impl Relay {
     // Its own client's connection ended. If the server said why, the page is still to be told that.
     fn lose_server(&mut self)
-        ensures gone { HasGone self.old.visitor.identity → self.new.visitor ≡ self.old.visitor }
-        ensures loses { (HasGone self.old.visitor.identity → ⊥) → self.new.is_over ≡ false
-            → Loses ENDED.now self.old.visitor self.new.visitor }
-        ensures over { self.old.is_over ≡ true → self.new.is_over ≡ true }
-        ensures identity { self.new.visitor.identity ≡ self.old.visitor.identity }
-        ensures same { self.new ≡ record self.old {
-          visitor = self.new.visitor;
-          is_over = self.new.is_over;
-          server = Upstream.Lost;
-          server_ready = false;
-        } }
+        ensures { LosesServer self.old self.new }
     {
         if !self.has_gone() {
             self.lose(ENDED);
@@ -54,13 +43,7 @@ impl Relay {
 
     // Reads the server once.
     fn hear(&mut self, buffer: &mut [u8])
-        ensures keeps { Keeps self.old.visitor.identity self.new.visitor.identity }
-        ensures hears { (IsLost self.new.server → ⊥)
-            → HearsOnly self.old.visitor.identity self.new.visitor.identity }
-        ensures tells { self.new.is_over ≡ false → TellsOnly self.old self.new }
-        ensures lost { IsLost self.old.server → self.new ≡ record self.old { server_ready = false } }
-        ensures over { self.old.is_over ≡ true → self.new.is_over ≡ true }
-        ensures same { ServesOnly self.old self.new }
+        ensures { HearsOnce self.old self.new }
     {
         let Upstream::Connected(server) = &mut self.server else {
             self.server_ready = false;
@@ -75,16 +58,11 @@ impl Relay {
 
     /// Reads what the server has sent to its own client. Nobody else hears it.
     pub fn read_server(&mut self, buffer: &mut [u8])
-        ensures keeps { Keeps self.old.visitor.identity self.new.visitor.identity }
-        ensures hears { (IsLost self.new.server → ⊥)
-            → HearsOnly self.old.visitor.identity self.new.visitor.identity }
-        ensures tells { self.new.is_over ≡ false → TellsOnly self.old self.new }
-        ensures over { self.old.is_over ≡ true → self.new.is_over ≡ true }
-        ensures same { ServesOnly self.old self.new }
+        ensures { Repeats IsToHear HearsOnce READS self.old self.new }
     {
         'reads: for _ in 0..READS {
             if !self.server_ready {
-                break;
+                return;
             }
             self.hear(buffer);
         }
@@ -92,10 +70,7 @@ impl Relay {
 
     // Writes what its own client has for the server.
     fn write_server(&mut self)
-        ensures asks { AsksOnly self.old.visitor.identity self.new.visitor.identity }
-        ensures tells { self.new.is_over ≡ false → TellsOnly self.old self.new }
-        ensures over { self.old.is_over ≡ true → self.new.is_over ≡ true }
-        ensures same { ServesOnly self.old self.new }
+        ensures { WritesServer self.old self.new }
     {
         let Upstream::Connected(server) = &mut self.server else {
             return;
@@ -107,17 +82,7 @@ impl Relay {
 
     /// Writes what waits for either side.
     pub fn write_all(&mut self)
-        ensures asks { AsksOnly self.old.visitor.identity self.new.visitor.identity }
-        ensures writes { self.new.is_over ≡ false → (between : Relay) × TellsOnly self.old between
-            × (self.new.server ≡ between.server) × WritesOnly between.visitor self.new.visitor }
-        ensures over { self.old.is_over ≡ true → self.new.is_over ≡ true }
-        ensures same { self.new ≡ record self.old {
-          visitor = self.new.visitor;
-          browser = self.new.browser;
-          server = self.new.server;
-          server_ready = self.new.server_ready;
-          is_over = self.new.is_over;
-        } }
+        ensures { WritesAll self.old self.new }
     {
         self.write_server();
         if self.visitor.send_all(&mut self.browser).is_err() {
@@ -127,10 +92,7 @@ impl Relay {
 
     /// Shows the page of its own client.
     pub fn show_own(&mut self)
-        ensures over { self.old.is_over ≡ true → self.new.is_over ≡ true }
-        ensures sees { self.new.is_over ≡ false → SeesOwn self.old.visitor self.new.visitor }
-        ensures keeps { Keeps self.old.visitor.identity self.new.visitor.identity }
-        ensures same { self.new ≡ record self.old { visitor = self.new.visitor; is_over = self.new.is_over } }
+        ensures { ShowsOwn self.old self.new }
     {
         match self.visitor.show_own() {
             Ok(()) => {}
@@ -176,8 +138,7 @@ impl Relay {
 
     // Asks it whether it is there.
     fn ask(&mut self, now: Duration)
-        ensures asks { AsksOnly self.old.visitor.identity self.new.visitor.identity }
-        ensures over { self.old.is_over ≡ true → self.new.is_over ≡ true }
+        ensures { AsksWhetherThere now self.old self.new }
     {
         self.asked = now;
         self.is_over |= self.visitor.ping().is_err();
@@ -186,14 +147,7 @@ impl Relay {
 
     /// Ends it if it is done or was silent for too long, and asks it now and then whether it is there.
     pub fn look(&mut self, now: Duration)
-        // What it was told last is written first.
-        ensures done { IsDone self.old.visitor → self.new.is_over ≡ true }
-        ensures late { IsLate now self.old → self.new.is_over ≡ true }
-        // Another one stays, and is sent nothing unless it is to be asked.
-        ensures stays { (IsDone self.old.visitor → ⊥) → (IsLate now self.old → ⊥)
-            → (HasTakenAll self.old.visitor × IsToAsk now self.old → ⊥) → self.new ≡ self.old }
-        ensures asks { AsksOnly self.old.visitor.identity self.new.visitor.identity }
-        ensures over { self.old.is_over ≡ true → self.new.is_over ≡ true }
+        ensures { Looks now self.old self.new }
     {
         if self.is_late(now) || (self.visitor.is_last() && self.visitor.is_idle()) {
             self.is_over = true;

@@ -1,4 +1,5 @@
-use Rattle.std.proofs.Common.{refl, arith}
+use Rattle.std.proofs.Common.{refl, ap, ◌∙◌, arith}
+use Rattle.web_relay.specs.declared.halls.Halls.{Halls}
 use Rattle.web_relay.specs.Halls.{Closes}
 use Rattle.web_relay.proofs.Turns.{done-more, rest-more, all-done}
 use Rattle.web_relay.proofs.halls.Halls.close.Goals as goal
@@ -7,18 +8,18 @@ pub places-preserved : goal.places-preserved
 places-preserved c =
     let old = c.args.self.now.list in
     let now = c.places.self.list in
+    let new = c.close_at.new.self.list in
     let at = c.places.place in
     let then = c.close_at.ensures in
     let before = c.places.invariant in record {
-      closed =
-          done-more (Closes c.args.now) old now at before.closed before.rest c.close_at.new.self.list then.closes
-          then.others;
-      rest = rest-more (Closes c.args.now) old now at before.closed before.rest c.close_at.new.self.list then.others;
+      closed = done-more (Closes c.args.now) old now at before.closed before.rest new then.closes then.others;
+      rest = rest-more (Closes c.args.now) old now at before.closed before.rest new then.others;
+      same = then.same ∙ ap (λ (h : Halls). record h { list = new }) before.same;
       all = before.all;
     }
 
-pub returns : goal.returns
-returns c =
+pub returns-clause-closes : goal.returns-clause-closes
+returns-clause-closes c =
     let before = c.places.invariant in
     all-done (Closes c.args.now) c.args.self.now.list c.places.self.list c.places.place before.closed before.rest refl
     (omega (arith, before.all))

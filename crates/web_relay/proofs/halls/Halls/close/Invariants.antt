@@ -7,5 +7,6 @@ abbrev pub invariant-places : goal.invariant-places
 invariant-places l = record {
   closed : (q : ℕ) → q < l.place → Closes l.now (get l.fn.self.list q) (get l.self.list q);
   rest : (q : ℕ) → l.place ≤ q → get l.self.list q ≡ get l.fn.self.list q;
+  same : l.self ≡ record l.fn.self { list = l.self.list };
   all : length l.fn.self.list.slots ≤ l.place-end;
 }

@@ -1,5 +1,6 @@
-use Rattle.std.proofs.Common.{refl, inl, arith}
+use Rattle.std.proofs.Common.{refl, inl, ap, ◌∙◌, arith}
 use Rattle.slab.specs.Slab.{get}
+use Rattle.web_relay.specs.declared.halls.Halls.{Halls}
 use Rattle.web_relay.specs.Halls.{Renews}
 use Rattle.web_relay.proofs.Turns.{done-more, rest-more, all-done, renews-later}
 use Rattle.web_relay.proofs.halls.Halls.renew.Goals as goal
@@ -20,11 +21,12 @@ places-preserved g c =
           (renews-later w t first c.places.self.next (get now at) (get new at) before.next then.renews) then.others;
       rest = rest-more (Renews w t first) old now at before.renewed before.rest new then.others;
       next = omega (arith, before.next, then.next);
+      same = then.same ∙ ap (λ (h : Halls). record h { list = new; next = c.renew_at.new.self.next }) before.same;
       all = before.all;
     }
 
-pub returns : goal.returns
-returns g c =
+pub returns-clause-renews : goal.returns-clause-renews
+returns-clause-renews g c =
     let before = c.places.invariant in
-    all-done (Renews c.args.around.site.now.watcher c.args.around.now c.args.self.now.next) c.args.self.now.list c.places.self.list c.places.place before.renewed
-    before.rest (inl refl) (omega (arith, before.all))
+    all-done (Renews c.args.around.site.now.watcher c.args.around.now c.args.self.now.next) c.args.self.now.list
+    c.places.self.list c.places.place before.renewed before.rest (inl ((λ h. h), refl)) (omega (arith, before.all))

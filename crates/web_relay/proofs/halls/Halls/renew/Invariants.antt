@@ -9,5 +9,6 @@ invariant-places g l = record {
       (get l.fn.self.list q) (get l.self.list q);
   rest : (q : ℕ) → l.place ≤ q → get l.self.list q ≡ get l.fn.self.list q;
   next : l.fn.self.next ≤ l.self.next;
+  same : l.self ≡ record l.fn.self { list = l.self.list; next = l.self.next };
   all : length l.fn.self.list.slots ≤ l.place-end;
 }

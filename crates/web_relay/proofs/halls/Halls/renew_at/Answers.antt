@@ -1,6 +1,7 @@
 use Rattle.std.proofs.Common.{◌≡◌, ◌∙◌, None, ap}
 use Rattle.slab.specs.Slab.{Slab, get}
 use Rattle.web_relay.specs.declared.hall.Hall.{Hall}
+use Rattle.web_relay.specs.declared.halls.Halls.{Halls}
 use Rattle.web_relay.proofs.Turns.{where-it-was, insert-others}
 use Rattle.web_relay.proofs.halls.Halls.renew_at.Goals as goal
 
@@ -11,10 +12,10 @@ returns-in-Some-made-clause-others g c = λ other apart.
     let before : Slab Hall = c.made.new.self.list in
     let next : removed.vacant_key ≡ c.args.place =
     where-it-was (get old c.args.place) c.try_remove.result
-    (λ (e : get old c.args.place ≡ None). rw e at c.in-Some.ensures) c.try_remove.ensures.value
+    (λ (e : get old c.args.place ≡ None). rw e at c.in-Some.ensures.some) c.try_remove.ensures.value
     c.try_remove.ensures.key_is_next in
     insert-others c.insert.result before c.insert.new.self c.args.place _
-    (ap (λ (s : Slab Hall). s.vacant_key) c.made.ensures.list ∙ next) c.insert.ensures.key c.insert.ensures.updates
+    (ap (λ (h : Halls). h.list.vacant_key) c.made.ensures.same ∙ next) c.insert.ensures.key c.insert.ensures.updates
     c.insert.ensures.err other apart
-    ∙ ap (λ (s : Slab Hall). get s other) c.made.ensures.list
+    ∙ ap (λ (h : Halls). get h.list other) c.made.ensures.same
     ∙ c.try_remove.ensures.updates.others other apart

@@ -1,20 +1,30 @@
-use Rattle.std.proofs.Common.{◌≡◌, false, refl, sym}
+use Rattle.std.proofs.Common.{◌≡◌, refl, subst, sym}
 use Rattle.web_relay.specs.declared.hall.Hall.{Hall}
-use Rattle.web_relay.proofs.Turns.{shown-last, shown-on, not-over}
+use Rattle.web_relay.specs.Seeing.{Watches}
+use Rattle.web_relay.proofs.Sitting.{watches_last, watches_on}
+use Rattle.web_relay.proofs.Turns.{hall-is}
 use Rattle.web_relay.proofs.halls.Halls.show_hall.Goals as goal
 
 pub returns-then-hall-clause-hall : goal.returns-then-hall-clause-hall
-returns-then-hall-clause-hall c = λ hall found goes_on.
+returns-then-hall-clause-hall c = λ hall found.
     let there : Hall = c.in-Some.hall.now in
-    let goes_on_then : c.show.new.relay.is_over ≡ false =
-    not-over c.show.new.relay.is_over c.lose.new.self.is_over c.lose.ensures.over goes_on in
-    shown-last c.args.self.now.list c.args.number there hall c.show.new.self c.args.relay.now.visitor
-    c.show.new.relay.visitor c.lose.new.self.visitor (sym c.in-Some.ensures.value) found
-    (c.show.ensures.sees goes_on_then) c.if-hall.true (c.lose.ensures.loses goes_on)
+    let e : there ≡ hall =
+    hall-is c.args.self.now.list c.args.number there hall (sym c.in-Some.ensures.value) found in (
+      c.show.new.self,
+      refl,
+      subst (λ (h : Hall). Watches h c.show.new.self c.args.relay.now c.lose.new.self) e
+          (watches_last there c.show.new.self c.args.relay.now c.show.new.relay c.lose.new.self c.show.ensures
+          c.if-hall.true c.lose.ensures),
+    )
 
 pub returns-else-hall-clause-hall : goal.returns-else-hall-clause-hall
-returns-else-hall-clause-hall c = λ hall found goes_on.
+returns-else-hall-clause-hall c = λ hall found.
     let there : Hall = c.in-Some.hall.now in
-    shown-on c.args.self.now.list c.args.number there hall c.show.new.self c.args.relay.now.visitor
-    c.show.new.relay.visitor c.show.new.relay.visitor (sym c.in-Some.ensures.value) found
-    (c.show.ensures.sees goes_on) c.if-hall.false refl
+    let e : there ≡ hall =
+    hall-is c.args.self.now.list c.args.number there hall (sym c.in-Some.ensures.value) found in (
+      c.show.new.self,
+      refl,
+      subst (λ (h : Hall). Watches h c.show.new.self c.args.relay.now c.show.new.relay) e
+          (watches_on there c.show.new.self c.args.relay.now c.show.new.relay c.show.new.relay c.show.ensures
+          c.if-hall.false refl),
+    )

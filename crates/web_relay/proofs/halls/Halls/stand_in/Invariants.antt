@@ -1,6 +1,9 @@
-use Rattle.std.proofs.Common.{IfSome, IsSome}
-use Rattle.slab.specs.Slab.{get}
+use Rattle.std.proofs.Common.{◌≤◌, length}
+use Rattle.web_relay.proofs.StandIn.{BestBelow}
 use Rattle.web_relay.proofs.halls.Halls.stand_in.Given as goal
 
 abbrev pub invariant-halls : goal.invariant-halls
-invariant-halls l = IfSome l.best (λ place. IsSome (get l.self.list place))
+invariant-halls l = record {
+  below : BestBelow l.size l.self.list l.place l.best;
+  all : length l.self.list.slots ≤ l.place-end;
+}

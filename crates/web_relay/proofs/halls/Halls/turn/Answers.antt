@@ -1,5 +1,6 @@
-use Rattle.std.proofs.Common.{refl, arith}
-use Rattle.web_relay.specs.Halls.{AtBoth, TurnsAlone}
+use Rattle.std.proofs.Common.{refl, ap, arith}
+use Rattle.web_relay.specs.declared.halls.Halls.{Halls}
+use Rattle.web_relay.specs.Halls.{AtBoth, HallTurns}
 use Rattle.web_relay.proofs.Turns.{done-more, rest-more, all-done}
 use Rattle.web_relay.proofs.halls.Halls.turn.Goals as goal
 
@@ -7,17 +8,18 @@ pub places-preserved : goal.places-preserved
 places-preserved c =
     let old = c.args.self.now.list in
     let now = c.places.self.list in
+    let new = c.turn_at.new.halls in
     let at = c.places.place in
     let then = c.turn_at.ensures in
     let before = c.places.invariant in record {
-      turned =
-          done-more (AtBoth TurnsAlone) old now at before.turned before.rest c.turn_at.new.halls then.at then.others;
-      rest = rest-more (AtBoth TurnsAlone) old now at before.turned before.rest c.turn_at.new.halls then.others;
+      turned = done-more (AtBoth HallTurns) old now at before.turned before.rest new then.at then.others;
+      rest = rest-more (AtBoth HallTurns) old now at before.turned before.rest new then.others;
+      same = ap (λ (h : Halls). record h { list = new }) before.same;
       all = before.all;
     }
 
-pub returns : goal.returns
-returns c =
+pub returns-clause-each : goal.returns-clause-each
+returns-clause-each c =
     let before = c.places.invariant in
-    all-done (AtBoth TurnsAlone) c.args.self.now.list c.places.self.list c.places.place before.turned before.rest refl
+    all-done (AtBoth HallTurns) c.args.self.now.list c.places.self.list c.places.place before.turned before.rest refl
     (omega (arith, before.all))

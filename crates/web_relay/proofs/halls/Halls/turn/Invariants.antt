@@ -1,11 +1,12 @@
 use Rattle.std.proofs.Common.{◌≡◌, ℕ, ◌<◌, ◌≤◌, length}
 use Rattle.slab.specs.Slab.{get}
-use Rattle.web_relay.specs.Halls.{AtBoth, TurnsAlone}
+use Rattle.web_relay.specs.Halls.{AtBoth, HallTurns}
 use Rattle.web_relay.proofs.halls.Halls.turn.Given as goal
 
 abbrev pub invariant-places : goal.invariant-places
 invariant-places l = record {
-  turned : (q : ℕ) → q < l.place → AtBoth TurnsAlone (get l.fn.self.list q) (get l.self.list q);
+  turned : (q : ℕ) → q < l.place → AtBoth HallTurns (get l.fn.self.list q) (get l.self.list q);
   rest : (q : ℕ) → l.place ≤ q → get l.self.list q ≡ get l.fn.self.list q;
+  same : l.self ≡ record l.fn.self { list = l.self.list };
   all : length l.fn.self.list.slots ≤ l.place-end;
 }

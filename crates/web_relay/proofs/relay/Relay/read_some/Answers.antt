@@ -1,35 +1,34 @@
-use Rattle.std.proofs.Common.{◌∙◌, ap, refl}
+use Rattle.std.proofs.Common.{arith, rules}
 use Rattle.web_client.proofs.Adding.{more, nothing}
-use Rattle.web_relay.specs.declared.relay.Relay.{Relay}
-use Rattle.web_relay.proofs.Telling.{none_taken, one_taken}
-use Rattle.web_relay.proofs.Turns.{not-over}
+use Rattle.web_relay.specs.Relaying.{IsToRead, ReadsOnce}
+use Rattle.web_relay.proofs.Steps.{all_done, stepped, stopped}
 use Rattle.web_relay.proofs.relay.Relay.read_some.Goals as goal
 
 pub reads-init : goal.reads-init
-reads-init c = record {
-  asks = nothing c.args.self.now.visitor.identity;
-  takes = λ on. none_taken c.args.around.site.now c.args.self.now.visitor;
-  over = λ e. e;
-  same = refl;
-}
+reads-init c = record { asks = nothing c.args.self.now.visitor.identity; later = λ new all. all }
 
 pub reads-preserved : goal.reads-preserved
 reads-preserved c =
     let first = c.args.self.now in
     let old = c.reads.self in
-    let new = c.read_once.new.self in
-    let then = c.read_once.ensures in
-    let before = c.reads.invariant in record {
-      asks = more first.visitor.identity old.visitor.identity new.visitor.identity before.asks then.asks;
-      takes = λ on. one_taken c.args.around.site.now first.visitor old.visitor new.visitor
-          (before.takes (not-over old.is_over new.is_over then.over on)) (then.takes on);
-      over = λ e. then.over (before.over e);
-      same = then.same ∙ ap (λ (r : Relay). record r {
-        visitor = new.visitor;
-        browser = new.browser;
-        browser_ready = new.browser_ready;
-        heard = new.heard;
-        has_more = new.has_more;
-        is_over = new.is_over;
-      }) before.same;
+    let mid = c.read_once.new.self in
+    let time : IsToRead old = search rules in record {
+      asks = more first.visitor.identity old.visitor.identity mid.visitor.identity c.reads.invariant.asks
+          c.read_once.ensures.asks;
+      later = λ new rest. c.reads.invariant.later new
+          (stepped IsToRead (ReadsOnce c.args.around.site.now c.args.around.now) 16 c.reads.counter old mid new
+          (omega arith) time c.read_once.ensures.reads rest);
     }
+
+pub returns-then-not-is_to_read-clause-reads : goal.returns-then-not-is_to_read-clause-reads
+returns-then-not-is_to_read-clause-reads c =
+    let no : IsToRead c.reads.self → ⊥ = search rules in
+    c.reads.invariant.later c.reads.self
+    (stopped IsToRead (ReadsOnce c.args.around.site.now c.args.around.now) 16 c.reads.counter c.reads.self
+    (omega arith) no)
+
+pub returns-clause-reads : goal.returns-clause-reads
+returns-clause-reads c =
+    c.reads.invariant.later c.reads.self
+    (all_done IsToRead (ReadsOnce c.args.around.site.now c.args.around.now) 16 c.reads.counter c.reads.self
+    (omega arith))

@@ -1,10 +1,16 @@
-use Rattle.std.proofs.Common.{refl}
+use Rattle.std.proofs.Common.{inl, inr, refl}
 use Rattle.web_relay.proofs.relay.Relay.write_all.Goals as goal
 
-pub returns-else-is_err-clause-writes : goal.returns-else-is_err-clause-writes
-returns-else-is_err-clause-writes c = λ on. (
+pub returns-then-is_err : goal.returns-then-is_err
+returns-then-is_err c = (
   c.write_server.new.self,
-  c.write_server.ensures.tells on,
-  refl,
-  (c.send_all.ensures.rest, c.send_all.ensures.same),
+  c.write_server.ensures,
+  record { written = (c.send_all.ensures.rest, c.send_all.ensures.same); over = inr refl; rest = refl },
+)
+
+pub returns-else-is_err : goal.returns-else-is_err
+returns-else-is_err c = (
+  c.write_server.new.self,
+  c.write_server.ensures,
+  record { written = (c.send_all.ensures.rest, c.send_all.ensures.same); over = inl refl; rest = refl },
 )

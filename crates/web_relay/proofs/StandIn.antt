@@ -1,0 +1,87 @@
+-- The best hall for a page, place by place.
+use Rattle.std.proofs.Common.{◌≡◌, ◌⊎◌, ℕ, ◌+◌, ◌<◌, Option, Some, None, IfSome, inl, inr, sym, subst, arith}
+use Rattle.std.proofs.lemmas.Bool.{cases_lt}
+use Rattle.std.specs.Prelude.{IsSomeAnd}
+use Rattle.slab.specs.Slab.{Slab, get}
+use Rattle.web_relay.specs.declared.hall.Hall.{Hall}
+use Rattle.web_relay.specs.Halls.{FitsIn, IsBetterOf}
+
+-- of the places below one, the best is this place; or no hall is there
+abbrev pub BestBelow : (ℕ × ℕ) → Slab Hall → ℕ → Option ℕ → Type 0
+BestBelow size halls n None = (q : ℕ) → q < n → get halls q ≡ None
+BestBelow size halls n (Some place) =
+    IsSomeAnd (get halls place) (λ hall. FitsIn size hall
+    ⊎ ((q : ℕ) → q < n → IfSome (get halls q) (λ it. FitsIn size it → ⊥)))
+
+below-more : (P : ℕ → Type 0) (n : ℕ) → ((q : ℕ) → q < n → P q) → P n → (q : ℕ) → q < n + 1 → P q
+below-more P n low here q lt =
+    elim (cases_lt q n) [
+      | inl less ↦ low q less
+      | inr more ↦ let e : n ≡ q = omega (arith, lt, more) in subst P e here
+    ]
+
+there-more : (P Q : Hall → Type 0) (o : Option Hall) → ((h : Hall) → P h → Q h) → IsSomeAnd o P → IsSomeAnd o Q
+there-more P Q None more h = h
+there-more P Q (Some hall) more h = more hall h
+
+fits-or-not : (size : ℕ × ℕ) (hall : Hall) → FitsIn size hall ⊎ (FitsIn size hall → ⊥)
+fits-or-not size hall =
+    elim (cases_lt size.0 hall.size.0) [
+      | inl less ↦ inr (λ fits. omega (arith, less, fits.0))
+      | inr wide ↦ elim (cases_lt size.1 hall.size.1) [
+        | inl less ↦ inr (λ fits. omega (arith, less, fits.1))
+        | inr high ↦ inl (wide, high)
+      ]
+    ]
+
+module _ (size : ℕ × ℕ) (halls : Slab Hall) (n : ℕ) where
+  -- the best stays, if the hall at this place is larger, or none is there
+  stays : (place : ℕ) → IfSome (get halls n) (λ it. FitsIn size it → ⊥) → BestBelow size halls n (Some place)
+      → BestBelow size halls (n + 1) (Some place)
+  stays place larger below =
+      there-more
+      (λ (hall : Hall). FitsIn size hall ⊎ ((q : ℕ) → q < n → IfSome (get halls q) (λ it. FitsIn size it → ⊥)))
+      (λ (hall : Hall). FitsIn size hall ⊎ ((q : ℕ) → q < n + 1 → IfSome (get halls q) (λ it. FitsIn size it → ⊥)))
+      (get halls place)
+      (λ hall h. elim h [
+        | inl fits ↦ inl fits
+        | inr all ↦ inr (below-more (λ q. IfSome (get halls q) (λ it. FitsIn size it → ⊥)) n all larger)
+      ]) below
+
+  pub best_none : (best : Option ℕ) → get halls n ≡ None → BestBelow size halls n best
+      → BestBelow size halls (n + 1) best
+  best_none None none below = below-more (λ q. get halls q ≡ None) n below none
+  best_none (Some place) none below =
+      stays place (subst (λ (o : Option Hall). IfSome o (λ it. FitsIn size it → ⊥)) (sym none) tt) below
+
+  module _ (hall : Hall) (there : get halls n ≡ Some hall) where
+    fits-here : FitsIn size hall → BestBelow size halls (n + 1) (Some n)
+    fits-here fits =
+        subst (λ (o : Option Hall). IsSomeAnd o (λ h. FitsIn size h
+        ⊎ ((q : ℕ) → q < n + 1 → IfSome (get halls q) (λ it. FitsIn size it → ⊥)))) (sym there) (inl fits)
+
+    larger-here : (FitsIn size hall → ⊥) → IfSome (get halls n) (λ it. FitsIn size it → ⊥)
+    larger-here larger =
+        subst (λ (o : Option Hall). IfSome o (λ it. FitsIn size it → ⊥)) (sym there) larger
+
+    first : ((q : ℕ) → q < n → get halls q ≡ None) → BestBelow size halls (n + 1) (Some n)
+    first none =
+        elim (fits-or-not size hall) [
+          | inl fits ↦ fits-here fits
+          | inr larger ↦
+              subst (λ (o : Option Hall). IsSomeAnd o (λ h. FitsIn size h
+              ⊎ ((q : ℕ) → q < n + 1 → IfSome (get halls q) (λ it. FitsIn size it → ⊥)))) (sym there)
+              (inr (below-more (λ q. IfSome (get halls q) (λ it. FitsIn size it → ⊥)) n
+              (λ q low. subst (λ (o : Option Hall). IfSome o (λ it. FitsIn size it → ⊥)) (sym (none q low)) tt)
+              (larger-here larger)))
+        ]
+
+    pub best_more : (best new : Option ℕ) → IsBetterOf size n hall best new → BestBelow size halls n best
+        → BestBelow size halls (n + 1) new
+    best_more None new better below =
+        subst (λ (o : Option ℕ). BestBelow size halls (n + 1) o) (sym better) (first below)
+    best_more (Some place) new (inl (fits, is)) below =
+        subst (λ (o : Option ℕ). BestBelow size halls (n + 1) o) (sym is) (fits-here fits)
+    best_more (Some place) new (inr (larger, is)) below =
+        subst (λ (o : Option ℕ). BestBelow size halls (n + 1) o) (sym is)
+        (stays place (larger-here larger) below)

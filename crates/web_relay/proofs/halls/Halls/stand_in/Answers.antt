@@ -1,0 +1,27 @@
+use Rattle.std.proofs.Common.{◌≡◌, ◌+◌, ℕ, Option, None, rules, subst, sym}
+use Rattle.slab.specs.Slab.{get}
+use Rattle.web_relay.proofs.StandIn.{BestBelow, best_more, best_none}
+use Rattle.web_relay.proofs.halls.Halls.stand_in.Goals as goal
+use Rattle.web_relay.proofs.halls.Halls.stand_in.Goals.{in-Some, in_default}
+
+pub halls-preserved : goal.halls-preserved
+halls-preserved c =
+    let size = c.args.size in
+    let list = c.args.self.now.list in
+    let place = c.halls.place in
+    let best = c.halls.best in
+    let below = c.halls.invariant.below in
+    elim c.match-get.branch [
+      | in-Some w ↦ record {
+        below = subst (λ (o : Option ℕ). BestBelow size list (place + 1) o) (sym w.best-is)
+            (best_more size list place w.in-Some.hall.now (sym w.in-Some.ensures) best w.better-best.result
+            w.better-best.ensures below);
+        all = c.halls.invariant.all;
+      }
+      | in_default w ↦
+          let none : get list place ≡ None = search rules in record {
+            below = subst (λ (o : Option ℕ). BestBelow size list (place + 1) o) (sym w.best-is)
+                (best_none size list place best none below);
+            all = c.halls.invariant.all;
+          }
+    ]
