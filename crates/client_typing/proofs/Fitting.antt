@@ -1,8 +1,18 @@
 -- Keys between two keys.
-use Rattle.std.proofs.Common.{◌≡◌, ℕ, List, [], ◌∷◌, ◌++◌, refl, sym, ap, ◌∙◌, append_assoc}
-use Rattle.std.specs.Prelude.{codes}
-use Rattle.keys.specs.Grammar.{line, Rest, nothing, rest_step, with_front, items_from, items}
-use Rattle.client_typing.specs.Fitting.{fit_keys}
+use Rattle.std.proofs.Common.{◌≡◌, ℕ, ◌+◌, ◌<◌, ◌≤◌, ◌^◌, Bool, true, false, ◌&&◌, cond, List, [], ◌∷◌, ◌++◌}
+use Rattle.std.proofs.Common.{length, take, drop, refl, sym, ap, ◌∙◌, append_assoc, append-nil, arith, true≢false, lit≤, length-append, ◌%◌}
+use Rattle.std.specs.Prelude.{codes, decimal}
+use Rattle.std.specs.List.{list_all}
+use Rattle.std.specs.Str.{bytes_eq}
+use Rattle.std.proofs.lemmas.List.{take-append-drop}
+use Rattle.std.proofs.lemmas.Slice.Eq.{bytes_eq-Decides}
+use Rattle.std.proofs.lemmas.Bool.Decides.{nat_tests}
+use Rattle.std.proofs.lemmas.Fmt.{decimal_by_steps, length-decimal-le}
+use Rattle.std.proofs.lemmas.List.Folds.{list_all-append}
+use Rattle.keys.specs.Grammar.{Item, line, Rest, nothing, prompt, rest_step, with_front, items_from, items}
+use Rattle.keys.specs.Grammar.{stays, line_after_key, line_items, carriage_return}
+use Rattle.client_typing.specs.Own.{view_command}
+use Rattle.client_typing.specs.Fitting.{given_keys, is_plain, IsLine}
 
 from-append : (r : Rest) (keys later : List ℕ)
     → items_from r (keys ++ later) ≡ with_front (items_from r keys).0 (items_from (items_from r keys).1 later)
@@ -19,13 +29,90 @@ pub typed-alone : (before later : List ℕ) → (items before).1 ≡ nothing
 typed-alone before later h = from-append nothing before later
     ∙ ap (λ r. with_front (items before).0 (items_from r later)) h
 
-fit-then : (later : List ℕ)
-    → items (fit_keys ++ later) ≡ (line (codes "fit") ∷ (items later).0, (items later).1)
+-- what is open after one more key
+pub rest-after : (r : Rest) (keys : List ℕ) (k : ℕ) → (items keys).1 ≡ r
+    → (items (keys ++ k ∷ [])).1 ≡ (rest_step r k).1
 unfolding items_from
-fit-then later = refl
+rest-after r keys k h = ap (λ (s : List Item × Rest). s.1) (from-append nothing keys (k ∷ []))
+    ∙ ap (λ t. (rest_step t k).1) h
 
-pub fit-between : (before later : List ℕ) → (items before).1 ≡ nothing
-    → items (before ++ (fit_keys ++ later))
-    ≡ ((items before).0 ++ line (codes "fit") ∷ (items later).0, (items later).1)
-fit-between before later h =
-    typed-alone before (fit_keys ++ later) h ∙ ap (with_front (items before).0) (fit-then later)
+-- ---- a command in the prompt
+
+and-parts : (a b : Bool) → (a && b) ≡ true → (a ≡ true) × (b ≡ true)
+and-parts true b h = (refl, h)
+and-parts false b h = absurd (true≢false (sym h))
+
+plain-step : (bytes : List ℕ) (k : ℕ) → is_plain k ≡ true → length bytes < 1024
+    → rest_step (prompt bytes) k ≡ ([], prompt (bytes ++ k ∷ []))
+plain-step bytes k plain few =
+    let kept : stays k ≡ true = grind (arith, nat_tests) in
+    let more : line_after_key bytes k ≡ bytes ++ k ∷ [] = grind (arith, nat_tests) in
+    ap (λ b. cond b ([], prompt (line_after_key bytes k)) (line_items bytes k, nothing)) kept
+    ∙ ap (λ l. ([], prompt l)) more
+
+in-prompt : (bytes command later : List ℕ) → list_all is_plain command ≡ true
+    → length bytes + length command ≤ 1024
+    → items_from (prompt bytes) (command ++ carriage_return ∷ later)
+    ≡ (line (bytes ++ command) ∷ (items later).0, (items later).1)
+unfolding items_from
+in-prompt bytes [] later plain short =
+    ap (λ b. (line b ∷ (items later).0, (items later).1)) (sym (append-nil bytes))
+in-prompt bytes (k ∷ command) later plain short =
+    let p = and-parts (is_plain k) (list_all is_plain command) plain in
+    let longer : length (bytes ++ k ∷ []) + length command ≤ 1024 = omega (arith, length-append bytes (k ∷ [])) in
+    ap (λ (s : List Item × Rest). with_front s.0 (items_from s.1 (command ++ carriage_return ∷ later)))
+    (plain-step bytes k p.0 (omega arith))
+    ∙ in-prompt (bytes ++ k ∷ []) command later p.1 longer
+    ∙ ap (λ b. (line b ∷ (items later).0, (items later).1)) (append_assoc bytes (k ∷ []) command)
+
+pub given-between : (command before later : List ℕ) → IsLine command → (items before).1 ≡ nothing
+    → items (before ++ (given_keys command ++ later))
+    ≡ ((items before).0 ++ line command ∷ (items later).0, (items later).1)
+unfolding items_from
+given-between command before later is h =
+    typed-alone before (given_keys command ++ later) h
+    ∙ ap (with_front (items before).0)
+    (ap (items_from (prompt [])) (append_assoc command (carriage_return ∷ []) later)
+    ∙ in-prompt [] command later is.plain (omega (arith, is.short)))
+
+pub given-alone : (command before : List ℕ) → IsLine command → (items before).1 ≡ nothing
+    → (items (before ++ given_keys command)).1 ≡ nothing
+unfolding items_from
+given-alone command before is h =
+    ap (λ keys. (items (before ++ keys)).1) (sym (append-nil (given_keys command)))
+    ∙ ap (λ (s : List Item × Rest). s.1) (given-between command before [] is h)
+
+-- the client's own commands
+pub fit-line : IsLine (codes "fit")
+fit-line = record { plain = refl; short = lit≤ tt }
+
+plain-digit : (n : ℕ) → n < 10 → is_plain (48 + n) ≡ true
+plain-digit n few = grind (arith, nat_tests)
+
+and-both : (a b : Bool) → a ≡ true → b ≡ true → (a && b) ≡ true
+and-both true b p q = q
+and-both false b p q = p
+
+plain-decimal : (n : ℕ) → n < 2 ^ 64 → list_all is_plain (decimal n) ≡ true
+plain-decimal n small =
+    decimal_by_steps (λ m ds. list_all is_plain ds ≡ true)
+    (λ m few. and-both (is_plain (48 + m)) true (plain-digit m few) refl)
+    (λ m ds many h.
+    list_all-append is_plain ds ((48 + m % 10) ∷ [])
+    ∙ and-both (list_all is_plain ds) (list_all is_plain ((48 + m % 10) ∷ [])) h
+    (and-both (is_plain (48 + m % 10)) true (plain-digit (m % 10) (omega arith)) refl))
+    n small
+
+pub view-line : (back : ℕ) → back < 65536 → IsLine (view_command back)
+view-line back few =
+    let short : length (decimal back) ≤ 5 = length-decimal-le 5 back (omega arith) (omega arith) (omega arith) in
+    record { plain = plain-decimal back (omega arith); short = omega (arith, length-append {A = ℕ}) }
+
+-- ---- keys to scroll by a page
+
+pub after-page : (keys page later : List ℕ) → bytes_eq (take (length page) keys) page ≡ true
+    → later ≡ drop (length page) keys → keys ≡ page ++ later
+after-page keys page later is rest =
+    sym (take-append-drop (length page) keys)
+    ∙ ap (λ (l : List ℕ). l ++ drop (length page) keys) ((bytes_eq-Decides (take (length page) keys) page).0 is)
+    ∙ ap (λ (l : List ℕ). page ++ l) (sym rest)

@@ -1,2 +1,3 @@
-mod Fitting
+pub mod Assisted
+pub mod Fitting
 pub mod Typed

@@ -24,12 +24,12 @@ let-through (Err e) reader after input out new none stands sends = tt
 
 -- ---- the command key, and the key after it
 
-after-second : (k : ℕ) → awaits_key (rest_step command_key k).1 ≡ false
+pub after-second : (k : ℕ) → awaits_key (rest_step command_key k).1 ≡ false
 after-second k =
     let s : Bool → List Item × Rest = λ v. if v then ([], prompt []) else (key_items k, nothing) in
     elim (k == colon) as (λ v. awaits_key (s v).1 ≡ false) [ true ↦ refl | false ↦ refl ]
 
-within : (bytes : List ℕ) (k : ℕ) → awaits_key (rest_step (prompt bytes) k).1 ≡ false
+pub within : (bytes : List ℕ) (k : ℕ) → awaits_key (rest_step (prompt bytes) k).1 ≡ false
 within bytes k =
     let s : Bool → List Item × Rest =
     λ v. if v then ([], prompt (line_after_key bytes k)) else (line_items bytes k, nothing) in

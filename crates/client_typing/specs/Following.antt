@@ -1,5 +1,5 @@
 -- What of the input is sent, and what has read it.
-use Rattle.std.specs.Prelude.{◌≡◌, ℕ, List, ◌++◌, Option, Some, None}
+use Rattle.std.specs.Prelude.{◌≡◌, ℕ, List, [], ◌++◌, Option, Some, None}
 use Rattle.client_words.specs.declared.leaving.LeaveReader.{LeaveReader}
 use Rattle.client_words.specs.Leaving.{sent}
 use Rattle.client_words.specs.Stands.{HasRead}
@@ -19,6 +19,14 @@ LetsThrough (Some reader) input typed (Some after) =
 -- the reader has read these keys too
 abbrev pub Follows : Keeping → List ℕ → Keeping → Type 0
 Follows old keys new = (before : List ℕ) → StandsFor old before → StandsFor new (before ++ keys)
+
+-- no key was read yet
+abbrev pub IsUnread : Typing → Type 0
+IsUnread t = StandsFor t.keys []
+
+-- the byte that leaves, and whether the client has keys of its own
+abbrev pub IsSet : Typing → Typing → Type 0
+IsSet old new = (new.leave ≡ old.leave) × (new.assists ≡ old.assists)
 
 -- but for the keys that it has read
 abbrev pub StaysBeside : Typing → Typing → Type 0

@@ -1,2 +1,4 @@
+pub mod Assisting
 pub mod Fitting
 pub mod Following
+pub mod Own

@@ -5,5 +5,5 @@
 mod laws;
 mod typing;
 
-pub use laws::fit_splits_nothing;
+pub use laws::own_keys_split_nothing;
 pub use typing::Typing;

@@ -1,8 +1,10 @@
 //! What a user types, without the byte that leaves, and the keys that a client has of its own.
 
-ghost use Rattle.std.specs.Prelude.{◌≡◌, ◌↔◌, ℕ, [], ◌∷◌, ◌++◌, IsTrue, OnOk};
+ghost use Rattle.std.specs.Prelude.{◌≡◌, ◌<◌, ◌↔◌, ◌++◌, ◌∷◌, ℕ, Bool, List, [], None, length};
+ghost use Rattle.std.specs.Prelude.{IsTrue, IsSome, OnOk, IfOk, IfSome};
 ghost use Rattle.keys.specs.Grammar.{rest_step};
-ghost use Rattle.keys.specs.Kept.{StandsFor, rest_of};
+ghost use Rattle.keys.specs.Kept.{rest_of};
+ghost use Rattle.client_typing.specs.Own.{IsPageKey, turned, view_keys};
 ghost use Rattle.client_typing.specs.Fitting.{given_keys, fit_keys, awaits_key};
 
 use client_words::{Fault, InputStage, LeaveReader, Words};
@@ -31,26 +33,37 @@ pub struct Typing {
     pub asks_help: bool,
 }
 
-// The length of the keys to scroll by a page with which some bytes begin, and whether it is up: those
-// of xterm and of rxvt.
-fn scroll_keys(bytes: &[u8]) -> Option<(usize, bool)> {
-    for (keys, is_up) in [
-        (b"\x1b[5;2~".as_slice(), true),
-        (b"\x1b[6;2~".as_slice(), false),
-        (b"\x1b[5$".as_slice(), true),
-        (b"\x1b[6$".as_slice(), false),
-    ] {
-        if bytes.starts_with(keys) {
-            return Some((keys.len(), is_up));
-        }
+// The keys after those to scroll by a page, with which some keys begin, and whether that is up.
+fn after_page_key(keys: &[u8]) -> Option<(&[u8], bool)>
+    ensures some { IfSome result (λ found. (page : List ℕ) × IsPageKey page found.1
+        × (keys.now ≡ page ++ found.0.now)) }
+    ensures none { result ≡ None → (page later : List ℕ) (is_up : Bool) → IsPageKey page is_up
+        → keys.now ≡ page ++ later → ⊥ }
+{
+    if let Some(later) = keys.strip_prefix(b"\x1b[5;2~".as_slice()) {
+        return Some((later, true));
+    }
+    if let Some(later) = keys.strip_prefix(b"\x1b[6;2~".as_slice()) {
+        return Some((later, false));
+    }
+    if let Some(later) = keys.strip_prefix(b"\x1b[5$".as_slice()) {
+        return Some((later, true));
+    }
+    if let Some(later) = keys.strip_prefix(b"\x1b[6$".as_slice()) {
+        return Some((later, false));
     }
     None
 }
 
 impl Typing {
-    ghost use Rattle.client_typing.specs.Following.{LetsThrough, Follows, StaysBeside, Rests};
+    ghost use Rattle.client_typing.specs.Assisting.{Assists, IsAssisted, Takes};
+    ghost use Rattle.client_typing.specs.Following.{LetsThrough, Follows, IsSet, IsUnread, StaysBeside, Rests};
 
-    pub fn new(words: &Words<'_>) -> Typing {
+    pub fn new(words: &Words<'_>) -> Typing
+        ensures stands { IsUnread result }
+        ensures assisted { IsAssisted result [] [] }
+        ensures assists { result.assists ≡ words.now.assist }
+    {
         let leave = match words.leave {
             Some(byte) => Some(LeaveReader::new(byte)),
             None => None,
@@ -68,7 +81,9 @@ impl Typing {
 
     /// Begins with another session, which has read no key.
     pub fn begin(&mut self)
-        ensures { StandsFor self.new.keys [] }
+        ensures stands { IsUnread self.new }
+        ensures assisted { IsAssisted self.new [] [] }
+        ensures same { IsSet self.old self.new }
     {
         self.keys = KeyReader::new();
         self.is_begun = false;
@@ -76,7 +91,9 @@ impl Typing {
     }
 
     /// Whether there is a byte that leaves, whatever the server does.
-    pub fn can_leave(&self) -> bool {
+    pub fn can_leave(&self) -> bool
+        ensures { IsTrue result ↔ IsSome self.now.leave }
+    {
         self.leave.is_some()
     }
 
@@ -89,7 +106,9 @@ impl Typing {
     }
 
     /// Leaves by the byte that waits.
-    pub fn leave(&mut self) {
+    pub fn leave(&mut self)
+        ensures { self.new ≡ record self.old { leave = self.new.leave } }
+    {
         if let Some(leave) = &mut self.leave {
             leave.leave();
         }
@@ -151,46 +170,73 @@ impl Typing {
     pub fn fit(&mut self, out: &mut Vec<u8>) -> Result<(), AllocError>
         ensures given { OnOk result (out.new.items ≡ out.old.items ++ fit_keys) }
         ensures follows { OnOk result (Follows self.old.keys fit_keys self.new.keys) }
+        ensures assists { Rests self.old
+            → OnOk result (Assists self.old [] out.old.items self.new out.new.items) }
+        ensures same { StaysBeside self.old self.new }
     {
         self.give(b"fit", out)
     }
 
     // Moves the view this many lines back.
     fn scroll(&mut self, back: u16, out: &mut Vec<u8>) -> Result<(), Fault>
-        ensures { self.new.leave ≡ self.old.leave }
+        ensures given { OnOk result (out.new.items ≡ out.old.items ++ view_keys back) }
+        ensures follows { OnOk result (Follows self.old.keys (view_keys back) self.new.keys) }
+        ensures back { OnOk result (self.new.back ≡ back) }
+        ensures same { IsSet self.old self.new }
     {
-        let mut line = Vec::new(*out.allocator());
-        write!(line, "scrollview {back}")?;
-        self.give(&line, out)?;
+        let line = format!(in *out.allocator(); "scrollview {back}")?;
+        self.give(line.as_bytes(), out)?;
         self.back = back;
         Ok(())
     }
 
     // Moves the view by a page.
     fn turn(&mut self, is_up: bool, page: u16, out: &mut Vec<u8>) -> Result<(), Fault>
-        ensures { self.new.leave ≡ self.old.leave }
+        ensures assists { (keys : List ℕ) → Rests self.old → IsPageKey keys is_up
+            → OnOk result (Assists self.old keys out.old.items self.new out.new.items) }
+        ensures same { IsSet self.old self.new }
     {
-        let back = if is_up {
+        self.scroll(self.turned(is_up, page), out)
+    }
+
+    // How many lines the view is moved back after a page.
+    fn turned(&self, is_up: bool, page: u16) -> u16
+        ensures { result ≡ turned is_up page self.now.back }
+    {
+        if is_up {
             self.back.saturating_add(page).min(MOST_BACK)
         } else {
             self.back.saturating_sub(page)
-        };
-        self.scroll(back, out)
+        }
+    }
+
+    // Brings lines that were moved back to the end, before a key.
+    #[tactic(auto, using(crate::proofs::Assisted::assists_none))]
+    fn come_to_end(&mut self, out: &mut Vec<u8>) -> Result<(), Fault>
+        ensures assists { OnOk result (Assists self.old [] out.old.items self.new out.new.items) }
+        ensures end { OnOk result (Rests self.new → self.new.back ≡ 0) }
+        ensures same { IsSet self.old self.new }
+    {
+        if self.back == 0 || !self.is_at_rest() {
+            return Ok(());
+        }
+        self.scroll(0, out)
     }
 
     // Takes a key that isn't the client's own. Lines that were moved back come to the end first.
     fn press(&mut self, key: u8, is_last: bool, out: &mut Vec<u8>) -> Result<(), Fault>
-        ensures { self.new.leave ≡ self.old.leave }
+        ensures assists { OnOk result (Assists self.old (key ∷ []) out.old.items self.new out.new.items) }
+        ensures same { IsSet self.old self.new }
     {
-        if self.back > 0 && self.is_at_rest() {
-            self.scroll(0, out)?;
-        }
+        self.come_to_end(out)?;
         self.pass(key, is_last, out)
     }
 
     // Passes a key on. The command key waits for the one after it, which may ask for the help: that pair isn't sent.
     fn pass(&mut self, key: u8, is_last: bool, out: &mut Vec<u8>) -> Result<(), Fault>
-        ensures { self.new.leave ≡ self.old.leave }
+        ensures assists { (Rests self.old → self.old.back ≡ 0)
+            → OnOk result (Assists self.old (key ∷ []) out.old.items self.new out.new.items) }
+        ensures same { IsSet self.old self.new }
     {
         let is_second = self.is_begun;
         self.follow(key);
@@ -209,23 +255,34 @@ impl Typing {
         Ok(())
     }
 
-    // Appends what is to be sent of some keys.
-    pub fn assist(&mut self, keys: &[u8], page: u16, out: &mut Vec<u8>) -> Result<(), Fault>
-        ensures { self.new.leave ≡ self.old.leave }
+    // Takes the first of some keys, or those to scroll by a page. Returns the keys after them.
+    fn take<'k>(&mut self, keys: &'k [u8], page: u16, out: &mut Vec<u8>) -> Result<&'k [u8], Fault>
+        ensures takes { IfOk result (λ later. Takes self.old keys.now later.now out.old.items
+            self.new out.new.items) }
+        ensures fewer { 0 < length keys.now → IfOk result (λ later. length later.now < length keys.now) }
+        ensures same { IsSet self.old self.new }
     {
-        let mut skip = 0usize;
-        'keys: for at in 0..keys.len() {
-            let rest = keys.get(at..).unwrap_or(&[]);
-            if skip > 0 {
-                skip -= 1;
-            } else if self.is_at_rest()
-                && let Some((count, is_up)) = scroll_keys(rest)
-            {
-                self.turn(is_up, page, out)?;
-                skip = count.saturating_sub(1);
-            } else {
-                self.press(keys[at], rest.len() == 1, out)?;
-            }
+        if self.is_at_rest()
+            && let Some((later, is_up)) = after_page_key(keys)
+        {
+            self.turn(is_up, page, out)?;
+            return Ok(later);
+        }
+        let Some((key, later)) = keys.split_first() else {
+            return Ok(keys);
+        };
+        self.press(*key, later.is_empty(), out)?;
+        Ok(later)
+    }
+
+    /// Appends what is to be sent of some keys. `page` is how many lines a page has.
+    pub fn assist(&mut self, keys: &[u8], page: u16, out: &mut Vec<u8>) -> Result<(), Fault>
+        ensures assists { OnOk result (Assists self.old keys.now out.old.items self.new out.new.items) }
+        ensures same { IsSet self.old self.new }
+    {
+        let mut rest = keys;
+        'keys: while !rest.is_empty() {
+            rest = self.take(rest, page, out)?;
         }
         Ok(())
     }
