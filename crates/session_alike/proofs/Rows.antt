@@ -1,7 +1,7 @@
 -- Each command does the same in sessions that are alike.
 use Rattle.std.proofs.Common.{◌≡◌, ℕ, ◌-◌, Bool, true, false, not, List, [], ◌∷◌, ◌++◌, Option, Some, None, Ok, refl}
 use Rattle.std.proofs.Common.{ap, sym, ◌∙◌, subst, length}
-use Rattle.std.specs.Prelude.{if◌then◌else◌, ◌==◌, nat_lt, codes, slice_get, slice_set, unwrap_or}
+use Rattle.std.specs.Prelude.{◌==◌, nat_lt, codes, slice_get, slice_set, unwrap_or}
 use Rattle.std.specs.Option.{option_and_then, option_map}
 use Rattle.acl.specs.declared.act.Act.TheVariants as act
 use Rattle.acl.specs.declared.faults.AclFault.{AclFault}

@@ -7,7 +7,7 @@ use Rattle.acl.specs.declared.user_id.UserId.{UserId}
 use Rattle.command_lang.specs.declared.command.Command.{Command as Order}
 use Rattle.command_lang.specs.declared.command.Command.TheVariants as command
 use Rattle.command_lang.specs.declared.fault.ParseFault.{ParseFault}
-use Rattle.keys.specs.Grammar.{Item, bound, line, items}
+use Rattle.keys.specs.Grammar.{Item, bound, line}
 use Rattle.windows_model.specs.Matched.{BothOrNone, Matched}
 use Rattle.session_model.specs.declared.event.Effect.TheVariants.{Input, Say}
 use Rattle.session_model.specs.declared.message.StatusMessage.{StatusMessage}

@@ -1,6 +1,5 @@
 -- What a step does in sessions that are alike.
-use Rattle.std.specs.Prelude.{◌≡◌, ◌<◌, ◌⊎◌, ℕ, ◌+◌, List, [], ◌∷◌, map, Option, Some, Result, Ok, Err}
-use Rattle.acl.specs.declared.act.Act.{Act}
+use Rattle.std.specs.Prelude.{◌≡◌, ◌<◌, ◌⊎◌, ℕ, ◌+◌, List, [], ◌∷◌, map, Some, Ok, Err}
 use Rattle.acl.specs.History.{History}
 use Rattle.windows_model.specs.Matched.{Matched, BothOrNone}
 use Rattle.session_model.specs.declared.event.Done.{Done}
