@@ -1,0 +1,393 @@
+-- Each event does the same in sessions that are alike.
+use Rattle.std.proofs.Common.{◌≡◌, ℕ, ◌+◌, ◌<◌, Bool, true, false, List, [], ◌∷◌, Option, Some, None, Ok, Err}
+use Rattle.std.proofs.Common.{Result, refl, ap, sym, ◌∙◌, subst, map, length, arith}
+use Rattle.std.specs.Prelude.{if◌then◌else◌, ◌==◌, ◌&&◌, ◌||◌, nat_lt, unwrap_or}
+use Rattle.std.specs.Option.{is_some, option_map}
+use Rattle.std.proofs.lemmas.Bool.Decides.{nat_tests}
+use Rattle.acl.specs.declared.act.Act.TheVariants as act
+use Rattle.acl.specs.declared.act.Object.TheVariants as object
+use Rattle.acl.specs.declared.bits.Bit.TheVariants.{Execute}
+use Rattle.acl.specs.declared.command_name.CommandName.TheVariants.{Screen}
+use Rattle.acl.specs.declared.user_id.UserId.{UserId}
+use Rattle.acl.specs.limits.TheConstants.{WINDOWS}
+use Rattle.acl.specs.Same.{same_user}
+use Rattle.command_lang.specs.declared.command.Command.{Command as Order}
+use Rattle.command_lang.specs.declared.fault.ParseFault.{ParseFault}
+use Rattle.regions.specs.Layouts.{Arrangement, kept_alone, one_region}
+use Rattle.regions.specs.Pages.{has_room}
+use Rattle.terminal_model.specs.Reading.{reads}
+unfoldable use Rattle.terminal_model.specs.Writing.{writes_all}
+use Rattle.terminal_model.specs.Writing as written
+use Rattle.windows_model.specs.Matched.{BothOrNone, Matched}
+use Rattle.session_model.specs.declared.check.Check.TheVariants.{Must as must, Right as right}
+use Rattle.session_model.specs.declared.event.Reason.TheVariants as reason
+use Rattle.session_model.specs.declared.limits.TheConstants.{CLIENTS, SERIALS}
+use Rattle.session_model.specs.declared.message.StatusMessage.TheVariants as message
+use Rattle.session_model.specs.declared.refusal.Refusal.TheVariants.{BadSize, Line, NotMultiuser, NoWindow}
+use Rattle.session_model.specs.declared.refusal.Refusal.TheVariants.{TooManyClients, UnknownUser, Windows}
+use Rattle.session_model.specs.declared.verdict.Verdict.{Verdict}
+use Rattle.session_model.specs.windows_fault.WindowsFault.TheVariants.{BadTitle, Full}
+use Rattle.session_model.specs.Answering.{answered, commanded, line_ruling}
+use Rattle.session_model.specs.Comings.{attach_checks, attached, attaches, has_place, is_client_size, is_let_in}
+use Rattle.session_model.specs.Comings.{is_window_size, new_client, new_window, open_checks, opens, outputs, resized}
+use Rattle.session_model.specs.Commands.{ruling}
+use Rattle.session_model.specs.Deeds.{Answer, changing, entering, input_of}
+use Rattle.session_model.specs.Events.{outcome, with_client_of, with_window_of}
+use Rattle.session_model.specs.Lines.{Caller, line_caller, read_line}
+use Rattle.session_model.specs.Naming.{free_number, is_title, lowest}
+use Rattle.session_model.specs.Outcomes.{Outcome, done as said_done, refused, reply_of}
+use Rattle.session_model.specs.Tables.{Client, Tables, Window, client_at, focused, is_known, window_at, with_client}
+use Rattle.session_model.specs.Terminals.{terminal_of}
+use Rattle.session_model.specs.Trace.{Attach, Closed, Command, Detach, Draw, EventValue, Keys, Open, Output, Resize}
+use Rattle.session_alike.specs.Renaming.{Renaming, event_as, layout_as}
+use Rattle.session_alike.specs.Alike.{ClientsAlike, TablesAlike, TextsAlike, WindowsAlike}
+use Rattle.session_alike.specs.Steps.{EffectsAlike, HasSerials, RepliesAlike, made_as}
+use Rattle.session_alike.proofs.Arranging.{alone_as}
+use Rattle.session_alike.proofs.Changing.{AnswersAlike, DeedsAlike, arranged_alike, closes_alike, declined, done}
+use Rattle.session_alike.proofs.Changing.{entering_as, input_as, parts_alike, put_client_alike, writes_alike}
+use Rattle.session_alike.proofs.Checking.{CallersAlike, check_as, serial_as}
+use Rattle.session_alike.proofs.Finding.{client_alike, client_serials, focused_as, known_alike, window_alike}
+use Rattle.session_alike.proofs.Finding.{window_serials}
+use Rattle.session_alike.proofs.Matching.{append_both, length_both}
+use Rattle.session_alike.proofs.Naming.{free_both, given_number_both, lowest_both}
+use Rattle.session_alike.proofs.Outcomes.{OutcomesAlike, finished_alike, passed_alike, refused_alike}
+use Rattle.session_alike.proofs.Rows.{ListedBy}
+use Rattle.session_alike.proofs.Typing.{keys_alike, listed_text, ruling_alike}
+
+no_more : (m : ℕ) → m + 0 ≡ m
+no_more m = omega arith
+
+one_more : (m i : ℕ) → (m + 1) + i ≡ m + (1 + i)
+one_more m i = omega arith
+
+is_below : (m k : ℕ) → m < k → nat_lt m k ≡ true
+is_below m k below = grind (arith, nat_tests, below)
+
+module _ (n : Renaming) (t u : Tables) (a : TablesAlike n t u) where
+  done_alike : (event : EventValue) → made_as n event 0 ≡ 0 → RepliesAlike n event said_done said_done
+  done_alike event made = record { taken = refl; made = sym made; number = refl; text = tt }
+
+  by_client : (event : EventValue) (client : ℕ) (F G : Client → Outcome)
+      → ((c d : Client) → ClientsAlike n c d → OutcomesAlike n event (F c) (G d))
+      → OutcomesAlike n event (with_client_of t client F) (with_client_of u (n.client client) G)
+  by_client event client F G same =
+      on (client_at t client) (client_at u (n.client client)) (client_alike n t u a client) where
+        on : (o p : Option Client) → BothOrNone (ClientsAlike n) o p
+            → OutcomesAlike n event
+            (elim o as (λ _. Outcome) [ None ↦ refused t [] NoWindow | Some c ↦ F c ])
+            (elim p as (λ _. Outcome) [ None ↦ refused u [] NoWindow | Some d ↦ G d ])
+        on None None r = refused_alike n t u a event [] [] NoWindow NoWindow refl refl
+        on (Some c) (Some d) r = same c d r
+        on o p r = absurd r
+
+  by_window : (event : EventValue) (window : ℕ) (F G : Window → Outcome)
+      → ((w v : Window) → WindowsAlike n w v → OutcomesAlike n event (F w) (G v))
+      → OutcomesAlike n event (with_window_of t window F) (with_window_of u (n.window window) G)
+  by_window event window F G same =
+      on (window_at t window) (window_at u (n.window window)) (window_alike n t u a window) where
+        on : (o p : Option Window) → BothOrNone (WindowsAlike n) o p
+            → OutcomesAlike n event
+            (elim o as (λ _. Outcome) [ None ↦ refused t [] NoWindow | Some w ↦ F w ])
+            (elim p as (λ _. Outcome) [ None ↦ refused u [] NoWindow | Some v ↦ G v ])
+        on None None r = refused_alike n t u a event [] [] NoWindow NoWindow refl refl
+        on (Some w) (Some v) r = same w v r
+        on o p r = absurd r
+
+  let_in_alike : (user : UserId) → is_let_in u user ≡ is_let_in t user
+  let_in_alike user = ap (λ (x : UserId). same_user x user || u.is_multiuser) a.owner
+      ∙ ap (λ b. same_user t.owner user || b) a.is_multiuser
+
+  -- ---- attaching
+
+  next_client_as : u.next_client ≡ n.client t.next_client
+  next_client_as = sym (ap n.client (sym (no_more t.next_client)) ∙ a.next_clients 0 ∙ no_more u.next_client)
+
+  next_window_as : u.next_window ≡ n.window t.next_window
+  next_window_as = sym (ap n.window (sym (no_more t.next_window)) ∙ a.next_windows 0 ∙ no_more u.next_window)
+
+  serials_left : (m k : ℕ) → m < SERIALS → k < SERIALS → nat_lt k SERIALS ≡ nat_lt m SERIALS
+  serials_left m k below also = is_below k SERIALS also ∙ sym (is_below m SERIALS below)
+
+  attach_checks_as : (user : UserId) (rows columns : ℕ) → t.next_client < SERIALS → u.next_client < SERIALS
+      → attach_checks u user rows columns ≡ map (check_as n) (attach_checks t user rows columns)
+  attach_checks_as user rows columns below also =
+      ap (λ b. must b UnknownUser ∷ must (is_let_in u user) NotMultiuser ∷ must (is_client_size rows columns) BadSize
+      ∷ must (nat_lt (length u.clients) CLIENTS && nat_lt u.next_client SERIALS) TooManyClients ∷ [])
+      (known_alike n t u a user)
+      ∙ ap (λ b. must (is_known t user) UnknownUser ∷ must b NotMultiuser ∷ must (is_client_size rows columns) BadSize
+      ∷ must (nat_lt (length u.clients) CLIENTS && nat_lt u.next_client SERIALS) TooManyClients ∷ [])
+      (let_in_alike user)
+      ∙ ap (λ b. must (is_known t user) UnknownUser ∷ must (is_let_in t user) NotMultiuser ∷ must
+      (is_client_size rows columns) BadSize ∷ must b TooManyClients ∷ [])
+      (ap (λ k. nat_lt k CLIENTS && nat_lt u.next_client SERIALS)
+      (length_both (ClientsAlike n) t.clients u.clients a.clients)
+      ∙ ap (λ b. nat_lt (length t.clients) CLIENTS && b) (serials_left t.next_client u.next_client below also))
+
+  -- a client before its page
+  abbrev coming : ℕ → UserId → ℕ → ℕ → Option ℕ → Client
+  coming serial user rows columns window = record {
+    serial = serial;
+    user = user;
+    rows = rows;
+    columns = columns;
+    keys = [];
+    delivered = [];
+    drawn = None;
+    layout = one_region (record { window = window; back = 0 });
+    last = None;
+    former = None;
+    message = message.Silence;
+  }
+
+  attached_as : (s k : ℕ) (user : UserId) (rows columns : ℕ) (o p : Option ℕ) → k ≡ n.client s
+      → p ≡ option_map n.window o
+      → ClientsAlike n (attached s user rows columns o) (attached k user rows columns p)
+  attached_as s k user rows columns o p serial window =
+      arranged_alike n (coming s user rows columns o) (coming k user rows columns p) (record {
+        serial = serial;
+        user = refl;
+        rows = refl;
+        columns = refl;
+        keys = refl;
+        layout = ap (λ x. one_region (record { window = x; back = 0 })) window;
+        last = refl;
+        former = refl;
+        message = refl;
+      }) (one_region (record { window = o; back = 0 })) (one_region (record { window = p; back = 0 }))
+      (ap (λ x. one_region (record { window = x; back = 0 })) window)
+
+  new_client_alike : (user : UserId) (rows columns : ℕ)
+      → ClientsAlike n (new_client t user rows columns) (new_client u user rows columns)
+  new_client_alike user rows columns =
+      attached_as t.next_client u.next_client user rows columns _ _ next_client_as
+      (serial_as n (lowest t.windows) (lowest u.windows) (lowest_both n t.windows u.windows a.windows))
+
+  attaches_alike : (c d : Client) → ClientsAlike n c d → DeedsAlike n t.acts u.acts (attaches t c) (attaches u d)
+  attaches_alike c d r = record {
+    acts = ap (λ s. act.Attached s d.user ∷ entering d.user (focused d)) r.serial
+        ∙ ap (λ (v : UserId). act.Attached (n.client c.serial) v ∷ entering v (focused d)) r.user
+        ∙ ap (λ acts. act.Attached (n.client c.serial) c.user ∷ acts)
+        (ap (entering c.user) (focused_as n c d r.layout) ∙ entering_as n c.user (focused c));
+    tables = record {
+      owner = a.owner;
+      edition = a.edition;
+      is_multiuser = a.is_multiuser;
+      acts = a.acts;
+      windows = a.windows;
+      clients = append_both (ClientsAlike n) t.clients (c ∷ []) u.clients (d ∷ []) a.clients (r, tt);
+      next_windows = a.next_windows;
+      next_clients = λ i. ap n.client (one_more t.next_client i) ∙ a.next_clients (1 + i)
+          ∙ sym (one_more u.next_client i);
+    };
+    effects = tt;
+    kept = refl;
+    kept_too = refl;
+  }
+
+  -- ---- opening
+
+  place_alike : has_place u.windows ≡ has_place t.windows
+  place_alike =
+      ap (λ k. nat_lt k WINDOWS && is_some (free_number u.windows))
+      (length_both (WindowsAlike n) t.windows u.windows a.windows)
+      ∙ ap (λ o. nat_lt (length t.windows) WINDOWS && is_some o) (free_both n t.windows u.windows a.windows)
+
+  open_checks_as : (user : UserId) (rows columns keep : ℕ) (title : List ℕ) → t.next_window < SERIALS
+      → u.next_window < SERIALS
+      → open_checks u user rows columns keep title ≡ map (check_as n) (open_checks t user rows columns keep title)
+  open_checks_as user rows columns keep title below also =
+      ap (λ b. must b UnknownUser ∷ right user Execute (object.Command Screen) ∷ must (is_let_in u user) NotMultiuser
+      ∷ must (is_window_size rows columns keep) BadSize
+      ∷ must (has_place u.windows && nat_lt u.next_window SERIALS) (Windows Full)
+      ∷ must (is_title title) (Windows BadTitle) ∷ []) (known_alike n t u a user)
+      ∙ ap (λ b. must (is_known t user) UnknownUser ∷ right user Execute (object.Command Screen) ∷ must b NotMultiuser
+      ∷ must (is_window_size rows columns keep) BadSize
+      ∷ must (has_place u.windows && nat_lt u.next_window SERIALS) (Windows Full)
+      ∷ must (is_title title) (Windows BadTitle) ∷ []) (let_in_alike user)
+      ∙ ap (λ b. must (is_known t user) UnknownUser ∷ right user Execute (object.Command Screen)
+      ∷ must (is_let_in t user) NotMultiuser ∷ must (is_window_size rows columns keep) BadSize ∷ must b (Windows Full)
+      ∷ must (is_title title) (Windows BadTitle) ∷ [])
+      (ap (λ b. b && nat_lt u.next_window SERIALS) place_alike
+      ∙ ap (λ b. has_place t.windows && b) (serials_left t.next_window u.next_window below also))
+
+  new_window_alike : (rows columns keep : ℕ) (title : List ℕ)
+      → WindowsAlike n (new_window t rows columns keep title) (new_window u rows columns keep title)
+  new_window_alike rows columns keep title = record {
+    serial = next_window_as;
+    number = ap (λ o. unwrap_or o 0) (free_both n t.windows u.windows a.windows);
+    title = refl;
+    terminal = record { screens = λ later. refl; reports = λ later bytes. refl };
+  }
+
+  opens_alike : (user : UserId) (w v : Window) → WindowsAlike n w v
+      → DeedsAlike n t.acts u.acts (opens t user w) (opens u user v)
+  opens_alike user w v r = record {
+    acts = ap (λ s. act.Opened user s ∷ []) r.serial;
+    tables = record {
+      owner = a.owner;
+      edition = a.edition;
+      is_multiuser = a.is_multiuser;
+      acts = a.acts;
+      windows = append_both (WindowsAlike n) t.windows (w ∷ []) u.windows (v ∷ []) a.windows (r, tt);
+      clients = a.clients;
+      next_windows = λ i. ap n.window (one_more t.next_window i) ∙ a.next_windows (1 + i)
+          ∙ sym (one_more u.next_window i);
+      next_clients = a.next_clients;
+    };
+    effects = tt;
+    kept = refl;
+    kept_too = refl;
+  }
+
+  -- ---- sizes and output
+
+  room_as : (rows columns : ℕ) (l : Arrangement)
+      → (if has_room l.shape rows columns then layout_as n l else kept_alone (layout_as n l))
+      ≡ layout_as n (if has_room l.shape rows columns then l else kept_alone l)
+  room_as rows columns l = on (has_room l.shape rows columns) where
+    on : (b : Bool)
+        → (if b then layout_as n l else kept_alone (layout_as n l)) ≡ layout_as n (if b then l else kept_alone l)
+    on true = refl
+    on false = alone_as n l
+
+  resized_alike : (rows columns : ℕ) (c d : Client) → ClientsAlike n c d
+      → ClientsAlike n (resized rows columns c) (resized rows columns d)
+  resized_alike rows columns c d r = record {
+    serial = r.serial;
+    user = r.user;
+    rows = refl;
+    columns = refl;
+    keys = r.keys;
+    layout = ap (λ (l : Arrangement). if has_room l.shape rows columns then l else kept_alone l) r.layout
+        ∙ room_as rows columns c.layout;
+    last = r.last;
+    former = r.former;
+    message = r.message;
+  }
+
+  reports_alike : (w v : Window) → WindowsAlike n w v → (bytes : List ℕ)
+      → (reads (terminal_of v) bytes).reports ≡ (reads (terminal_of w) bytes).reports
+  unfolding writes_all
+  reports_alike w v r bytes = r.terminal.reports [] bytes
+
+  outputs_alike : (w v : Window) → WindowsAlike n w v → (bytes : List ℕ)
+      → DeedsAlike n t.acts u.acts (outputs t w bytes) (outputs u v bytes)
+  outputs_alike w v r bytes = record {
+    acts = refl;
+    tables = (writes_alike n t u a w v r (written.Output bytes)).tables;
+    effects = subst (λ s. Matched (EffectsAlike n) (input_of w.serial (reads (terminal_of w) bytes).reports)
+        (input_of s (reads (terminal_of v) bytes).reports)) (sym r.serial)
+        (subst (λ x. Matched (EffectsAlike n) (input_of w.serial (reads (terminal_of w) bytes).reports)
+        (input_of (n.window w.serial) x)) (sym (reports_alike w v r bytes))
+        (input_as n w.serial (reads (terminal_of w) bytes).reports));
+    kept = refl;
+    kept_too = refl;
+  }
+
+  -- ---- commands
+
+  texts_one : (T : List ℕ → List ℕ → Type 0) → ((x y : List ℕ) → T x y → TextsAlike n x y) → (o p : Option (List ℕ))
+      → BothOrNone T o p → BothOrNone (TextsAlike n) o p
+  texts_one T texts None None m = tt
+  texts_one T texts (Some x) (Some y) m = texts x y m
+  texts_one T texts o p m = absurd m
+
+  answered_alike : (event : EventValue) → made_as n event 0 ≡ 0 → (T : List ℕ → List ℕ → Type 0)
+      → ((x y : List ℕ) → T x y → TextsAlike n x y) → (vs ws : List Verdict)
+      → ws ≡ map (Rattle.session_alike.specs.Renaming.verdict_as n) vs → (x y : Answer)
+      → AnswersAlike n T t.acts u.acts x y → OutcomesAlike n event (answered t vs x) (answered u ws y)
+  answered_alike event made T texts vs ws verdicts (Ok d) (Ok e) (done alike ls) =
+      finished_alike n t u a event vs ws (reply_of 0 0 0 d.lists) (reply_of 0 0 0 e.lists) d e verdicts
+      (record { taken = refl; made = sym made; number = refl; text = texts_one T texts d.lists e.lists ls }) alike
+  answered_alike event made T texts vs ws verdicts (Err r) (Err s) (declined same) =
+      refused_alike n t u a event vs ws r s verdicts same
+  answered_alike event made T texts vs ws verdicts (Ok d) (Err s) alike = elim alike [ ]
+  answered_alike event made T texts vs ws verdicts (Err r) (Ok e) alike = elim alike [ ]
+
+  line_alike : (event : EventValue) → made_as n event 0 ≡ 0 → (k l : Caller) → CallersAlike n k l
+      → (x : Result Order ParseFault)
+      → OutcomesAlike n event (commanded t (line_ruling t k x)) (commanded u (line_ruling u l x))
+  line_alike event made k l r (Err f) = refused_alike n t u a event [] [] (Line f) (Line f) refl refl
+  line_alike event made k l r (Ok c) =
+      answered_alike event made (ListedBy n c) (listed_text n c) (ruling t k c).verdicts (ruling u l c).verdicts
+      (ruling_alike n t u a k l r c).verdicts (ruling t k c).answer (ruling u l c).answer
+      (ruling_alike n t u a k l r c).answer
+
+  command_alike : (event : EventValue) → made_as n event 0 ≡ 0 → (user : UserId) (number : Option ℕ) (bytes : List ℕ)
+      → OutcomesAlike n event (outcome t (Command user number bytes)) (outcome u (Command user number bytes))
+  command_alike event made user number bytes =
+      subst (λ b. OutcomesAlike n event (outcome t (Command user number bytes))
+      (if b then commanded u (line_ruling u (line_caller u user number) (read_line bytes))
+      else refused u [] UnknownUser)) (sym (known_alike n t u a user)) (on (is_known t user)) where
+        on : (b : Bool)
+            → OutcomesAlike n event
+            (if b then commanded t (line_ruling t (line_caller t user number) (read_line bytes))
+            else refused t [] UnknownUser)
+            (if b then commanded u (line_ruling u (line_caller u user number) (read_line bytes))
+            else refused u [] UnknownUser)
+        on true = line_alike event made (line_caller t user number) (line_caller u user number) (record {
+          user = refl;
+          client = refl;
+          window = given_number_both n t.windows u.windows a.windows number;
+        }) (read_line bytes)
+        on false = refused_alike n t u a event [] [] UnknownUser UnknownUser refl refl
+
+  -- ---- events
+
+  pub outcome_alike : (e : EventValue) → HasSerials t → HasSerials u
+      → OutcomesAlike n e (outcome t e) (outcome u (event_as n e))
+  outcome_alike (Attach user rows columns) left also =
+      let c : Client = new_client t user rows columns in
+      let d : Client = new_client u user rows columns in
+      passed_alike n t u a (Attach user rows columns) (attach_checks t user rows columns)
+      (attach_checks u user rows columns) (reply_of 0 t.next_client 0 None) (reply_of 0 u.next_client 0 None)
+      (attaches t c) (attaches u d) (attach_checks_as user rows columns left.1 also.1)
+      (record { taken = refl; made = next_client_as; number = refl; text = tt })
+      (attaches_alike c d (new_client_alike user rows columns))
+  outcome_alike (Detach client) left also =
+      by_client (Detach client) client _ _ (λ c d r. finished_alike n t u a (Detach client) [] [] said_done said_done _
+      _ refl (done_alike (Detach client) refl)
+      (parts_alike n t u a (λ x. x.serial == client) (λ y. y.serial == n.client client) reason.Detached
+      (λ x y q. client_serials n x y q client)))
+  outcome_alike (Keys client bytes) left also =
+      by_client (Keys client bytes) client _ _ (λ c d r. keys_alike n t u a c d r (Keys client bytes) refl bytes)
+  outcome_alike (Command user number bytes) left also =
+      command_alike (Command user number bytes) refl user number bytes
+  outcome_alike (Resize client rows columns) left also =
+      by_client (Resize client rows columns) client _ _ (λ c d r. passed_alike n t u a (Resize client rows columns)
+      (must (is_client_size rows columns) BadSize ∷ []) (must (is_client_size rows columns) BadSize ∷ []) said_done
+      said_done (changing (with_client t (resized rows columns c))) (changing (with_client u (resized rows columns d)))
+      refl (done_alike (Resize client rows columns) refl) (record {
+        acts = refl;
+        tables = put_client_alike n t u a (resized rows columns c) (resized rows columns d)
+            (resized_alike rows columns c d r);
+        effects = tt;
+        kept = refl;
+        kept_too = refl;
+      }))
+  outcome_alike (Open user rows columns keep title) left also =
+      let w : Window = new_window t rows columns keep title in
+      let v : Window = new_window u rows columns keep title in
+      passed_alike n t u a (Open user rows columns keep title) (open_checks t user rows columns keep title)
+      (open_checks u user rows columns keep title) (reply_of 0 w.serial w.number None)
+      (reply_of 0 v.serial v.number None) (opens t user w) (opens u user v)
+      (open_checks_as user rows columns keep title left.0 also.0)
+      (record {
+        taken = refl;
+        made = next_window_as;
+        number = (new_window_alike rows columns keep title).number;
+        text = tt;
+      })
+      (opens_alike user w v (new_window_alike rows columns keep title))
+  outcome_alike (Output window bytes) left also =
+      by_window (Output window bytes) window _ _ (λ w v r. finished_alike n t u a (Output window bytes) [] [] said_done
+      said_done _ _ refl (done_alike (Output window bytes) refl) (outputs_alike w v r bytes))
+  outcome_alike (Closed window) left also =
+      by_window (Closed window) window _ _ (λ w v r. finished_alike n t u a (Closed window) [] [] said_done said_done _
+      _ refl (done_alike (Closed window) refl)
+      (closes_alike n t u a (λ x. x.serial == window) (λ y. y.serial == n.window window) reason.Detached
+      (λ x y q. window_serials n x y q window)))
+  outcome_alike (Draw client) left also =
+      by_client (Draw client) client _ _ (λ c d r. finished_alike n t u a (Draw client) [] [] said_done said_done
+      (changing t) (changing u) refl (done_alike (Draw client) refl)
+      (record { acts = refl; tables = a; effects = tt; kept = refl; kept_too = refl }))

@@ -1,0 +1,127 @@
+-- What sessions that are alike answer of rights, windows and clients.
+use Rattle.std.proofs.Common.{◌≡◌, ℕ, zero, suc, not, List, [], ◌∷◌, Option, Some, None, refl, ap, sym}
+use Rattle.std.proofs.Common.{◌∙◌, subst, map, filter}
+use Rattle.std.specs.Prelude.{◌==◌, ◌&&◌, slice_get}
+use Rattle.std.specs.Option.{option_and_then, option_map, option_map_or}
+use Rattle.acl.specs.declared.act.Object.{Object}
+use Rattle.acl.specs.declared.bits.Bit.{Bit}
+use Rattle.acl.specs.declared.edition.Edition.{Edition}
+use Rattle.acl.specs.declared.user_id.UserId.{UserId}
+use Rattle.acl.specs.History.{is_known as is_known_after, leaders_of, may, users_of}
+use Rattle.acl.specs.Same.{same_user}
+use Rattle.regions.specs.declared.shown.Shown.{Shown}
+use Rattle.regions.specs.Layouts.{Arrangement}
+use Rattle.writelock.specs.Holding.{holder}
+use Rattle.windows_model.specs.Matched.{BothOrNone, Matched}
+use Rattle.session_model.specs.Denials.{number_of}
+use Rattle.session_model.specs.Rights.{holder_in, leaders_in, may_in}
+use Rattle.session_model.specs.Tables.{Client, Tables, Window, client_at, focused, focused_window, is_in_focus}
+use Rattle.session_model.specs.Tables.{is_known}
+use Rattle.session_model.specs.Tables.{is_window, known_users, others, shows, window_at}
+use Rattle.session_alike.specs.Renaming.{Renaming, layout_as, object_as, shown_as}
+use Rattle.session_alike.specs.Alike.{ClientsAlike, TablesAlike, WindowsAlike}
+use Rattle.session_alike.proofs.Histories.{client_test, may_as, window_test}
+use Rattle.session_alike.proofs.Matching.{any_both, row_both, then_both}
+
+get_as : {A B : Type 0} (f : A → B) (xs : List A) (i : ℕ) → slice_get (map f xs) i ≡ option_map f (slice_get xs i)
+get_as f [] zero = refl
+get_as f [] (suc i) = refl
+get_as f (x ∷ xs) zero = refl
+get_as f (x ∷ xs) (suc i) = get_as f xs i
+
+module _ (n : Renaming) where
+  pub is_window_as : (w : ℕ) (o : Option ℕ) → is_window (n.window w) (option_map n.window o) ≡ is_window w o
+  is_window_as w None = refl
+  is_window_as w (Some v) = window_test n v w
+
+  pub window_serials : (w v : Window) → WindowsAlike n w v → (s : ℕ) → (v.serial == n.window s) ≡ (w.serial == s)
+  window_serials w v r s = ap (λ x. x == n.window s) r.serial ∙ window_test n w.serial s
+
+  pub client_serials : (c d : Client) → ClientsAlike n c d → (s : ℕ) → (d.serial == n.client s) ≡ (c.serial == s)
+  client_serials c d r s = ap (λ x. x == n.client s) r.serial ∙ client_test n c.serial s
+
+  -- ---- the window in focus
+
+  pub get_shown_as : (l : Arrangement) (i : ℕ)
+      → slice_get (map (shown_as n) l.shown) i ≡ option_map (shown_as n) (slice_get l.shown i)
+  get_shown_as l i = get_as (shown_as n) l.shown i
+
+  window_shown : (o : Option Shown)
+      → option_and_then (λ (s : Shown). s.window) (option_map (shown_as n) o) ≡ option_map n.window
+      (option_and_then (λ (s : Shown). s.window) o)
+  window_shown None = refl
+  window_shown (Some s) = refl
+
+  pub focused_as : (c d : Client) → d.layout ≡ layout_as n c.layout → focused d ≡ option_map n.window (focused c)
+  focused_as c d is =
+      ap (λ (l : Arrangement). option_and_then (λ (s : Shown). s.window) (slice_get l.shown l.focus)) is
+      ∙ ap (option_and_then (λ (s : Shown). s.window)) (get_shown_as c.layout c.layout.focus)
+      ∙ window_shown (slice_get c.layout.shown c.layout.focus)
+
+  shows_as : (user : UserId) (w : ℕ) (c d : Client) → ClientsAlike n c d → shows user (n.window w) d ≡ shows user w c
+  shows_as user w c d r =
+      ap (λ (v : UserId). same_user v user && is_window (n.window w) (focused d)) r.user
+      ∙ ap (λ b. same_user c.user user && b)
+      (ap (is_window (n.window w)) (focused_as c d r.layout) ∙ is_window_as w (focused c))
+
+  pub in_focus_as : (cs ds : List Client) → Matched (ClientsAlike n) cs ds → (user : UserId) (w : ℕ)
+      → is_in_focus ds user (n.window w) ≡ is_in_focus cs user w
+  in_focus_as cs ds m user w =
+      any_both (ClientsAlike n) (shows user w) (shows user (n.window w)) (shows_as user w) cs ds m
+
+  -- ---- tables
+  module _ (t u : Tables) (a : TablesAlike n t u) where
+    pub may_alike : (v : UserId) (bit : Bit) (o : Object) → may_in u v bit (object_as n o) ≡ may_in t v bit o
+    may_alike v bit o =
+        ap (λ (e : Edition). may e u.owner u.acts v bit (object_as n o)) a.edition
+        ∙ ap (λ (x : UserId). may t.edition x u.acts v bit (object_as n o)) a.owner
+        ∙ may_as n t.edition t.owner t.acts u.acts a.acts v bit o
+
+    pub holder_alike : (w : ℕ) → holder_in u (n.window w) ≡ holder_in t w
+    holder_alike w =
+        ap (λ (e : Edition). holder e u.owner u.acts (n.window w)) a.edition
+        ∙ ap (λ (x : UserId). holder t.edition x u.acts (n.window w)) a.owner ∙ a.acts.holders w
+
+    pub leaders_alike : (v : UserId) → leaders_in u v ≡ leaders_in t v
+    leaders_alike v = ap (λ (e : Edition). leaders_of e u.acts v) a.edition ∙ a.acts.leaders v
+
+    pub users_alike : known_users u ≡ known_users t
+    users_alike = ap (λ (x : UserId). users_of x u.acts) a.owner ∙ a.acts.users
+
+    pub known_alike : (v : UserId) → is_known u v ≡ is_known t v
+    known_alike v = ap (λ (x : UserId). is_known_after x u.acts v) a.owner ∙ a.acts.known v
+
+    pub others_alike : others u ≡ others t
+    others_alike =
+        ap (λ (x : UserId). filter (λ v. not (same_user x v)) (known_users u)) a.owner
+        ∙ ap (filter (λ v. not (same_user t.owner v))) users_alike
+
+    pub window_alike : (s : ℕ) → BothOrNone (WindowsAlike n) (window_at t s) (window_at u (n.window s))
+    window_alike s =
+        row_both (WindowsAlike n) (λ (w : Window). w.serial) (λ (w : Window). w.serial) s (n.window s)
+        (λ w v r. window_serials w v r s) t.windows u.windows a.windows
+
+    pub client_alike : (s : ℕ) → BothOrNone (ClientsAlike n) (client_at t s) (client_at u (n.client s))
+    client_alike s =
+        row_both (ClientsAlike n) (λ (c : Client). c.serial) (λ (c : Client). c.serial) s (n.client s)
+        (λ c d r. client_serials c d r s) t.clients u.clients a.clients
+
+    pub window_in : (o : Option ℕ)
+        → BothOrNone (WindowsAlike n) (option_and_then (window_at t) o)
+        (option_and_then (window_at u) (option_map n.window o))
+    window_in o = then_both (WindowsAlike n) (window_at t) (window_at u) n.window o window_alike
+
+    pub focus_alike : (c d : Client) → ClientsAlike n c d
+        → BothOrNone (WindowsAlike n) (focused_window t c) (focused_window u d)
+    focus_alike c d r =
+        subst (λ o. BothOrNone (WindowsAlike n) (focused_window t c) (option_and_then (window_at u) o))
+        (sym (focused_as c d r.layout)) (window_in (focused c))
+
+    number_one : (o p : Option Window) → BothOrNone (WindowsAlike n) o p
+        → option_map_or (λ (w : Window). w.number) p 0 ≡ option_map_or (λ (w : Window). w.number) o 0
+    number_one None None m = refl
+    number_one (Some w) (Some v) m = m.number
+    number_one o p m = absurd m
+
+    pub number_alike : (s : ℕ) → number_of u (n.window s) ≡ number_of t s
+    number_alike s = number_one (window_at t s) (window_at u (n.window s)) (window_alike s)

@@ -1,0 +1,106 @@
+-- Texts of sessions that are alike say the same, but for the serials of clients.
+use Rattle.std.proofs.Common.{◌≡◌, ℕ, Bool, List, [], ◌∷◌, ◌++◌, Option, Some, None, refl, ap, ◌∙◌, map}
+use Rattle.std.specs.Prelude.{if◌then◌else◌, codes, decimal}
+use Rattle.std.specs.Option.{option_map}
+use Rattle.acl.specs.Names.{name_of}
+use Rattle.acl.specs.declared.act.Object.TheVariants as object
+use Rattle.acl.specs.declared.bits.Bit.TheVariants.{Read}
+use Rattle.acl.specs.declared.user_id.UserId.{UserId}
+use Rattle.windows_model.specs.Matched.{BothOrNone}
+use Rattle.session_model.specs.declared.refusal.Denied.{Denied}
+use Rattle.session_model.specs.declared.refusal.Denied.TheVariants as denied
+use Rattle.session_model.specs.declared.refusal.Refusal.{Refusal}
+use Rattle.session_model.specs.declared.refusal.Refusal.TheVariants as refusal
+use Rattle.session_model.specs.Rights.{may_in}
+use Rattle.session_model.specs.Tables.{Client, Tables, Window, focused, is_window, window_at}
+use Rattle.session_model.specs.Texts.{client_item, clients_text, denied_text, focus_text, in_order, letter}
+use Rattle.session_model.specs.Texts.{missing_text, number_text, separated, text_of, window_item, windows_text}
+use Rattle.session_alike.specs.Renaming.{Renaming, denied_as, refusal_as}
+use Rattle.session_alike.specs.Alike.{ClientsAlike, ListsAlike, TablesAlike, WindowsAlike, item_as, line_of}
+use Rattle.session_alike.proofs.Finding.{focused_as, is_window_as, may_alike, window_alike}
+use Rattle.session_alike.proofs.Matching.{made_both, read_both}
+use Rattle.session_alike.proofs.Naming.{order_both}
+
+abbrev window_line : ℕ → Bool → Bool → List ℕ → List ℕ
+window_line number is_focus is_read title =
+    decimal number ++ ((if is_focus then codes "* " else codes " ") ++ (if is_read then title else codes "?"))
+
+abbrev rest_of : Tables → Client → List ℕ
+rest_of t c = name_of c.user ++ (codes " " ++ focus_text t (focused c))
+
+abbrev item_of : Tables → Client → ℕ × List ℕ
+item_of t c = (c.serial, rest_of t c)
+
+map_twice : {A B C : Type 0} (f : A → B) (g : B → C) (xs : List A) → map (λ x. g (f x)) xs ≡ map g (map f xs)
+map_twice f g [] = refl
+map_twice f g (x ∷ xs) = ap (λ ys. g (f x) ∷ ys) (map_twice f g xs)
+
+module _ (n : Renaming) where
+  -- ---- refusals
+
+  denied_same : (d : Denied) → denied_text (denied_as n d) ≡ denied_text d
+  denied_same (denied.Window w number) = refl
+  denied_same (denied.Command c) = refl
+
+  pub text_same : (r : Refusal) → text_of (refusal_as n r) ≡ text_of r
+  text_same (refusal.EntryDenied d) =
+      ap (λ x. codes "denied: " ++ (letter d.bit ++ (codes " on " ++ (x
+      ++ (codes ": entry " ++ (missing_text d.user d.bit ++ Rattle.std.specs.List.flat_map
+      (Rattle.session_model.specs.Texts.leader_text d.bit) d.leaders)))))) (denied_same d.on)
+  text_same (refusal.LockDenied d) = refl
+  text_same _ = refl
+
+  module _ (t u : Tables) (a : TablesAlike n t u) where
+    -- ---- windows
+
+    line_alike : (user : UserId) (focus : Option ℕ) (w v : Window) → WindowsAlike n w v
+        → window_item u user (option_map n.window focus) v ≡ window_item t user focus w
+    line_alike user focus w v r =
+        ap (λ m. window_line m (is_window v.serial (option_map n.window focus))
+        (may_in u user Read (object.Window v.serial)) v.title) r.number
+        ∙ ap (λ s. window_line w.number (is_window s (option_map n.window focus))
+        (may_in u user Read (object.Window s)) v.title) r.serial
+        ∙ ap (λ b. window_line w.number b (may_in u user Read (object.Window (n.window w.serial))) v.title)
+        (is_window_as n w.serial focus)
+        ∙ ap (λ b. window_line w.number (is_window w.serial focus) b v.title)
+        (may_alike n t u a user Read (object.Window w.serial))
+        ∙ ap (window_line w.number (is_window w.serial focus) (may_in t user Read (object.Window w.serial))) r.title
+
+    pub windows_text_alike : (user : UserId) (focus : Option ℕ)
+        → windows_text u user (option_map n.window focus) ≡ windows_text t user focus
+    windows_text_alike user focus =
+        ap (separated (codes "  "))
+        (read_both (WindowsAlike n) (window_item t user focus) (window_item u user (option_map n.window focus))
+        (in_order t.windows) (in_order u.windows) (line_alike user focus)
+        (order_both n t.windows u.windows a.windows))
+
+    -- ---- clients
+
+    number_text_one : (o p : Option Window) → BothOrNone (WindowsAlike n) o p → number_text p ≡ number_text o
+    number_text_one None None m = refl
+    number_text_one (Some w) (Some v) m = ap decimal m.number
+    number_text_one o p m = absurd m
+
+    focus_text_alike : (o : Option ℕ) → focus_text u (option_map n.window o) ≡ focus_text t o
+    focus_text_alike None = refl
+    focus_text_alike (Some s) = number_text_one (window_at t s) (window_at u (n.window s)) (window_alike n t u a s)
+
+    client_line : (c d : Client) → ClientsAlike n c d → client_item u d ≡ line_of (item_as n (item_of t c))
+    client_line c d r =
+        ap (λ s. decimal s ++ (codes " " ++ rest_of u d)) r.serial
+        ∙ ap (λ (v : UserId). decimal (n.client c.serial)
+        ++ (codes " " ++ (name_of v ++ (codes " " ++ focus_text u (focused d))))) r.user
+        ∙ ap (λ o. decimal (n.client c.serial) ++ (codes " " ++ (name_of c.user ++ (codes " " ++ focus_text u o))))
+        (focused_as n c d r.layout)
+        ∙ ap (λ text. decimal (n.client c.serial) ++ (codes " " ++ (name_of c.user ++ (codes " " ++ text))))
+        (focus_text_alike (focused c))
+
+    pub clients_text_alike : ListsAlike n (clients_text t) (clients_text u)
+    clients_text_alike = record {
+      items = map (item_of t) t.clients;
+      this = ap (separated (codes "  ")) (map_twice (item_of t) line_of t.clients);
+      other = ap (separated (codes "  "))
+          (made_both (ClientsAlike n) (λ item. line_of (item_as n item)) (item_of t) (client_item u) t.clients
+          u.clients client_line a.clients
+          ∙ map_twice (item_as n) line_of (map (item_of t) t.clients));
+    }

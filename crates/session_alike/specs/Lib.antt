@@ -1,0 +1,4 @@
+pub mod Renaming
+pub mod Histories
+pub mod Alike
+pub mod Steps
