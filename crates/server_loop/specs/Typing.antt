@@ -12,7 +12,7 @@ use Rattle.server_sending.specs.Written.{Waiting}
 use Rattle.server_steps.specs.Settling.{Tried, is_refused, progress_of, settled}
 use Rattle.server_steps.specs.Typing.{GathersAt, answered, freed_keys, held_keys, idle_at, is_all, is_news_at}
 use Rattle.server_steps.specs.Typing.{size_at, sized, strayed, target_at, told_news, typed_at, unless_more}
-use Rattle.server_steps.specs.Typing.{user_at, with_typed}
+use Rattle.server_steps.specs.Typing.{user_at, wants_size, with_typed}
 use Rattle.server_steps.specs.declared.progress.Progress.{Progress}
 use Rattle.server_steps.specs.declared.progress.Progress.TheVariants as made
 use Rattle.server_steps.specs.declared.typing.Gathered.{Gathered}
@@ -102,13 +102,18 @@ module _ {S J : Type 0} (submits : J → EventValue → Answer → J → Type 0)
 module _ {S J : Type 0} (submits : J → EventValue → Answer → J → Type 0) (takes : J → List Sent → Bool → J → Type 0)
     (finds_full : J → ℕ → Bool → Type 0) (lets_type : J → UserId → ℕ → Bool → Type 0)
   where
-    -- the keys that wait have to wait on, or a step of them was made
-    abbrev pub JudgesOrWaits : ℕ → ℕ → State S J → Progress → State S J → Type 0
-    JudgesOrWaits key client old progress new = (waits : Bool) × (mid : State S J)
+    -- the keys that wait have to wait on for their window, or a step of them was made
+    abbrev pub JudgesUnlessFull : ℕ → ℕ → State S J → Progress → State S J → Type 0
+    JudgesUnlessFull key client old progress new = (waits : Bool) × (mid : State S J)
         × MustWait finds_full lets_type key old waits mid
         × IfBool waits ((progress ≡ made.Held) × (new ≡ mid))
         ((judged : State S J) × Judges submits takes key client mid progress judged
         × (new ≡ record judged { connections = strayed progress key judged.connections }))
+
+    -- or they wait for a size that waits
+    abbrev pub JudgesOrWaits : ℕ → ℕ → State S J → Progress → State S J → Type 0
+    JudgesOrWaits key client old progress new = IfBool (wants_size (peer_at key old))
+        ((progress ≡ made.Held) × (new ≡ old)) (JudgesUnlessFull key client old progress new)
 
     -- a size and dropped keys were told, and if keys wait, a step of them was made or they wait on
     abbrev pub TypesOn : ℕ → ℕ → ℕ → Bool → State S J → Option Progress → State S J → Type 0

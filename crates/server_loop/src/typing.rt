@@ -10,6 +10,7 @@ use server_connections::{Sending, SessionSeat};
 use server_steps::{
     Gate, Gathered, Progress, Target, answer_keys, free_keys, free_strayed, gather, has_keys,
     hold_keys, idle_at, is_refused, next_size, take_keys, take_news, target_at, user_at,
+    wants_size,
 };
 use server_users::Shown;
 use session::Event;
@@ -116,12 +117,15 @@ impl<S: Read + Write + Drop, G: Gate + Drop, J: SessionSeat + Drop> Loop<S, G, J
         is_full
     }
 
-    // Does a step of the keys that wait, unless they have to wait on. Keys that were held and can't be done
-    // are as old as they are if it isn't known where they go.
+    // Does a step of the keys that wait, unless they have to wait on: for a size that was told before them, or for
+    // their window. Keys that were held and can't be done are as old as they are if it isn't known where they go.
     fn judge_or_wait(&mut self, rt: &impl Wait, key: usize, client: u32) -> Progress
         ensures { JudgesOrWaits J.submits J.takes J.finds_full J.lets_type key client
             (state_of self.old) result (state_of self.new) }
     {
+        if wants_size(&self.connections, key) {
+            return Progress::Held;
+        }
         if self.must_wait(rt, key) {
             return Progress::Held;
         }

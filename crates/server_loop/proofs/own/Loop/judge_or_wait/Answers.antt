@@ -1,16 +1,29 @@
-use Rattle.std.proofs.Common.{◌≡◌, true, false, refl, ap, rules}
+use Rattle.std.proofs.Common.{◌≡◌, ◌∙◌, true, false, refl, ap, sym, rules}
 use Rattle.server_connections.specs.declared.connections.Connections.{Connections}
-use Rattle.server_steps.specs.Typing.{strayed}
+use Rattle.server_steps.specs.Typing.{strayed, wants_size}
 use Rattle.server_steps.specs.declared.progress.Progress.TheVariants as made
-use Rattle.server_loop.specs.Submitting.{State, state_of}
-use Rattle.server_loop.specs.Typing.{Judges}
+use Rattle.server_loop.specs.Submitting.{State, peer_at, state_of}
+use Rattle.server_loop.specs.Typing.{Judges, JudgesUnlessFull}
 use Rattle.server_loop.proofs.Telling.{if_false, if_true}
 use Rattle.server_loop.proofs.own.Loop.judge_or_wait.Goals as goal
 
+pub returns-then-wants_size : goal.returns-then-wants_size
+returns-then-wants_size g c =
+    let yes : c.wants_size.result ≡ true = search rules in
+    let old : State g.row.S.Denot g.row.J.Denot = state_of c.args.self.now in
+    if_true (wants_size (peer_at c.args.key old)) ((made.Held ≡ made.Held) × (old ≡ old))
+    (JudgesUnlessFull g.J.SessionSeat.submits g.J.SessionSeat.takes g.J.SessionSeat.finds_full
+    g.J.SessionSeat.lets_type c.args.key c.args.client old made.Held old) (sym c.wants_size.ensures ∙ yes) (refl, refl)
+
 pub returns-then-must_wait : goal.returns-then-must_wait
 returns-then-must_wait g c =
+    let none : c.wants_size.result ≡ false = search rules in
     let yes : c.must_wait.result ≡ true = search rules in
-    let mid = state_of c.must_wait.new.self in (
+    let old : State g.row.S.Denot g.row.J.Denot = state_of c.args.self.now in
+    let mid : State g.row.S.Denot g.row.J.Denot = state_of c.must_wait.new.self in
+    if_false (wants_size (peer_at c.args.key old)) ((made.Held ≡ made.Held) × (mid ≡ old))
+    (JudgesUnlessFull g.J.SessionSeat.submits g.J.SessionSeat.takes g.J.SessionSeat.finds_full
+    g.J.SessionSeat.lets_type c.args.key c.args.client old made.Held mid) (sym c.wants_size.ensures ∙ none) (
       c.must_wait.result,
       mid,
       c.must_wait.ensures,
@@ -22,10 +35,16 @@ returns-then-must_wait g c =
 
 pub returns : goal.returns
 returns g c =
+    let none : c.wants_size.result ≡ false = search rules in
     let no : c.must_wait.result ≡ false = search rules in
-    let mid = state_of c.must_wait.new.self in
-    let judged = state_of c.judge-progress.new.self in
-    let new : State g.row.S.Denot g.row.J.Denot = record judged { connections = c.free_strayed.new.connections } in (
+    let old : State g.row.S.Denot g.row.J.Denot = state_of c.args.self.now in
+    let mid : State g.row.S.Denot g.row.J.Denot = state_of c.must_wait.new.self in
+    let judged : State g.row.S.Denot g.row.J.Denot = state_of c.judge-progress.new.self in
+    let new : State g.row.S.Denot g.row.J.Denot = record judged { connections = c.free_strayed.new.connections } in
+    if_false (wants_size (peer_at c.args.key old)) ((c.judge-progress.result ≡ made.Held) × (new ≡ old))
+    (JudgesUnlessFull g.J.SessionSeat.submits g.J.SessionSeat.takes g.J.SessionSeat.finds_full
+    g.J.SessionSeat.lets_type c.args.key c.args.client old c.judge-progress.result new)
+    (sym c.wants_size.ensures ∙ none) (
       c.must_wait.result,
       mid,
       c.must_wait.ensures,
