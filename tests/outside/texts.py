@@ -494,7 +494,7 @@ def lesson(play, accounts):
         on.type(pupil, play.real("mux-attach --socket /srv/class/socket\n"))
         on.shows(pupil, "^0 lesson")
     turns(play, accounts)
-    again(play, block[-2:])
+    again(play)
     # A shell for each of them.
     play.run("tess", text.lines[0][0][2:])
     on.keys("ann", "C-a", "n")
@@ -583,19 +583,10 @@ def turns(play, accounts):
     on.shows("ann", r"^(\$ )?still tess")
 
 
-def again(play, opened):
-    """The shell ends, and the block's last two lines open it again: pages stay empty until the next window is shown."""
+def again(play):
+    """The shell ends, and the next one begins in the same window."""
     on = play.on
     on.type("lesson", "exit\n")
-    on.shows("ann", "^--")
-    for line in opened:
-        on.run("tess", line)
-    on.shows("ann", "^--")
-    for pane in ("ann", "lesson"):
-        on.keys(pane, "C-a", "n")
-        on.shows(pane, "^0 lesson")
-    on.type("ann", "x")
-    on.shows("ann", "^denied: w on window 0: entry ann -w")
     on.type("lesson", "echo hers again\n")
     on.shows("ann", r"^(\$ )?hers again")
 
