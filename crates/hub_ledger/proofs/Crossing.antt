@@ -10,7 +10,7 @@ use Rattle.std.proofs.alloc.Global.TheSendSync as global
 use Rattle.session.proofs.Crossing.{session_send}
 use Rattle.hub_peers.proofs.peers.Peers.TheSendSync as peers
 use Rattle.hub_ledger.proofs.waiting.SeatEffects.TheSendSync as waiting
-use Rattle.hub_ledger.proofs.growing_trail.GrowingTrail.TheSendSync as entries
+use Rattle.hub_record.proofs.growing_trail.GrowingTrail.TheSendSync as entries
 use Rattle.hub_ledger.specs.contracts.filed_session.FiledSession as FiledSession
 use Rattle.hub_ledger.specs.contracts.ledger.Ledger as Ledger
 use Rattle.hub_ledger.specs.contracts.ledger.Ledger.TheInside as inside

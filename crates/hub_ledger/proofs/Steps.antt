@@ -22,7 +22,7 @@ use Rattle.hub_trail.specs.Peers.{HasCome, one_more, attaches, opens}
 use Rattle.hub_trail.proofs.Coming.{peers_came}
 use Rattle.hub_trail.proofs.Serials.{gives_serials}
 use Rattle.hub_peers.specs.Peers.{Owners, AreSeats, HasPeer, with_peer, with_peers}
-use Rattle.hub_ledger.specs.Slips.{with_entries, written}
+use Rattle.hub_record.specs.Growing.{with_entries, written}
 use Rattle.hub_ledger.specs.States.{State, Stood, IsKept, IsAfter}
 
 -- ---- peers

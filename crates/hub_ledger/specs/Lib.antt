@@ -1,4 +1,3 @@
-pub mod Slips
 pub mod States
 pub mod Editions
 pub mod Faults

@@ -12,9 +12,8 @@ use Rattle.hub_trail.specs.Trails.{Trail}
 use Rattle.hub_trail.specs.Filing.{filed, trail_of}
 use Rattle.hub_peers.specs.Peers.{Owners, AreSeats, owners_of, with_peers}
 use Rattle.hub_ledger.specs.Routing.{Sent, views, AreRouted, marked, typed_in, typist_of}
-use Rattle.hub_ledger.specs.declared.growing_trail.GrowingTrail.{GrowingTrail}
 use Rattle.hub_ledger.specs.declared.filed_session.FiledSession.{FiledSession}
-use Rattle.hub_ledger.specs.Slips.{with_entries}
+use Rattle.hub_record.specs.Growing.{trail_in, with_entries}
 
 -- the session; its trail; the seats of its peers; and for each seat the effects that wait and its
 -- mark
@@ -24,9 +23,6 @@ pub record State : Type 0 where
   pub owners : Owners
   pub waiting : List (List Sent)
   pub marks : List Bool
-
-abbrev pub trail_in : GrowingTrail → Trail
-trail_in e = record { edition = e.edition; owner = e.owner; entries = e.list.entries }
 
 abbrev pub state_of : FiledSession → State
 state_of d = record {

@@ -10,19 +10,18 @@ ghost use Rattle.hub_ledger.specs.Seats.{AllBelow, AreChecks, IsReceived, Rise, 
 ghost use Rattle.hub_trail.specs.Legal.{asks_for_command};
 ghost use Rattle.std.specs.List.{list_any};
 ghost use Rattle.hub_ledger.specs.Faults.{foreign, full};
-ghost use Rattle.hub_ledger.specs.Slips.{kept_by};
+ghost use Rattle.hub_record.specs.Growing.{kept_by};
 ghost use Rattle.hub_ledger.specs.States.{IsKept, Takes, begun_with, state_of};
 ghost use Rattle.hub_ledger.specs.declared.ledger.answer.HubFault.TheVariants.{TrailFull, Strange};
 ghost use Rattle.hub_ledger.specs.declared.ledger.TheConstants.{FULL};
 
-use crate::growing_trail::{GrowingTrail, Prepared};
 use crate::ledger::{FULL, Foreign, Full, HubFault};
 use crate::seat::are_below;
 use crate::waiting::{SeatEffects, typed_in, typist_of};
 use acl::{Edition, UserId};
 use hub_check::all_pass;
 use hub_peers::Peers;
-use hub_record::{EntryList, KeptReply, Receipts, TrailEntry};
+use hub_record::{EntryList, GrowingTrail, KeptReply, Prepared, Receipts, TrailEntry};
 use hub_trail::asks_for_command;
 use session::{Event, Notes, Refusal, Reply, Session, Verdict};
 use std::alloc::{AllocError, Global};

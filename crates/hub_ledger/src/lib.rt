@@ -5,7 +5,6 @@
 mod begun;
 mod closing;
 mod filed_session;
-mod growing_trail;
 mod ledger;
 mod seat;
 mod waiting;

@@ -1,3 +1,4 @@
 pub mod Stored
 pub mod EntryLists
+pub mod Growing
 pub mod Receipts

@@ -4,6 +4,7 @@
 
 mod entry_list;
 mod equal;
+mod growing_trail;
 mod new_entry;
 mod receipts;
 mod refusals;
@@ -12,6 +13,7 @@ mod search;
 mod trail_entry;
 
 pub use entry_list::EntryList;
+pub use growing_trail::{GrowingTrail, Prepared};
 pub use hub_trail::Kept;
 pub use new_entry::NewEntry;
 pub use receipts::{Receipt, Receipts};

@@ -4,13 +4,12 @@ ghost use Rattle.std.specs.Prelude.{◌≡◌, ◌<◌, [], ℕ, suc, length, sl
 ghost use Rattle.hub_check.specs.declared.fault.CheckFault.TheVariants.{BadEntry};
 ghost use Rattle.hub_trail.specs.Judging.{AreGood, AreJudgeable, IsBadAt, IsIllegalAt};
 ghost use Rattle.hub_trail.specs.Legal.{AreLegal};
-ghost use Rattle.hub_ledger.specs.States.{trail_in};
+ghost use Rattle.hub_record.specs.Growing.{trail_in};
 ghost use Rattle.hub_ledger.specs.Editions.{number_of_edition};
 
-use crate::growing_trail::GrowingTrail;
 use acl::{Edition, UserId};
 use hub_check::{CheckFault, Judge};
-use hub_record::{EntryList, TrailEntry};
+use hub_record::{EntryList, GrowingTrail, TrailEntry};
 use std::alloc::Global;
 use std::marker::Model;
 

@@ -7,12 +7,11 @@ ghost use Rattle.acl.specs.History.{History};
 ghost use Rattle.hub_trail.specs.Judging.{is_on_there};
 
 use crate::begun::Begun;
-use crate::growing_trail::GrowingTrail;
 use crate::ledger::{Ledger, Trail, check_trail};
 use crate::waiting::SeatEffects;
 use acl::UserId;
 use hub_check::CheckFault;
-use hub_record::{EntryList, KeptReply, NewEntry, TrailEntry};
+use hub_record::{EntryList, GrowingTrail, KeptReply, NewEntry, TrailEntry};
 use session::{Done, Refusal, Session, Verdict, read_event};
 use std::alloc::Global;
 use std::marker::Brand;

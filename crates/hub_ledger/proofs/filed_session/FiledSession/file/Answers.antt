@@ -4,7 +4,7 @@ use Rattle.hub_trail.specs.Trails.{Ending}
 use Rattle.hub_trail.specs.Filing.{kept_of}
 use Rattle.hub_record.specs.Receipts.{Receipt}
 use Rattle.hub_ledger.specs.Seats.{IsReceived}
-use Rattle.hub_ledger.specs.Slips.{kept_by}
+use Rattle.hub_record.specs.Growing.{kept_by}
 use Rattle.hub_ledger.proofs.filed_session.FiledSession.file.Goals as goal
 
 pub returns-clause-told : goal.returns-clause-told

@@ -8,8 +8,8 @@ use Rattle.session.specs.Stands.{entry_of, wants_memory}
 use Rattle.hub_trail.specs.Filing.{kept_of}
 use Rattle.hub_peers.specs.Peers.{HasPeer, Owners, owners_of, with_peers}
 use Rattle.hub_ledger.specs.Routing.{Sent, views, marked, typed_in, AreRouted}
-use Rattle.hub_ledger.specs.Slips.{with_entries, written}
-use Rattle.hub_ledger.specs.States.{state_of, trail_in}
+use Rattle.hub_record.specs.Growing.{trail_in, with_entries, written}
+use Rattle.hub_ledger.specs.States.{state_of}
 use Rattle.hub_ledger.proofs.Steps.{few, peers_there, made_by, filed_is, kept_after}
 use Rattle.hub_ledger.proofs.filed_session.FiledSession.take_step.Goals as goal
 

@@ -4,11 +4,13 @@ ghost use Rattle.std.specs.Prelude.{◌≡◌, ◌<◌, IfOk, OnOk, length};
 ghost use Rattle.session.specs.Trace.{happening};
 ghost use Rattle.hub_trail.specs.Filing.{kept_of};
 ghost use Rattle.hub_record.specs.EntryLists.{HasRoom};
-ghost use Rattle.hub_ledger.specs.Slips.{kept_by, with_entries, written};
-ghost use Rattle.hub_ledger.specs.States.{trail_in};
+ghost use Rattle.hub_record.specs.Growing.{kept_by, trail_in, with_entries, written};
 
+use crate::entry_list::EntryList;
+use crate::new_entry::NewEntry;
+use crate::reply::KeptReply;
 use acl::{Edition, UserId};
-use hub_record::{EntryList, Kept, KeptReply, NewEntry};
+use hub_trail::Kept;
 use session::{Event, Notes, Refusal, Reply};
 use std::alloc::{AllocError, Global};
 
