@@ -5,8 +5,8 @@ use Rattle.std.specs.List.{list_all}
 use Rattle.attach_proto.specs.declared.message.Message.TheVariants.{Attach}
 use Rattle.attach_proto.specs.Spelling.{IsSpellable}
 use Rattle.attach_proto.specs.Texts.{token_of, is_token, is_digit, IsToken, IsText}
-use Rattle.web_page.specs.declared.fault.ClientFault.{ClientFault}
-use Rattle.web_page.specs.declared.fault.ClientFault.TheVariants as client
+use Rattle.web_page.specs.declared.display.ClientFault.{ClientFault}
+use Rattle.web_page.specs.declared.display.ClientFault.TheVariants as client
 use Rattle.web_client.specs.Judging.{FailsFor, IsJudged, fault_of}
 
 pub weaker : (P Q : Type 0) (e : ClientFault) → (Q → P) → FailsFor P e → FailsFor Q e

@@ -5,8 +5,8 @@ use Rattle.web_page.specs.declared.sheet.SheetFault.{SheetFault}
 use Rattle.web_page.specs.declared.sheet.SheetFault.TheVariants as sheet
 use Rattle.web_client.specs.declared.wire.WireFault.{WireFault}
 use Rattle.web_client.specs.declared.wire.WireFault.TheVariants as end
-use Rattle.web_page.specs.declared.fault.ClientFault.{ClientFault}
-use Rattle.web_page.specs.declared.fault.ClientFault.TheVariants as client
+use Rattle.web_page.specs.declared.display.ClientFault.{ClientFault}
+use Rattle.web_page.specs.declared.display.ClientFault.TheVariants as client
 use Rattle.web_client.specs.declared.identity.Identity.{Identity}
 use Rattle.web_client.specs.declared.identity.Identity.TheVariants.{Nobody, Own, Watching, Link, Unknown, Left}
 use Rattle.web_client.specs.declared.identity.MessageFault.{MessageFault}

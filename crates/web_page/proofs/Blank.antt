@@ -3,7 +3,7 @@ use Rattle.std.proofs.Common.{◌≡◌, ℕ, List, sym, ap, ◌∙◌}
 use Rattle.terminal_model.specs.Screen.{Screen, starting}
 use Rattle.terminal_model.specs.Reading.{Terminal, ready}
 use Rattle.emulator.specs.Standing.{Parts, StandsFor}
-use Rattle.web_page.specs.declared.head.Head.{Head}
+use Rattle.web_page.specs.declared.sheet.Head.{Head}
 use Rattle.web_page.specs.Updates.{head_of}
 use Rattle.web_page.specs.Showing.{Kept, Sheet, IsBlank}
 

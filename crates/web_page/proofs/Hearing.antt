@@ -8,8 +8,8 @@ use Rattle.attach_proto.specs.declared.message.Message.{Message}
 use Rattle.attach_proto.specs.Streams.{Reading, HasRead, TakesPiece}
 use Rattle.terminal_model.specs.Reading.{Terminal}
 use Rattle.web_page.specs.Showing.{Sheet}
-use Rattle.web_page.specs.declared.fault.ClientFault.{ClientFault}
-use Rattle.web_page.specs.declared.fault.ClientFault.TheVariants as client
+use Rattle.web_page.specs.declared.display.ClientFault.{ClientFault}
+use Rattle.web_page.specs.declared.display.ClientFault.TheVariants as client
 use Rattle.emulator.specs.Standing.{StandsFor}
 use Rattle.attach_proto.specs.declared.told.Told.{Told}
 use Rattle.attach_proto.specs.Table.{noted}

@@ -5,7 +5,7 @@ use Rattle.std.proofs.lemmas.List.{length-map}
 use Rattle.terminal_model.specs.Screen.{Page}
 use Rattle.terminal_model.specs.Reading.{Terminal}
 use Rattle.emulator.specs.Standing.{Parts, StandsFor}
-use Rattle.web_page.specs.declared.head.Head.{Head}
+use Rattle.web_page.specs.declared.sheet.Head.{Head}
 use Rattle.web_page.specs.Runs.{Run, runs}
 use Rattle.web_page.specs.Updates.{head_of}
 use Rattle.web_page.specs.Laying.{Shown, laid, page_of}

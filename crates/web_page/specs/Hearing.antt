@@ -12,8 +12,8 @@ use Rattle.terminal_model.specs.Writing.{Size}
 use Rattle.emulator.specs.Standing.{StandsFor, TakesWriting}
 use Rattle.web_page.specs.Showing.{Sheet, AreAsFar}
 use Rattle.web_page.specs.Showing.{IsBlank as IsBlankSheet}
-use Rattle.web_page.specs.declared.fault.ClientFault.{ClientFault}
-use Rattle.web_page.specs.declared.fault.ClientFault.TheVariants as client
+use Rattle.web_page.specs.declared.display.ClientFault.{ClientFault}
+use Rattle.web_page.specs.declared.display.ClientFault.TheVariants as client
 
 -- the name that the client gave, what was read of the stream, the page that it draws, and whether
 -- and why the server lets the client in or go

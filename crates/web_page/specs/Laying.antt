@@ -1,7 +1,7 @@
 -- How updates are laid over what a browser shows.
 use Rattle.std.specs.Prelude.{ℕ, zero, suc, List, [], ◌∷◌, take, map}
 use Rattle.terminal_model.specs.Screen.{Screen}
-use Rattle.web_page.specs.declared.head.Head.{Head}
+use Rattle.web_page.specs.declared.sheet.Head.{Head}
 use Rattle.web_page.specs.Runs.{Run, runs}
 use Rattle.web_page.specs.Updates.{Update, head_of}
 

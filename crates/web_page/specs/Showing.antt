@@ -6,7 +6,7 @@ use Rattle.cells.specs.Page.{line_at}
 use Rattle.terminal_model.specs.Screen.{starting}
 use Rattle.terminal_model.specs.Reading.{ready}
 use Rattle.emulator.specs.Standing.{Parts, StandsFor}
-use Rattle.web_page.specs.declared.head.Head.{Head}
+use Rattle.web_page.specs.declared.sheet.Head.{Head}
 use Rattle.web_page.specs.Runs.{Run, runs}
 use Rattle.web_page.specs.Updates.{head_of}
 use Rattle.web_page.specs.Laying.{Shown}

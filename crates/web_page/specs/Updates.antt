@@ -2,7 +2,7 @@
 use Rattle.std.specs.Prelude.{ℕ, List, [], ◌∷◌, ◌++◌, decimal, codes}
 use Rattle.std.specs.List.{flat_map}
 use Rattle.terminal_model.specs.Screen.{Screen}
-use Rattle.web_page.specs.declared.head.Head.{Head}
+use Rattle.web_page.specs.declared.sheet.Head.{Head}
 use Rattle.web_page.specs.Styles.{flag}
 use Rattle.web_page.specs.Runs.{Run, spelled_runs}
 

@@ -12,14 +12,43 @@ ghost use Rattle.web_page.specs.Showing.{IsShown, AreAsFar, newer};
 ghost use Rattle.web_page.specs.Failing.{FailsAt, IsNext};
 ghost use Rattle.web_page.specs.Vacant.{IsVacant};
 ghost use Rattle.web_page.specs.Hearing.{IsBlank, IsResized, drawn, all_drawn, Hears, KeepsSent};
-ghost use Rattle.web_page.specs.Hearing.{all_noted, FailsToHear};
+ghost use Rattle.web_page.specs.Hearing.{all_noted, FailsToHear, heard_fault};
+ghost use Rattle.web_page.specs.declared.display.ClientFault.TheVariants as client;
 ghost use Rattle.attach_proto.specs.Table.{noted};
 
-use crate::fault::ClientFault;
 use crate::sheet::{Sheet, SheetFault};
-use attach_proto::{Message, Reader, Side, Text, Told, Why};
-use std::alloc::Global;
+use attach_proto::{Message, ProtoFault, Reader, Side, Text, Told, Why};
+use std::alloc::{AllocError, Global};
 use std::marker::Model;
+
+/// Why a client ends.
+#[derive(Clone, Copy, Debug, PartialEq, Eq)]
+pub enum ClientFault {
+    /// No frame can say this.
+    Unspellable,
+    NoMemory,
+    /// The server sent something that isn't understood.
+    BadFrame,
+}
+
+impl From<AllocError> for ClientFault {
+    ghost from_gives = { λ _ e. e ≡ client.NoMemory };
+
+    fn from(_error: AllocError) -> ClientFault {
+        ClientFault::NoMemory
+    }
+}
+
+impl From<ProtoFault> for ClientFault {
+    ghost from_gives = { λ fault e. e ≡ heard_fault fault };
+
+    fn from(fault: ProtoFault) -> ClientFault {
+        match fault {
+            ProtoFault::NoMemory => ClientFault::NoMemory,
+            _ => ClientFault::BadFrame,
+        }
+    }
+}
 
 /// What the server has told a client.
 pub struct WebDisplay {

@@ -2,23 +2,22 @@
 
 ghost use Rattle.std.specs.Prelude.{◌≡◌, ◌⊎◌, ◌≤◌, ℕ, OnOk, OnErr, ◌↔◌};
 ghost use Rattle.std.specs.Prelude.{IsTrue, IfOk, IfErr, IfSome, MatchOption, length, Err, false};
+ghost use Rattle.std.specs.List.{list_all};
 ghost use Rattle.std.specs.String.{string_bytes};
 ghost use Rattle.cells.specs.Page.{IsGridSize};
 ghost use Rattle.terminal_model.specs.Reading.{Terminal, reads};
 ghost use Rattle.terminal_model.specs.Writing.{Size};
 ghost use Rattle.emulator.specs.Standing.{StandsFor, TakesWriting};
-ghost use Rattle.web_page.specs.Updates.{Update, spelled};
+ghost use Rattle.web_page.specs.Updates.{Update, head_of, numbers_of, spelled};
 ghost use Rattle.web_page.specs.Laying.{Shown, laid, page_of};
-ghost use Rattle.web_page.specs.Vacant.{IsVacant};
+ghost use Rattle.web_page.specs.Vacant.{is_blank, is_caption, IsVacant};
 ghost use Rattle.web_page.specs.Showing.{IsBlank, IsShown, AreAsFar, IsLooked, HasLooked, Looks, newer};
 ghost use Rattle.web_page.specs.Failing.{FailsAt, IsNext};
 ghost use Rattle.web_page.specs.declared.sheet.SheetFault.TheVariants as sheet;
 
-use crate::head::Head;
 use crate::line::{put_number, put_numbers};
 use crate::row::{StampedRow, look_at, put_rows};
-use crate::vacant::is_vacant;
-use cells::GridFault;
+use cells::{Cell, GridFault};
 use emulator::{Emulator, Stopped};
 use std::alloc::{AllocError, Global};
 use std::marker::Model;
@@ -39,6 +38,51 @@ impl From<AllocError> for SheetFault {
 
     fn from(_error: AllocError) -> SheetFault {
         SheetFault::NoMemory
+    }
+}
+
+/// The size of a page, its cursor, and the modes that a browser heeds.
+#[derive(Clone, Copy, PartialEq, Eq)]
+pub struct Head {
+    pub rows: usize,
+    pub columns: usize,
+    pub line: usize,
+    pub column: usize,
+    pub shows_cursor: bool,
+    pub is_inverted: bool,
+    pub has_application_arrows: bool,
+}
+
+impl Head {
+    /// The head of an emulator's page.
+    pub fn of(emulator: &Emulator) -> Head
+        ensures { result ≡ head_of emulator.now.screen }
+    {
+        let (line, column) = emulator.cursor();
+        let modes = emulator.modes();
+        Head {
+            rows: emulator.rows(),
+            columns: emulator.columns(),
+            line,
+            column,
+            shows_cursor: modes.shows_cursor,
+            is_inverted: modes.is_inverted,
+            has_application_arrows: modes.has_application_arrows,
+        }
+    }
+
+    /// The numbers of a head after the first one.
+    pub fn numbers(&self) -> [u64; 6]
+        ensures { result ≡ numbers_of self.now }
+    {
+        [
+            self.columns as u64,
+            self.line as u64,
+            self.column as u64,
+            u64::from(self.shows_cursor),
+            u64::from(self.is_inverted),
+            u64::from(self.has_application_arrows),
+        ]
     }
 }
 
@@ -87,6 +131,45 @@ impl Model for Sheet {
 
     ghost invariant = { λ s. (0 < s.moment)
         × (s.is_stale ≡ false → IsLooked s.emulator s.head s.rows.items) };
+}
+
+fn is_blank(cell: &Cell) -> bool
+    ensures { result ≡ is_blank cell.now }
+{
+    cell.character == ' '
+}
+
+fn are_blank(cells: &[Cell]) -> bool
+    ensures { result ≡ list_all is_blank cells.now }
+{
+    cells.iter().all(|cell| is_blank(cell))
+}
+
+/// Whether a row is the caption of a region without a window.
+fn is_caption(cells: &[Cell]) -> bool
+    ensures { result ≡ is_caption cells.now }
+{
+    match cells {
+        [a, b, rest @ ..] => a.character == '-' && b.character == '-' && are_blank(rest),
+        _ => false,
+    }
+}
+
+/// Whether an emulator's page is that of a client that sees no window. Its last row is for messages.
+fn is_vacant(emulator: &Emulator) -> bool
+    ensures { IsTrue result ↔ IsVacant emulator.now.screen.page }
+{
+    let page = emulator.page(0);
+    let count = page.rows();
+    if count < 2 {
+        return false;
+    }
+    for number in 0..count - 2 {
+        if !are_blank(page.line(number)) {
+            return false;
+        }
+    }
+    is_caption(page.line(count - 2))
 }
 
 /// Looks at the rows of a page, all of whose changes have this moment. Returns whether any changed.

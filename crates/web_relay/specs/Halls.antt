@@ -104,7 +104,8 @@ pub record HallWrites (old new : Hall) : Type 0 where
 
 -- What the server sent is heard, in up to 16 reads, and what waits for it written. Nobody counts as its audience yet.
 abbrev pub HallTurns : Hall → Hall → Type 0
-HallTurns old new = (mid : Hall) × Repeats IsHallToHear HallHears 16 (record old { audience = 0 }) mid × HallWrites mid new
+HallTurns old new =
+    (mid : Hall) × Repeats IsHallToHear HallHears 16 (record old { audience = 0 }) mid × HallWrites mid new
 
 -- its connection has something to read, or has room
 abbrev pub heeds : Hall → Hall

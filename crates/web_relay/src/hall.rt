@@ -1,7 +1,8 @@
 //! A page that several watchers share, and its client of the server.
 
 ghost use Rattle.std.specs.Prelude.{◌≡◌, ◌↔◌, IsTrue};
-ghost use Rattle.web_relay.specs.Halls.{Chooses, HallHears, IsOver, IsStuck, IsToChoose, IsHallToHear, HallTurns, noted};
+ghost use Rattle.web_relay.specs.Halls.{Chooses, HallHears, IsOver, IsStuck, IsToChoose, IsHallToHear, HallTurns};
+ghost use Rattle.web_relay.specs.Halls.{noted};
 ghost use Rattle.web_relay.specs.Walking.{Repeats};
 
 use crate::streams::{ReadOutcome, outcome_of};

@@ -3,8 +3,8 @@
 ghost use Rattle.std.specs.Prelude.{◌≡◌, ◌≢◌, ◌⊎◌, ◌<◌, ◌≤◌, ℕ, [], Some, None, IfSome, IsSomeAnd};
 ghost use Rattle.std.specs.String.{string_bytes};
 ghost use Rattle.slab.specs.Slab.{get, slab_len};
-ghost use Rattle.web_relay.specs.Halls.{AtBoth, AtEach, Chooses, Closes, Enters, HallTurns, HasNone, HasSize, IsStandIn};
-ghost use Rattle.web_relay.specs.Halls.{IsBetterOf, IsStuck, IsStuckAt, Opens, OpensBy, Renews, heeds, number_at};
+ghost use Rattle.web_relay.specs.Halls.{AtBoth, AtEach, Chooses, Closes, Enters, HallTurns, HasNone, HasSize};
+ghost use Rattle.web_relay.specs.Halls.{IsBetterOf, IsStandIn, IsStuck, IsStuckAt, Opens, OpensBy, Renews, heeds, number_at};
 ghost use Rattle.web_relay.specs.Places.{changed_at};
 
 use crate::hall::Hall;

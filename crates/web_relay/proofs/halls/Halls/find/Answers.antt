@@ -11,7 +11,8 @@ returns-clause-some c =
     let none : HasNone size list = c.of_size.ensures.none (search rules) in
     let many : 8 ≤ slab_len list = omega arith in
     some_more (IsStandIn size list)
-    (λ (place : ℕ). HasSize size (get list place) ⊎ (HasNone size list × (8 ≤ slab_len list) × IsStandIn size list place))
+    (λ (place : ℕ). HasSize size (get list place)
+    ⊎ (HasNone size list × (8 ≤ slab_len list) × IsStandIn size list place))
     c.stand_in.result (λ place h. inr (none, many, h)) c.stand_in.ensures.some
 
 pub returns-clause-none : goal.returns-clause-none

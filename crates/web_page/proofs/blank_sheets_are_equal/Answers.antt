@@ -1,5 +1,5 @@
 use Rattle.web_page.proofs.Blank.{same-blank}
-use Rattle.web_page.proofs.laws.blank_sheets_are_equal.Goals as goal
+use Rattle.web_page.proofs.blank_sheets_are_equal.Goals as goal
 
 pub returns : goal.returns
 returns c = same-blank
