@@ -1,4 +1,4 @@
-//! The connections of one loop, by their keys.
+//! The connections of one loop, by their keys, and how those that are awake have their turn.
 
 ghost use Rattle.std.specs.Prelude.{◌≡◌, ◌≢◌, ◌↔◌, ◌+◌, ◌<◌, ◌≤◌, ℕ, [], None, false, true, length, min};
 ghost use Rattle.std.specs.Prelude.{IfSome, IsSomeAnd, IsTrue, IfErr, OnOk, OnErr, if◌then◌else◌};
@@ -10,8 +10,9 @@ ghost use Rattle.server_connections.specs.Marked.{IsMarked, IsNext, NoneFrom, wi
 ghost use Rattle.server_connections.specs.Peers.{AwaitsAt, IsAt, IsFirstFrom, IsNewcomer, goes, rests};
 ghost use Rattle.server_connections.specs.Putting.{IsPutAt, PutsFor};
 ghost use Rattle.server_connections.specs.Telling.{told_at, told_if_any};
+ghost use Rattle.server_connections.specs.Walking.{Walks};
 
-use crate::marks::Marks;
+use crate::marked::MarkedKeys;
 use crate::peer::{Awaits, Peer, Role};
 use server_sending::{Sending, put};
 use slab::Slab;
@@ -23,7 +24,7 @@ use std::alloc::{AllocError, Global};
 pub struct Connections<S> {
     pub(crate) alloc: Global,
     peers: Slab<Peer<S>>,
-    awake: Marks,
+    awake: MarkedKeys,
     // How many were taken in.
     number: u64,
     // The key from which a role is looked for: the one after the key that was found last.
@@ -41,7 +42,7 @@ impl<S: Drop> Connections<S> {
         Connections {
             alloc,
             peers: Slab::new(alloc),
-            awake: Marks::new(alloc),
+            awake: MarkedKeys::new(alloc),
             number: 0,
             next: 0,
         }
@@ -255,6 +256,37 @@ impl<S: Drop> Connections<S> {
             let _ = self.peers.try_remove(key);
         } else if peer.is_at_rest() {
             self.awake.unmark(key);
+        }
+    }
+}
+
+/// What holds the connections of a loop.
+pub trait HasConnections<S> {
+    ghost use Rattle.server_connections.specs.declared.connections.Connections.{Connections as Held};
+
+    ghost held: { Self → Held S };
+
+    fn connections(&self) -> &Connections<S>
+        ensures { result.now ≡ held self.now };
+}
+
+/// Visits each connection that is awake once, in the order of the keys. One that a visit wakes is
+/// visited too if its key comes later.
+pub fn each_awake<S: Drop, T: HasConnections<S>, F: Fn(&mut T, usize)>(holder: &mut T, visit: F)
+    requires { F.IsAlwaysCallable visit }
+    ensures { Walks (λ holder. (T.held holder).awake) (F.post visit)
+        (T.held holder.old).peers.capacity 0 (T.held holder.old).peers.capacity
+        holder.old holder.new }
+{
+    let mut from = 0;
+    let end = holder.connections().end();
+    'visits: for _ in 0..end {
+        match holder.connections().next_awake(from) {
+            Some(key) if key < end => {
+                visit(holder, key);
+                from = key + 1;
+            }
+            _ => return,
         }
     }
 }

@@ -4,14 +4,12 @@
 
 mod changing;
 mod connections;
-mod fullness;
-mod marks;
-mod overdue;
+mod limits;
+mod marked;
 mod peer;
 mod stream;
-mod walk;
 
-pub use connections::Connections;
+pub use connections::{Connections, HasConnections, each_awake};
 pub use peer::{Awaits, Peer, Role, Stage};
 pub use server_inbox::{Asked, PIECE, Size, Sizing, Typeahead};
 pub use server_seat::{
@@ -19,4 +17,3 @@ pub use server_seat::{
 };
 pub use server_sending::{Sending, Turn, put, why_of};
 pub use stream::Arrival;
-pub use walk::{HasConnections, each_awake};

@@ -6,7 +6,7 @@ use Rattle.std.specs.Prelude.{drop}
 use Rattle.attach_proto.specs.Streams.{Reading}
 use Rattle.attach_proto.specs.declared.message.Message.{Message}
 use Rattle.server_typing.specs.Typed.{Typed}
-use Rattle.server_typing.specs.declared.sizing.Sizing.{Sizing}
+use Rattle.server_typing.specs.declared.Sizing.{Sizing}
 use Rattle.server_inbox.specs.Asking.{Gives, IsThrough, IsWhole, Lies, Stands}
 use Rattle.server_inbox.specs.Joining.{IsGathered, JoinAll, Joins, JoinsNext, NextStays}
 use Rattle.server_inbox.specs.declared.inbox.Inbox.{Inbox}

@@ -5,7 +5,7 @@ use Rattle.attach_proto.specs.Streams.{HasRead, Reading}
 use Rattle.attach_proto.specs.declared.message.Message.{Message}
 use Rattle.attach_proto.specs.declared.message.Message.TheVariants as message
 use Rattle.server_typing.specs.Typed.{is_idle}
-use Rattle.server_inbox.specs.declared.asked.Asked.{Asked}
+use Rattle.server_inbox.specs.declared.inbox.Asked.{Asked}
 use Rattle.server_inbox.specs.declared.inbox.Inbox.{Inbox}
 
 -- the printed bytes of a message that aren't done yet

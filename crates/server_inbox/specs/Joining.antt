@@ -7,7 +7,7 @@ use Rattle.server_inbox.specs.Asking.{Gives}
 use Rattle.server_inbox.specs.declared.inbox.Inbox.{Inbox}
 use Rattle.server_typing.specs.Sized.{with_size}
 use Rattle.server_typing.specs.Typed.{Typed, takes, typed_at}
-use Rattle.server_typing.specs.declared.sizing.Sizing.{Sizing}
+use Rattle.server_typing.specs.declared.Sizing.{Sizing}
 
 -- keys are joined to those that wait if they have room or are late, and a size takes the place of the last one
 abbrev pub Joins : ℕ → Message → Typed × Sizing → Typed × Sizing → Type 0

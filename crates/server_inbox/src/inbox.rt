@@ -1,21 +1,67 @@
 //! Messages that were read and aren't done yet.
 
-ghost use Rattle.std.specs.Prelude.{◌≡◌, ◌&&◌, ◌++◌, ◌∷◌, ◌<◌, ℕ, List, [], Some, None, false, true};
-ghost use Rattle.std.specs.Prelude.{IfOk, IfSome, Ok, OnOk, drop, is_some, length, not};
+ghost use Rattle.std.specs.Prelude.{◌≡◌, ◌==◌, ◌&&◌, ◌++◌, ◌∷◌, ◌<◌, ◌+◌, ◌-◌, ◌^◌, ℕ, List, [], Some, None};
+ghost use Rattle.std.specs.Prelude.{IfOk, IfSome, Ok, OnOk, drop, false, is_some, length, min, not, true};
 ghost use Rattle.attach_proto.specs.declared.message.Message.{Message as Told};
 ghost use Rattle.server_inbox.specs.Asking.{Gives, IsThrough, IsWhole, Lies, TakesIn, is_empty, is_taken};
+ghost use Rattle.server_inbox.specs.Asking.{piece_of, rest_of};
 ghost use Rattle.server_inbox.specs.declared.inbox.Inbox.{Inbox as Held};
 ghost use Rattle.server_inbox.specs.Joining.{IsGathered, JoinsNext, NextStays};
 ghost use Rattle.server_typing.specs.Typed.{expired, may_read};
 
-use crate::asked::Asked;
 use attach_proto::{Message, Reader};
 use server_typing::{Sizing, Typeahead};
 use std::alloc::{AllocError, Global};
 
+/// At most this many printed bytes are done by one step.
+pub const PIECE: usize = 8_192;
+
+/// A message, and how many of its printed bytes are done.
+#[derive(Drop)]
+pub struct Asked {
+    pub message: Message,
+    pub done: usize,
+}
+
+impl Asked {
+    // The printed bytes that aren't done yet.
+    fn rest(&self) -> &[u8]
+        ensures { result.now ≡ rest_of self.now.message self.now.done }
+    {
+        match &self.message {
+            Message::Output(bytes) if self.done < bytes.as_slice().len() => {
+                let (_, rest) = bytes.as_slice().split_at(self.done);
+                rest
+            }
+            _ => b"",
+        }
+    }
+
+    /// The printed bytes that the next step does.
+    pub fn piece(&self) -> &[u8]
+        ensures { result.now ≡ piece_of self.now.message self.now.done }
+    {
+        let rest = self.rest();
+        if rest.len() <= PIECE {
+            return rest;
+        }
+        let (piece, _) = rest.split_at(PIECE);
+        piece
+    }
+
+    /// The first of the bytes that weren't done are done. Returns whether all are.
+    pub fn note_done(&mut self, count: usize) -> bool
+        ensures done { self.new ≡ record self.old { done = min (self.old.done + count) (2 ^ 64 - 1) } }
+        ensures all { result ≡ (length (rest_of self.new.message self.new.done) == 0) }
+    {
+        self.done = self.done.saturating_add(count);
+        self.rest().is_empty()
+    }
+}
+
 // This many bytes are looked at together: a message of a short frame takes far more memory than the
 // frame, so only a few are made at a time.
-const PIECE: usize = 512;
+const LOOKED: usize = 512;
 
 // At most this many messages are taken in at a time.
 const GATHERED: usize = 64;
@@ -46,7 +92,7 @@ fn piece_of(rest: &[u8], seen: usize) -> (&[u8], usize)
         return (b"", seen);
     }
     let (_, unseen) = rest.split_at(seen);
-    let count = unseen.len().min(PIECE);
+    let count = unseen.len().min(LOOKED);
     let (piece, _) = unseen.split_at(count);
     (piece, seen + count)
 }
@@ -167,7 +213,7 @@ impl Inbox {
           is_broken = self.new.is_broken;
         } }
     {
-        if bytes.len() <= PIECE {
+        if bytes.len() <= LOOKED {
             self.take_all(reader, bytes);
             return;
         }

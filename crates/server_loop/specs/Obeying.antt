@@ -3,7 +3,7 @@ use Rattle.std.specs.Prelude.{◌≡◌, ◌==◌, ◌-◌, ℕ, Bool, List, Ok,
 use Rattle.session.specs.Trace.{EventValue, Output}
 use Rattle.server_seat.specs.declared.seat.SeatFault.TheVariants as fault
 use Rattle.server_inbox.specs.Asking.{advanced, piece_of, rest_of}
-use Rattle.server_inbox.specs.declared.asked.Asked.{Asked}
+use Rattle.server_inbox.specs.declared.inbox.Asked.{Asked}
 use Rattle.server_loop.specs.Handing.{Faults, Sent}
 use Rattle.server_loop.specs.Leaving.{Detaches}
 use Rattle.server_loop.specs.Submitting.{Answer, State, Submits}

@@ -9,7 +9,7 @@ use Rattle.server_connections.specs.declared.peer.Role.{Role}
 use Rattle.server_connections.specs.declared.peer.Role.TheVariants as role
 use Rattle.server_connections.specs.declared.stream.Arrival.{Arrival}
 use Rattle.server_connections.specs.declared.stream.Arrival.TheVariants as arrived
-use Rattle.server_inbox.specs.declared.asked.Asked.{Asked}
+use Rattle.server_inbox.specs.declared.inbox.Asked.{Asked}
 use Rattle.server_steps.specs.Asking.{AsksAt, ReadsAt, goes_on, has_asked_at, held_after, is_due_at, is_faulty_at}
 use Rattle.server_steps.specs.Asking.{is_window_at, left_over, prints_at, unheld}
 use Rattle.server_steps.specs.Meaning.{meaning_of, role_at}

@@ -16,7 +16,7 @@ use Rattle.server_connections.specs.declared.peer.Role.TheVariants as role
 use Rattle.server_connections.specs.declared.stream.Arrival.{Arrival}
 use Rattle.server_connections.specs.declared.stream.Arrival.TheVariants as arrived
 use Rattle.server_inbox.specs.Asking.{Gives, IsWhole, Stands, is_empty}
-use Rattle.server_inbox.specs.declared.asked.Asked.{Asked}
+use Rattle.server_inbox.specs.declared.inbox.Asked.{Asked}
 use Rattle.server_typing.specs.Typed.{drains}
 use Rattle.server_steps.specs.declared.progress.Progress.{Progress}
 use Rattle.server_steps.specs.declared.progress.Progress.TheVariants as progress

@@ -4,7 +4,6 @@
 
 mod asking;
 mod ending;
-mod gate;
 mod meaning;
 mod progress;
 mod sending;
@@ -19,14 +18,13 @@ pub use asking::{
 pub use ending::{
     count_new, end_after, expire, finish, oldest_new, quit_if, set_look, take_fullness, take_guest,
 };
-pub use gate::{Gate, Open};
 pub use meaning::{
     Meaning, event_of, guest_of, is_extra, kind_of, make_guest, may_judge, meaning_of, news_of,
     quits, role_at, role_of, shown_in,
 };
 pub use progress::{Progress, is_refused, settle, window_after};
 pub use sending::{cut_off, drop_typed, is_laggard, typist_after, wanting, write};
-pub use submitted::{Submitted, entries_of, is_quit, kept_of};
+pub use submitted::{Gate, Open, Submitted, entries_of, is_quit, kept_of};
 pub use turns::{Pending, Reads, Writes, drawn_from, next_from};
 pub use typing::{
     Gathered, Target, answer_keys, free_keys, free_strayed, gather, has_keys, hold_keys, idle_at,

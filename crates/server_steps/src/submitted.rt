@@ -1,4 +1,4 @@
-//! Which steps a loop submitted, and what they cost.
+//! What is called around a step that a loop submits, which steps it submitted, and what they cost.
 
 ghost use Rattle.std.specs.Prelude.{◌≡◌, ◌↔◌, IfOk, IsTrue};
 ghost use Rattle.command_lang.specs.Relation.{Relates};
@@ -9,6 +9,26 @@ ghost use Rattle.server_steps.specs.Submitted.{entries_of, kept_of, noted};
 use command_lang::{Command, FaultKind, parse};
 use session::Event;
 use std::alloc::{AllocError, Global};
+
+/// Is called before and after each event that a loop submits.
+pub trait Gate {
+    /// The gate is the one of the loop of this number.
+    fn stand_at(&mut self, _number: usize) {}
+
+    fn before(&mut self);
+
+    fn after(&mut self);
+}
+
+/// A gate that lets everything pass.
+#[derive(Clone, Copy, Debug)]
+pub struct Open;
+
+impl Gate for Open {
+    fn before(&mut self) {}
+
+    fn after(&mut self) {}
+}
 
 /// Which steps a loop submitted.
 #[derive(Clone, Copy)]

@@ -1,6 +1,6 @@
 -- Sizes of a client's terminal. Times are in milliseconds.
 use Rattle.std.specs.Prelude.{◌+◌, ℕ, Option, Some, None, if◌then◌else◌, is_some, nat_le, min, ◌&&◌}
-use Rattle.server_typing.specs.declared.sizing.Sizing.{Sizing}
+use Rattle.server_typing.specs.declared.Sizing.{Sizing}
 
 abbrev pub no_size : Sizing
 no_size = record { wanted = None; after = 0 }

@@ -1,6 +1,6 @@
 use Rattle.std.proofs.Common.{◌-◌}
 use Rattle.server_connections.specs.Walking.{Walks}
-use Rattle.server_connections.proofs.walk.each_awake.Given as goal
+use Rattle.server_connections.proofs.connections.each_awake.Given as goal
 
 -- whatever the rest of the walk makes of it, the whole walk does
 abbrev pub invariant-visits : goal.invariant-visits

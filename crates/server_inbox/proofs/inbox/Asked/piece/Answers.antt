@@ -1,7 +1,7 @@
 use Rattle.std.proofs.Common.{◌∙◌, List, ℕ, ap, sym}
 use Rattle.std.proofs.lemmas.List.{take_all}
 use Rattle.std.specs.Prelude.{take}
-use Rattle.server_inbox.proofs.asked.Asked.piece.Goals as goal
+use Rattle.server_inbox.proofs.inbox.Asked.piece.Goals as goal
 
 pub returns-then-rest-le-PIECE : goal.returns-then-rest-le-PIECE
 returns-then-rest-le-PIECE c =

@@ -3,7 +3,7 @@ use Rattle.std.specs.Prelude.{slice_set, bit_or, ◌*◌, ◌/◌, ◌%◌}
 use Rattle.std.proofs.Common.{◌^◌}
 use Rattle.server_connections.specs.Marked.{IsSameBut, with_mark}
 use Rattle.server_connections.proofs.Marking.{marked, marked_alone, as_marked}
-use Rattle.server_connections.proofs.marks.Marks.mark.Goals as goal
+use Rattle.server_connections.proofs.marked.MarkedKeys.mark.Goals as goal
 
 pub returns-clause-marked : goal.returns-clause-marked
 returns-clause-marked c room =

@@ -3,9 +3,9 @@ use Rattle.server_connections.specs.Marked.{IsMarked}
 use Rattle.server_connections.specs.Walking.{Walks}
 use Rattle.server_connections.specs.declared.connections.Connections.{Connections}
 use Rattle.server_connections.proofs.Walking.{no_key, past_end, visited_by, with_visit, without_visit}
-use Rattle.server_connections.proofs.walk.each_awake.Goals.{in_default-via-in-Some+else-key-end}
-use Rattle.server_connections.proofs.walk.each_awake.Goals.{in_default-via-in_default}
-use Rattle.server_connections.proofs.walk.each_awake.Goals as goal
+use Rattle.server_connections.proofs.connections.each_awake.Goals.{in_default-via-in-Some+else-key-end}
+use Rattle.server_connections.proofs.connections.each_awake.Goals.{in_default-via-in_default}
+use Rattle.server_connections.proofs.connections.each_awake.Goals as goal
 
 pub returns-in_default : goal.returns-in_default
 returns-in_default g c =

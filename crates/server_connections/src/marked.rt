@@ -1,4 +1,4 @@
-//! Marks of keys.
+//! Keys that are marked.
 
 ghost use Rattle.std.specs.Prelude.{◌≡◌, ◌↔◌, ◌<◌, ◌≤◌, ℕ, None, IfSome, OnOk, length, max, vec_len};
 ghost use Rattle.server_connections.specs.Marked.{HasRoom, IsMarked, IsNext, IsSameBut, NoneFrom};
@@ -11,17 +11,17 @@ use std::marker::Model;
 const BITS: usize = 64;
 
 /// Keys, of which some are marked: a bit for each.
-pub struct Marks {
+pub struct MarkedKeys {
     words: Vec<u64>,
 }
 
-impl Drop for Marks {
+impl Drop for MarkedKeys {
     fn drop(self) {
-        let Marks { words: _ } = self;
+        let MarkedKeys { words: _ } = self;
     }
 }
 
-impl Model for Marks {
+impl Model for MarkedKeys {
     ghost use Rattle.std.specs.Prelude.{◌≤◌, ◌*◌, ◌^◌, ℕ, List, vec_len};
 
     ghost Value = { List ℕ };
@@ -59,12 +59,12 @@ fn grow(words: &mut Vec<u64>, count: usize) -> Result<(), AllocError>
     Ok(())
 }
 
-impl Marks {
+impl MarkedKeys {
     /// No key is marked, and none has room.
-    pub fn new(alloc: Global) -> Marks
+    pub fn new(alloc: Global) -> MarkedKeys
         ensures { (key : ℕ) → ¬ (IsMarked result key) }
     {
-        Marks {
+        MarkedKeys {
             words: Vec::new(alloc),
         }
     }

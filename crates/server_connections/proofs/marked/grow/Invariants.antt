@@ -1,7 +1,7 @@
 use Rattle.std.proofs.Common.{◌≡◌, ◌≤◌, max}
 use Rattle.std.specs.Prelude.{vec_len}
 use Rattle.server_connections.specs.Marked.{HaveSameMarks}
-use Rattle.server_connections.proofs.marks.grow.Given as goal
+use Rattle.server_connections.proofs.marked.grow.Given as goal
 
 abbrev pub invariant-words : goal.invariant-words
 invariant-words l =

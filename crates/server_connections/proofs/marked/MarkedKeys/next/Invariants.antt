@@ -1,6 +1,6 @@
 use Rattle.std.proofs.Common.{◌≤◌, ◌<◌, ◌*◌, ◌+◌}
 use Rattle.server_connections.proofs.Marking.{NoneBetween}
-use Rattle.server_connections.proofs.marks.Marks.next.Given as goal
+use Rattle.server_connections.proofs.marked.MarkedKeys.next.Given as goal
 
 abbrev pub invariant-words : goal.invariant-words
 invariant-words l =

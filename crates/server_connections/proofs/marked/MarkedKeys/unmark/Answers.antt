@@ -3,7 +3,7 @@ use Rattle.std.specs.Prelude.{slice_set, bit_and, ◌*◌, ◌/◌, ◌%◌, ◌
 use Rattle.std.proofs.Common.{◌^◌}
 use Rattle.server_connections.specs.Marked.{IsSameBut, without_mark}
 use Rattle.server_connections.proofs.Marking.{unmarked, unmarked_alone, as_unmarked}
-use Rattle.server_connections.proofs.marks.Marks.unmark.Goals as goal
+use Rattle.server_connections.proofs.marked.MarkedKeys.unmark.Goals as goal
 
 pub returns-clause-unmarked : goal.returns-clause-unmarked
 returns-clause-unmarked c =
