@@ -2,16 +2,12 @@
 #![tactic(auto)]
 
 mod acceptor;
-mod disk_line;
-mod latch;
+mod log_lines;
 mod loop_handle;
 mod loops;
-mod news_line;
-mod places;
 mod ready;
 mod serving;
 mod turns;
-mod winding;
 
 pub use server_connections::Turn;
 pub use server_loop::{Gate, Loop, Open};

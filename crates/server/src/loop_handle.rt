@@ -1,11 +1,12 @@
-//! How connections and news come to a loop.
+//! What a loop begins with, and how connections and news come to it.
 
 use crate::acceptor::Acceptor;
-use crate::latch::Latch;
-use mio::net::UnixStream;
-use mio::{Poll, Registry, Waker};
+use crate::ready::Latch;
+use crate::turns::{LISTEN, WAKE};
+use mio::net::{UnixListener, UnixStream};
+use mio::{Interest, Poll, Registry, Waker};
 use server_loop::ServerEnd;
-use server_system::{LastLook, Log, ServeFault, UsersFile, WatchedUsers};
+use server_system::{Host, LastLook, Log, ServeFault, UsersFile, WatchedUsers};
 use std::alloc::Global;
 use std::collections::VecDeque;
 use std::sync::atomic::{AtomicBool, AtomicU64, Ordering};
@@ -123,6 +124,47 @@ pub struct LoopStart {
     /// The registry of the poll, whose descriptor is there before anybody connects.
     pub registry: Registry,
     pub acceptor: Option<Acceptor>,
+}
+
+// The acceptor of a loop that waits at this poll.
+fn acceptor(alloc: Global, mut listener: UnixListener, poll: &Poll) -> io::Result<Acceptor> {
+    let registry = poll.registry();
+    registry.register(&mut listener, LISTEN, Interest::READABLE)?;
+    Ok(Acceptor::new(alloc, listener, registry.try_clone()?)?)
+}
+
+// A loop of this number, and how others reach it.
+fn place(rt: &impl Host, me: usize) -> io::Result<(LoopStart, LoopHandle)> {
+    let poll = Poll::new(rt)?;
+    let waker = Waker::new(poll.registry(), WAKE)?;
+    let registry = poll.registry().try_clone()?;
+    let start = LoopStart {
+        me,
+        poll,
+        registry,
+        acceptor: None,
+    };
+    Ok((start, LoopHandle::new(waker, VecDeque::new(rt.alloc()))))
+}
+
+/// What this many loops begin with, of which the first has the listener, and how others reach them.
+pub fn places(
+    rt: &impl Host,
+    loops: usize,
+    listener: UnixListener,
+) -> io::Result<(Vec<LoopStart>, Vec<LoopHandle>)> {
+    let alloc = rt.alloc();
+    let mut starts = Vec::new(alloc);
+    let mut loop_handles = Vec::new(alloc);
+    for me in 0..loops {
+        let (start, loop_handle) = place(rt, me)?;
+        starts.push(start)?;
+        loop_handles.push(loop_handle)?;
+    }
+    if let Some(first) = starts.first_mut() {
+        first.acceptor = Some(acceptor(alloc, listener, &first.poll)?);
+    }
+    Ok((starts, loop_handles))
 }
 
 impl Shared {

@@ -1,6 +1,6 @@
 //! A server: its socket, its threads, its files, its log and its end.
 
-use crate::disk_line::DiskLog;
+use crate::log_lines::DiskLog;
 use crate::loop_handle::{LoopStart, Shared};
 use crate::ready::ReadyLine;
 use crate::turns::run_loop;

@@ -1,10 +1,8 @@
 //! `muxd`: the session, its listener and its loops.
 
-use crate::latch::Latch;
-use crate::loop_handle::{LoopHandle, Shared, start_watching};
+use crate::loop_handle::{LoopHandle, Shared, places, start_watching};
 use crate::loops::Server;
-use crate::places::places;
-use crate::ready::ReadyLine;
+use crate::ready::{Latch, ReadyLine};
 use acl::UserId;
 use clap::{ArgMatches, Error};
 use mio::net::UnixListener;

@@ -2,14 +2,14 @@
 
 use crate::acceptor::Acceptor;
 use crate::loop_handle::{LoopHandle, LoopStart, Shared};
-use crate::news_line::NewsLine;
-use crate::winding::wind_up;
+use crate::log_lines::NewsLine;
 use mio::{Events, Poll, Registry, Token};
 use server_connections::Awaits;
 use server_loop::{
-    Connections, Gate, Loop, News, Pace, Pending, Reads, SessionSeat, Submitted, Writes, set_look,
+    Connections, Gate, Loop, News, Pace, Pending, Reads, ServerEnd, SessionSeat, Submitted, Writes,
+    set_look,
 };
-use server_system::{Wired, most_new, sleep_for};
+use server_system::{Wired, is_late, most_new, sleep_for};
 use std::io;
 use std::io::{ErrorKind, Read, Write};
 use std::sync::Wait;
@@ -23,10 +23,13 @@ pub const LISTEN: Token = Token(1);
 // The connection under key k has the token k + FIRST.
 const FIRST: usize = 2;
 
-/// What comes to a loop: events of its connections, news, and connections to be taken in.
+// Peers that read how the server ends are looked at after this many milliseconds, or when something comes.
+const PAUSE: u64 = 20;
+
+// What comes to a loop: events of its connections, news, and connections to be taken in.
 #[derive(Drop)]
-pub struct Inlet<'a> {
-    pub shared: &'a Shared,
+struct Inlet<'a> {
+    shared: &'a Shared,
     me: usize,
     loop_handle: &'a LoopHandle,
     poll: Poll,
@@ -103,13 +106,13 @@ impl Inlet<'_> {
         Ok(())
     }
 
-    /// No connection is taken in any more.
-    pub fn close(&mut self) {
+    // No connection is taken in any more.
+    fn close(&mut self) {
         self.acceptor = None;
     }
 
-    /// Waits for events, at most this long. An interrupted wait has none.
-    pub fn wait(&mut self, timeout: Option<Duration>) -> io::Result<()> {
+    // Waits for events, at most this long. An interrupted wait has none.
+    fn wait(&mut self, timeout: Option<Duration>) -> io::Result<()> {
         match self.poll.poll(&mut self.events, timeout) {
             Err(error) if error.kind() == ErrorKind::Interrupted => {
                 self.events.clear();
@@ -182,8 +185,8 @@ fn count<R: Clock>(rt: &R, strangers: &AtomicU64, told: &AtomicU64) -> Option<u6
     }
 }
 
-/// Writes news to the log. Strangers are counted, and have at most one line a second of each kind.
-pub fn tell_news<R: Clock + Wait>(rt: &R, shared: &Shared, happened: Vec<News>) {
+// Writes news to the log. Strangers are counted, and have at most one line a second of each kind.
+fn tell_news<R: Clock + Wait>(rt: &R, shared: &Shared, happened: Vec<News>) {
     for news in happened {
         let number = match news {
             News::WrongToken => count(rt, &shared.wrong_tokens, &shared.wrong_tokens_told),
@@ -252,6 +255,28 @@ fn look_at_users<S: Read + Write + Drop, J: SessionSeat + Drop, G: Gate + Drop, 
             own.users = known.users;
         }
     }
+}
+
+// Tells the peers that the server ends, gives them two seconds to read it whatever else comes, and
+// writes the last news to the log.
+fn wind_up<J: SessionSeat + Drop, G: Gate + Drop, R: Clock + Wait>(
+    rt: &R,
+    inlet: &mut Inlet,
+    own: &mut Loop<Wired, G, J>,
+    end: ServerEnd,
+) -> io::Result<()> {
+    inlet.close();
+    let began = rt.monotonic().ok();
+    own.finish(rt, end);
+    for pauses in 0..u64::MAX {
+        if own.connections.len() == 0 || is_late(began, rt.monotonic().ok(), pauses) {
+            break;
+        }
+        inlet.wait(Some(Duration::from_millis(PAUSE)))?;
+        own.finish(rt, end);
+    }
+    tell_news(rt, inlet.shared, own.take_news());
+    Ok(())
 }
 
 // Turns until the server ends.

@@ -4,7 +4,6 @@
 
 mod accounts;
 mod books;
-mod closing;
 mod loads;
 mod loop_body;
 mod seated;
@@ -14,9 +13,8 @@ mod trail_size;
 
 pub use accounts::Accounts;
 pub use books::{Books, Counting, Limits};
-pub use closing::Agreement;
 pub use hub::{Begun, Seat, Trail};
-pub use loop_body::{LoopBody, LoopsFault, Start, keep};
+pub use loop_body::{Agreement, LoopBody, LoopsFault, Start, keep};
 pub use seated::Seated;
 pub use server_trail::Recorder;
 pub use shared_session::{LoopSession, SharedSession, TrailLines};

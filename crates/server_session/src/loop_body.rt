@@ -1,12 +1,13 @@
-//! The loops that share a session, each in a thread of its own.
+//! A session from its beginning to its end, and the loops that share it, each in a thread of its own.
 
-ghost use Rattle.std.specs.Prelude.{◌≡◌, ◌<◌, ◌≤◌, IfOk, length};
+ghost use Rattle.std.specs.Prelude.{◌≡◌, ◌<◌, ◌≤◌, ℕ, IfOk, Some, None, length, true, false};
 ghost use Rattle.acl.specs.declared.edition.Edition.TheVariants.{Second};
 ghost use Rattle.session.specs.Trace.{begun as run_begun};
+ghost use Rattle.hub.specs.Closing.{IsFirstWrong, receipts_of};
+ghost use Rattle.hub.specs.Legal.{IsLegal};
 ghost use Rattle.hub.specs.Seats.{StandsFor};
 ghost use Rattle.server_session.specs.SettingUp.{HasBegun};
 
-use crate::closing::{Agreement, close};
 use crate::setting_up::{Giver, set_up};
 use crate::shared_session::SharedSession;
 use acl::UserId;
@@ -205,6 +206,37 @@ where
     match set_up(rt, Giver { alloc, owner }, &shared, first, setup) {
         Ok(()) => Ok((RunningSession { shared, left }, seats)),
         Err(fault) => Err(fault),
+    }
+}
+
+/// Whether every answer that a loop was given stands in the session's trail. Only a session that is
+/// closed says so.
+#[derive(Clone, Copy, Debug)]
+pub struct Agreement {
+    is_so: bool,
+}
+
+impl Agreement {
+    /// Whether it is so.
+    pub fn holds(self) -> bool
+        ensures { result ≡ self.is_so }
+    {
+        self.is_so
+    }
+}
+
+// Closes a session whose loops gave these seats back.
+fn close<L: Begun>(hub: Hub<L>, left: Vec<Seat<L>>) -> (Trail, Agreement)
+    ensures legal { IsLegal result.0 }
+    ensures agrees { result.1.is_so ≡ true
+        → IsFirstWrong result.0.entries (receipts_of left.items) None }
+    ensures differs { result.1.is_so ≡ false
+        → (wrong : ℕ) × IsFirstWrong result.0.entries (receipts_of left.items) (Some wrong) }
+{
+    let (trail, wrong) = hub.close(left);
+    match wrong {
+        Some(_) => (trail, Agreement { is_so: false }),
+        None => (trail, Agreement { is_so: true }),
     }
 }
 

@@ -1,6 +1,6 @@
 //! Frames that peers send, byte by byte, and what they are sent.
 
-use crate::stop::Stop;
+use crate::Stop;
 use attach_proto::{Message, ProtoFault, Reader, Side, Why};
 use std::alloc::Global;
 

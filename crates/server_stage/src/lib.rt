@@ -9,7 +9,6 @@ mod latch;
 mod outside;
 mod pages;
 mod stage;
-mod stop;
 mod streams;
 
 pub use acts::{LoopState, Note, Seen, StageAct};
@@ -21,5 +20,25 @@ pub use frames::{
 pub use pages::{are_alike, shows};
 pub use server_loop::ServerEnd;
 pub use stage::{System, perform};
-pub use stop::Stop;
 pub use streams::{Habit, StreamLog};
+
+use std::alloc::{AllocError, AllocFailed};
+
+/// What couldn't be had.
+#[derive(Clone, Copy, Debug, PartialEq, Eq)]
+pub enum Stop {
+    Memory,
+    Other(&'static str),
+}
+
+impl From<AllocError> for Stop {
+    fn from(_error: AllocError) -> Stop {
+        Stop::Memory
+    }
+}
+
+impl<T: Drop> From<AllocFailed<T>> for Stop {
+    fn from(_error: AllocFailed<T>) -> Stop {
+        Stop::Memory
+    }
+}

@@ -1,6 +1,6 @@
 //! What a client's terminal shows.
 
-use crate::stop::Stop;
+use crate::Stop;
 use cells::Cell;
 use emulator::Emulator;
 use std::alloc::Global;

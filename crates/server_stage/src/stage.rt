@@ -4,7 +4,7 @@ use crate::acts::{LoopState, Note, Seen, StageAct};
 use crate::frames::USERS;
 use crate::latch::{Calls, LatchGate};
 use crate::outside::Outside;
-use crate::stop::Stop;
+use crate::Stop;
 use crate::streams::{Habit, Near};
 use hub::{Kept, TrailEntry};
 use server_loop::{Gate, Loop, SessionSeat};

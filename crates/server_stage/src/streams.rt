@@ -2,7 +2,7 @@
 
 ghost use Rattle.std.specs.Io.{ReadsAtMost, WritesAtMost};
 
-use crate::stop::Stop;
+use crate::Stop;
 use std::alloc::{AllocError, Global};
 use std::cell::RefCell;
 use std::io;

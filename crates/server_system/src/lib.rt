@@ -2,28 +2,32 @@
 //! connections that a loop waits for.
 #![tactic(auto)]
 
-mod closed;
 mod ending;
 mod fault;
-mod host;
 mod log;
-mod room;
 mod setup_file;
 mod socket;
-mod unread;
+mod standard;
 mod users_file;
 mod watched;
 mod wired;
 
-pub use closed::fill_closed;
 pub use ending::{Unready, cause_of, is_late, most_new, outcome_of, served, sleep_for};
 pub use fault::ServeFault;
-pub use host::Host;
 pub use log::Log;
-pub use room::LastLine;
 pub use setup_file::Setup;
 pub use socket::SocketPath;
-pub use unread::bound_unread;
+pub use standard::{LastLine, fill_closed};
 pub use users_file::{LastLook, Stamp, UsersFile, UsersSource, look_at};
 pub use watched::{KnownUsers, WatchedUsers};
-pub use wired::Wired;
+pub use wired::{Wired, bound_unread};
+
+use std::fs::{File, Files};
+use std::net::Net;
+use std::time::Clock;
+
+/// A runtime with all that a server asks for, except to wait and to start threads: a function says these
+/// two itself, as they let it never return.
+pub trait Host: Net + Files<File = File> + Clock + AllocGlobal + Copy + Send + Sync + 'static {}
+
+impl<R: Net + Files<File = File> + Clock + AllocGlobal + Copy + Send + Sync + 'static> Host for R {}

@@ -3,7 +3,7 @@
 ghost use Rattle.std.specs.Prelude.{◌≡◌, ◌⊎◌, ◌+◌, ◌-◌, ◌≤◌, ◌==◌, [], length, vec_len, vec_capacity};
 ghost use Rattle.server_system.specs.Logging.{IsKept, IsLeftOut};
 
-use crate::room::{PIECE, has_room};
+use crate::standard::{PIECE, has_room};
 use jiff::Timestamp;
 use std::alloc::Global;
 use std::fmt::Display;

@@ -1,7 +1,7 @@
 //! The file of the owner's first commands, and its faults.
 
 use crate::fault::{ServeFault, SystemError};
-use crate::host::Host;
+use crate::Host;
 use program_words::{RefusedLine, SetupFault, SetupLine, read_setup};
 use std::alloc::Global;
 use std::{fs, str};

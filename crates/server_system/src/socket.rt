@@ -1,7 +1,7 @@
 //! The socket that a server listens on.
 
 use crate::fault::{ServeFault, SocketFault};
-use crate::host::Host;
+use crate::Host;
 use mio::net::{UnixListener, UnixStream};
 use std::alloc::Global;
 use std::fs::{File, OpenOptions, TryLockError};

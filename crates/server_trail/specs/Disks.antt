@@ -7,8 +7,8 @@ use Rattle.trail_lines.specs.declared.ending.Cause.TheVariants as cause
 use Rattle.server_trail.specs.declared.disk.DiskNews.{DiskNews}
 use Rattle.server_trail.specs.declared.disk.DiskNews.TheVariants as news
 use Rattle.server_trail.specs.declared.disk.Refusals.{Refusals}
-use Rattle.server_trail.specs.declared.stop.StopCause.{StopCause}
-use Rattle.server_trail.specs.declared.stop.StopCause.TheVariants as stop
+use Rattle.server_trail.specs.declared.disk.StopCause.{StopCause}
+use Rattle.server_trail.specs.declared.disk.StopCause.TheVariants as stop
 
 -- ---- refusals in a row
 

@@ -1,10 +1,11 @@
-//! A trail's file on its disk, and what the disk refuses.
+//! A trail's file on its disk, what the disk refuses, and why the file can't go on.
 
-ghost use Rattle.std.specs.Prelude.{◌≡◌};
-ghost use Rattle.server_trail.specs.Disks.{after_write, news_of, no_refusal, one_more, told_of};
+ghost use Rattle.std.specs.Prelude.{◌≡◌, Some, None};
+ghost use Rattle.server_trail.specs.Disks.{after_write, last_cause, news_of, no_refusal, one_more, told_of};
 
 use crate::file::TrailFile;
 use std::io::{self, Write};
+use trail_lines::Cause;
 
 // Refusals that go on are news again after this many, of which there is one a second.
 const AGAIN: u32 = 60;
@@ -177,5 +178,36 @@ impl<F: TrailFile + Drop, W: DiskWatch> TrailFile for WatchedDisk<'_, F, W> {
             self.watch.tell(DiskNews::Unsynced(error));
         }
         synced
+    }
+}
+
+/// Why a trail's file can't go on.
+#[derive(Clone, Copy, PartialEq, Eq, Debug)]
+pub enum StopCause {
+    /// More than 16 MiB waited for the disk.
+    Disk,
+    /// Memory was refused for a line, or for the copy of its entry.
+    Memory,
+}
+
+impl StopCause {
+    /// The cause that the file's last line names.
+    pub fn cause(self) -> Cause
+        ensures { last_cause (Some self) None ≡ Some result }
+    {
+        match self {
+            StopCause::Disk => Cause::Disk,
+            StopCause::Memory => Cause::Memory,
+        }
+    }
+}
+
+/// The cause that a file's last line names, from why the file stopped, and else why its session ended.
+pub(crate) fn last_cause(stopped: Option<StopCause>, ended: Option<Cause>) -> Option<Cause>
+    ensures { result ≡ last_cause stopped ended }
+{
+    match stopped {
+        Some(stop) => Some(stop.cause()),
+        None => ended,
     }
 }

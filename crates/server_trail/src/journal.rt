@@ -3,11 +3,10 @@
 ghost use Rattle.std.specs.Prelude.{◌≡◌};
 ghost use Rattle.server_trail.specs.Faults.{fault_of, lost_by, read_as, stopped_by};
 
-use crate::disk::{Disk, DiskWatch, WatchedDisk};
+use crate::disk::{Disk, DiskWatch, StopCause, WatchedDisk, last_cause};
 use crate::file::{TrailFile, begin, header_of};
 use crate::reading::is_trail;
 use crate::recorder::Recorder;
-use crate::stop::{StopCause, last_cause};
 use crate::writing::Written;
 use acl::{Edition, UserId};
 use hub::EntryList;

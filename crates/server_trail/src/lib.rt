@@ -7,15 +7,13 @@ mod journal;
 mod merge;
 mod reading;
 mod recorder;
-mod stop;
 mod writing;
 
-pub use disk::{DiskNews, DiskWatch};
+pub use disk::{DiskNews, DiskWatch, StopCause};
 pub use file::{TrailFile, begin, header_of};
 pub use journal::{Journal, JournalFault};
 pub use merge::Merge;
 pub use reading::is_trail;
 pub use recorder::{MOST, Recorder};
-pub use stop::StopCause;
 pub use trail_lines::Cause;
 pub use writing::Written;

@@ -6,12 +6,12 @@ ghost use Rattle.std.specs.List.{list_any};
 ghost use Rattle.hub.specs.Legal.{asks_for_command};
 ghost use Rattle.server_trail.specs.Disks.{wakes};
 ghost use Rattle.server_trail.specs.Merging.{HasMerged, Placed, early_bytes};
-ghost use Rattle.server_trail.specs.declared.stop.StopCause.TheVariants.{Disk, Memory};
+ghost use Rattle.server_trail.specs.declared.disk.StopCause.TheVariants.{Disk, Memory};
 ghost use Rattle.trail_lines.specs.Entries.{line_of};
 
 use crate::file::time;
 use crate::merge::Merge;
-use crate::stop::StopCause;
+use crate::disk::StopCause;
 use hub::{TrailEntry, asks_for_command};
 use session::Verdict;
 use std::alloc::{AllocError, Global};

@@ -10,7 +10,7 @@ ghost use Rattle.server_trail.specs.Merging.{Placed, HasMerged, early_bytes};
 use crate::file::TrailFile;
 use crate::merge::Merge;
 use crate::recorder::{Ready, Recorder};
-use crate::stop::StopCause;
+use crate::disk::StopCause;
 use std::alloc::{AllocError, Global};
 use std::io::Write;
 use std::sync::Wait;

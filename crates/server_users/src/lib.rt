@@ -3,7 +3,6 @@
 
 mod allowance;
 mod allowances;
-mod authenticating;
 mod fault;
 mod ration;
 mod tally;
@@ -12,9 +11,8 @@ mod users;
 
 pub use allowance::{Allowance, Outcome, UNIT, price};
 pub use allowances::Allowances;
-pub use authenticating::authenticate;
 pub use fault::{AuthFault, UsersFault};
 pub use ration::Rations;
 pub use tally::Tally;
 pub use user::{Shown, User};
-pub use users::Users;
+pub use users::{Users, authenticate};

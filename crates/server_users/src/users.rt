@@ -1,14 +1,15 @@
-//! The users' file.
+//! The users' file, and who shows a token of it.
 
-ghost use Rattle.std.specs.Prelude.{◌≡◌, ◌↔◌, ◌++◌, IsTrue, IfOk, IfErr, Some, Contains};
+ghost use Rattle.std.specs.Prelude.{◌≡◌, ◌↔◌, ◌++◌, IsTrue, IsOk, IfOk, IfErr, IsSome, IfSome, Some, Contains};
 ghost use Rattle.std.specs.Prelude.{drop, slice_get};
 ghost use Rattle.acl.specs.Names.{name_of};
 ghost use Rattle.server_users.specs.Entries.{IsLine, EndsLine, AreUsers, IsFileOf, names};
-ghost use Rattle.server_users.specs.Stands.{Breaks, entries_of};
+ghost use Rattle.server_users.specs.Stands.{Breaks, Refuses, entries_of, entry_of};
 
-use crate::fault::UsersFault;
+use crate::fault::{AuthFault, UsersFault};
 use crate::user::User;
 use acl::UserId;
+use attach_proto::Token;
 use indexmap::IndexSet;
 use std::alloc::{AllocError, Global};
 use std::marker::Model;
@@ -16,7 +17,7 @@ use std::marker::Model;
 /// The users who may connect, with their tokens. The first is the session's owner.
 #[derive(Debug)]
 pub struct Users {
-    pub(crate) list: Vec<User>,
+    list: Vec<User>,
 }
 
 impl Drop for Users {
@@ -60,8 +61,8 @@ fn behind_feed(more: &[u8]) -> &[u8]
     }
 }
 
-/// Whether a user has this name.
-pub(crate) fn has_name(users: &[User], name: &[u8]) -> bool
+// Whether a user has this name.
+fn has_name(users: &[User], name: &[u8]) -> bool
     ensures { IsTrue result ↔ Contains (names (entries_of users.now)) name.now }
 {
     for user in users {
@@ -115,5 +116,35 @@ impl Users {
         ensures { slice_get (names self.now) 0 ≡ Some (name_of result) }
     {
         self.list[0].id
+    }
+}
+
+// The user who has this name and this token.
+fn holder(users: &[User], name: &[u8], token: &Token) -> Option<User>
+    ensures some { IsSome result
+        ↔ Contains (entries_of users.now) (record { name = name.now; token = token.now }) }
+    ensures user { IfSome result (λ user.
+        entry_of user ≡ record { name = name.now; token = token.now }) }
+{
+    for user in users {
+        if user.shows(name, token) {
+            return Some(user.copied());
+        }
+    }
+    None
+}
+
+/// The user of this name, if the token is theirs. The time that this takes doesn't depend on where a
+/// token differs.
+pub fn authenticate(users: &Users, name: &[u8], token: &Token) -> Result<User, AuthFault>
+    ensures ok { IsOk result ↔ Contains users.now (record { name = name.now; token = token.now }) }
+    ensures user { IfOk result (λ user.
+        entry_of user ≡ record { name = name.now; token = token.now }) }
+    ensures refused { IfErr result (Refuses users.now name.now) }
+{
+    match holder(&users.list, name, token) {
+        Some(user) => Ok(user),
+        None if has_name(&users.list, name) => Err(AuthFault::BadToken),
+        None => Err(AuthFault::BadUser),
     }
 }

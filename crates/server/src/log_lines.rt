@@ -1,5 +1,7 @@
-//! What becomes of the trail's file, as a line of the log.
+//! What the log says: news of peers, and what becomes of the trail's file.
 
+use attach_proto::Why;
+use server_loop::{Name, News};
 use server_session::Recorder;
 use server_system::Log;
 use server_trail::{DiskNews, DiskWatch, MOST};
@@ -7,6 +9,38 @@ use std::fmt;
 use std::fmt::{Display, Formatter};
 use std::sync::Wait;
 use std::time::Clock;
+
+fn cause(why: Option<Why>) -> &'static str {
+    match why {
+        None => "its connection ended",
+        Some(Why::Detached) => "detached",
+        Some(Why::Removed) => "its user was removed",
+        Some(Why::SingleUser) => "the session is single-user",
+        Some(Why::Killed) => "killed",
+        Some(Why::Quit) => "quit",
+        Some(Why::TooFarBehind) => "too far behind",
+        Some(Why::Fault) => "a fault",
+        Some(Why::TrailFull) => "the trail is full",
+    }
+}
+
+/// News, and how many strangers of its kind there were by now.
+#[derive(Clone, Copy)]
+pub struct NewsLine(pub News, pub u64);
+
+impl Display for NewsLine {
+    fn fmt<W: fmt::Write>(&self, f: &mut Formatter<W>) -> fmt::Result {
+        match self.0 {
+            News::Came(guest) => write!(f, "{guest} came"),
+            News::Went(guest, why) => write!(f, "{guest} went: {}", cause(why)),
+            News::Done(user) => write!(f, "a command of {}", Name(user)),
+            News::Refused(user) => write!(f, "a command of {} was refused", Name(user)),
+            News::WrongToken => write!(f, "unknown user or wrong token: {} by now", self.1),
+            News::Misfit => write!(f, "no first message: {} by now", self.1),
+            News::Filled(percent) => write!(f, "the trail is full to {percent} percent"),
+        }
+    }
+}
 
 // What becomes of the trail's file at this path, and how many bytes wait for it.
 #[derive(Clone, Copy)]

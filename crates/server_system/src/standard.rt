@@ -1,7 +1,9 @@
-//! Standard error, of which nobody knows whether it is read.
+//! Standard streams: those that were closed, and standard error, of which nobody knows whether it is read.
 
+use crate::Host;
 use libc::net as c;
 use libc::types::pollfd;
+use std::fs::{File, OpenOptions};
 use std::io::{self, ErrorKind, Write};
 use std::os::fd::AsRawFd;
 use std::rt::Stderr;
@@ -38,4 +40,21 @@ impl Write for LastLine {
     fn flush(&mut self) -> io::Result<()> {
         self.0.flush()
     }
+}
+
+/// Opens /dev/null for each standard stream that is closed, so that no other file becomes one. It stays
+/// one as long as the list is kept.
+pub fn fill_closed<R: Host>(rt: &R) -> io::Result<Vec<File>> {
+    let mut filled = Vec::new(rt.alloc());
+    for _ in 0..3 {
+        let file = OpenOptions::new()
+            .read(true)
+            .write(true)
+            .open(rt, "/dev/null")?;
+        if file.as_raw_fd() > 2 {
+            break;
+        }
+        filled.push(file)?;
+    }
+    Ok(filled)
 }

@@ -1,6 +1,6 @@
 use Rattle.std.proofs.Common.{Contains, map, take}
 use Rattle.server_users.specs.Stands.{entry_of}
-use Rattle.server_users.proofs.authenticating.holder.Given as goal
+use Rattle.server_users.proofs.users.holder.Given as goal
 
 abbrev pub invariant-loop-user : goal.invariant-loop-user
 invariant-loop-user l = Contains (map entry_of (take l.user-index l.users))

@@ -2,7 +2,7 @@ use Rattle.std.proofs.Common.{◌∙◌, ap, sym, refl, arith}
 use Rattle.std.proofs.lemmas.Bool.{false≢true}
 use Rattle.server_users.specs.Stands.{entry_of}
 use Rattle.server_users.proofs.Seen.{not_yet, here, nowhere}
-use Rattle.server_users.proofs.authenticating.holder.Goals as goal
+use Rattle.server_users.proofs.users.holder.Goals as goal
 
 pub returns-then-shows-clause-some : goal.returns-then-shows-clause-some
 returns-then-shows-clause-some c = (
