@@ -124,11 +124,11 @@ fn first_wrong(alloc: Global) -> Option<Option<usize>> {
     Some(None)
 }
 
-/// What may go to another thread: `proofs/Crossing` names these proofs, which tests make only if asked.
-fn crosses<T: Send, U: Send>() {}
+/// What may go to another thread: `proofs/Crossing` names this proof, which tests make only if asked.
+fn crosses<T: Send>() {}
 
 #[test]
 fn a_verdict_turned_round_is_found(rt: HostRuntime) {
-    crosses::<SeatEffects, GrowingTrail>();
+    crosses::<SeatEffects>();
     assert_eq!(rt; first_wrong(rt.alloc()), Some(None));
 }
