@@ -1,8 +1,8 @@
 -- What a kept terminal has read, and what brings it back.
 use Rattle.std.specs.Prelude.{◌≡◌, ◌<◌, ℕ, Bool, true, false, List, take, Option, Some, None, IfSome}
 use Rattle.cells.specs.Page.{IsGridSize}
-use Rattle.client_words.specs.declared.words.Way.TheVariants.{Window}
-use Rattle.client_words.specs.declared.words.Words.{Words}
+use Rattle.client_words.specs.declared.arguments.Subcommand.TheVariants.{Window}
+use Rattle.client_words.specs.declared.arguments.Arguments.{Arguments}
 use Rattle.terminal_model.specs.Reading.{Terminal, ready, reads}
 use Rattle.terminal_model.specs.Screen.{starting}
 use Rattle.terminal_model.specs.Writing.{Size}
@@ -26,9 +26,9 @@ TakesSize (Some e) rows columns None = ⊥
 TakesSize (Some e) rows columns (Some e') = IsGridSize rows columns × TakesWriting e (Size rows columns) e'
 
 -- only a window that stays keeps a terminal, which has read nothing
-abbrev pub Begins : Words → Option Parts → Type 0
+abbrev pub Begins : Arguments → Option Parts → Type 0
 Begins w p = IfSome p
-    (λ e. (w.way ≡ Window) × (0 < w.again) × StandsFor e (ready (starting w.rows w.columns w.keep)))
+    (λ e. (w.subcommand ≡ Window) × (0 < w.again) × StandsFor e (ready (starting w.rows w.columns w.keep)))
 
 -- a kept terminal has read the first bytes, from whatever terminal it stood for before
 abbrev pub Settles : Option Parts → List ℕ → ℕ → Option Parts → Type 0

@@ -9,7 +9,7 @@ ghost use Rattle.emulator.specs.Standing.{StandsFor};
 ghost use Rattle.client_page.specs.Kept.{TellsPage, Settles, TakesAll, ReadsAll, TakesSize, Begins};
 
 use cells::GridFault;
-use client_words::Words;
+use client_words::Arguments;
 use emulator::Emulator;
 use rebuild::rebuild;
 use std::alloc::Global;
@@ -32,14 +32,14 @@ fn blank(alloc: Global, rows: usize, columns: usize, keep: usize) -> Option<Emul
 }
 
 // A blank terminal for a window that stays.
-fn begun(alloc: Global, words: &Words<'_>) -> Option<Emulator>
-    ensures { Begins words.now result }
+fn begun(alloc: Global, arguments: &Arguments<'_>) -> Option<Emulator>
+    ensures { Begins arguments.now result }
 {
-    if !words.way.is_window() || words.again == 0 {
+    if !arguments.subcommand.is_window() || arguments.again == 0 {
         return None;
     }
-    let (rows, columns) = (usize::from(words.rows), usize::from(words.columns));
-    blank(alloc, rows, columns, usize::from(words.keep))
+    let (rows, columns) = (usize::from(arguments.rows), usize::from(arguments.columns));
+    blank(alloc, rows, columns, usize::from(arguments.keep))
 }
 
 // Reads until nothing is incomplete, or all bytes. Returns how many.
@@ -79,13 +79,13 @@ fn read_all(alloc: Global, emulator: &mut Emulator, bytes: &[u8])
 
 impl KeptPage {
     /// A window that stays has a blank page of its size. There is none if memory is refused.
-    pub fn new(alloc: Global, words: &Words<'_>) -> KeptPage
-        ensures blank { Begins words.now result.emulator }
+    pub fn new(alloc: Global, arguments: &Arguments<'_>) -> KeptPage
+        ensures blank { Begins arguments.now result.emulator }
         ensures shown { result.is_hidden ≡ false }
     {
         KeptPage {
             alloc,
-            emulator: begun(alloc, words),
+            emulator: begun(alloc, arguments),
             is_hidden: false,
         }
     }

@@ -4,12 +4,12 @@ use Rattle.client_peer.specs.declared.peer.Peer.{Peer}
 use Rattle.client_peer.specs.Meeting.{StaysClosed}
 
 pub closed_same : (s : Peer) → StaysClosed s s
-closed_same s = record { way = refl; was = λ w. w; frames = λ is. refl; again = λ is w h. h }
+closed_same s = record { subcommand = refl; was = λ w. w; frames = λ is. refl; again = λ is w h. h }
 
 pub closed_then : (old middle new : Peer) → StaysClosed old middle → StaysClosed middle new → StaysClosed old new
 closed_then old middle new a b = record {
-  way = b.way ∙ a.way;
+  subcommand = b.subcommand ∙ a.subcommand;
   was = λ w. b.was (a.was w);
-  frames = λ is. b.frames (a.way ∙ is) ∙ a.frames is;
-  again = λ is w h. a.again is w (b.again (a.way ∙ is) (a.was w) h);
+  frames = λ is. b.frames (a.subcommand ∙ is) ∙ a.frames is;
+  again = λ is w h. a.again is w (b.again (a.subcommand ∙ is) (a.was w) h);
 }

@@ -2,7 +2,7 @@
 use Rattle.std.proofs.Common.{◌≡◌, ℕ, List, [], ◌++◌, refl, sym, ap, ◌∙◌, subst, append-nil, append_assoc}
 use Rattle.std.proofs.Common.{Result, Ok, Err, OnErr}
 use Rattle.std.specs.Prelude.{OnOk}
-use Rattle.client_words.specs.declared.words.Way.TheVariants.{Attach}
+use Rattle.client_words.specs.declared.arguments.Subcommand.TheVariants.{Attach}
 use Rattle.draw_check.specs.Functions.{BeginDraws}
 use Rattle.draw_check.specs.Places.{place_after}
 use Rattle.client_peer.specs.declared.peer.Peer.{Peer}
@@ -10,7 +10,7 @@ use Rattle.client_peer.specs.Showing.{Adds, Keeps, Passed, PassesOn, StopsAt}
 
 pub passes_keeps : (old new : Peer) → Keeps old new → PassesOn old new
 passes_keeps old new k = record {
-  way = k.way;
+  subcommand = k.subcommand;
   passes = λ is came begun stands. record {
     passed = record {
       more = [];
@@ -36,14 +36,15 @@ stops_kept old new k is came begun stands = record {
 }
 
 -- not a client
-pub passes_other : (old new : Peer) → new.way ≡ old.way → (old.way ≡ Attach → ⊥) → PassesOn old new
-passes_other old new way other = record { way = way; passes = λ is came begun stands. absurd (other is) }
+pub passes_other : (old new : Peer) → new.subcommand ≡ old.subcommand → (old.subcommand ≡ Attach → ⊥)
+    → PassesOn old new
+passes_other old new same other = record { subcommand = same; passes = λ is came begun stands. absurd (other is) }
 
-pub stops_other : (old new : Peer) → (old.way ≡ Attach → ⊥) → StopsAt old new
+pub stops_other : (old new : Peer) → (old.subcommand ≡ Attach → ⊥) → StopsAt old new
 stops_other old new other is came begun stands = absurd (other is)
 
 module _ (old middle new : Peer) (p : PassesOn old middle) where
-  passed_then : (is : old.way ≡ Attach) (came : List ℕ) (begun : BeginDraws came)
+  passed_then : (is : old.subcommand ≡ Attach) (came : List ℕ) (begun : BeginDraws came)
       (stands : old.draws ≡ place_after came)
       → Passed middle new (came ++ (p.passes is came begun stands).passed.more) → Passed old new came
   passed_then is came begun stands q =
@@ -58,41 +59,42 @@ module _ (old middle new : Peer) (p : PassesOn old middle) where
   stops_then s is came begun stands =
       let r = p.passes is came begun stands in
       passed_then is came begun stands
-      (s (p.way ∙ is) (came ++ r.passed.more) r.passed.begin r.stands)
+      (s (p.subcommand ∙ is) (came ++ r.passed.more) r.passed.begin r.stands)
 
   pub passes_then : PassesOn middle new → PassesOn old new
   unfolding passed_then
   passes_then s = record {
-    way = s.way ∙ p.way;
+    subcommand = s.subcommand ∙ p.subcommand;
     passes = λ is came begun stands.
         let r = p.passes is came begun stands in
-        let q = s.passes (p.way ∙ is) (came ++ r.passed.more) r.passed.begin r.stands in record {
+        let q = s.passes (p.subcommand ∙ is) (came ++ r.passed.more) r.passed.begin r.stands in record {
           passed = passed_then is came begun stands q.passed;
           stands = q.stands ∙ ap place_after (append_assoc came r.passed.more q.passed.more);
         };
   }
 
 pub keeps_same : (s : Peer) → Keeps s s
-keeps_same s = record { way = refl; draws = refl; kept = refl }
+keeps_same s = record { subcommand = refl; draws = refl; kept = refl }
 
 pub passes_same : (s : Peer) → PassesOn s s
 passes_same s = passes_keeps s s (keeps_same s)
 
 -- a text that a client hears adds no bytes
-pub passes_heard : (old new : Peer) → new.way ≡ old.way → (old.way ≡ Attach → Keeps old new) → PassesOn old new
-passes_heard old new way k = record {
-  way = way;
+pub passes_heard : (old new : Peer) → new.subcommand ≡ old.subcommand
+    → (old.subcommand ≡ Attach → Keeps old new) → PassesOn old new
+passes_heard old new same k = record {
+  subcommand = same;
   passes = λ is came begun stands. (passes_keeps old new (k is)).passes is came begun stands;
 }
 
 -- the check has read a draw's bytes, and they are added
-pub passes_draw : (old middle new : Peer) (bytes : List ℕ) → middle.way ≡ old.way
+pub passes_draw : (old middle new : Peer) (bytes : List ℕ) → middle.subcommand ≡ old.subcommand
     → middle.bytes.items ≡ old.bytes.items
     → ((came : List ℕ) → old.draws ≡ place_after came → middle.draws ≡ place_after (came ++ bytes))
     → ((came : List ℕ) → old.draws ≡ place_after came → BeginDraws (came ++ bytes))
     → Adds middle new bytes → PassesOn old new
-passes_draw old middle new bytes way kept read begin a = record {
-  way = a.way ∙ way;
+passes_draw old middle new bytes same kept read begin a = record {
+  subcommand = a.subcommand ∙ same;
   passes = λ is came begun stands. record {
     passed = record {
       more = bytes;

@@ -1,7 +1,7 @@
 -- Which session a peer comes back to.
 use Rattle.std.specs.Prelude.{◌≡◌, ◌≢◌, ◌↔◌, Bool, true, false, [], ◌⊎◌, Some, None, Err, IsSome}
-use Rattle.client_words.specs.declared.fault.Fault.TheVariants.{OtherSession}
-use Rattle.client_words.specs.declared.words.Way.TheVariants.{Window}
+use Rattle.client_words.specs.declared.fault.PeerFault.TheVariants.{OtherSession}
+use Rattle.client_words.specs.declared.arguments.Subcommand.TheVariants.{Window}
 use Rattle.client_peer.specs.declared.meeting.Meeting.{Meeting}
 use Rattle.client_peer.specs.declared.meeting.Meeting.TheVariants.{Same, Another, Older, Unnamed}
 use Rattle.client_peer.specs.declared.meeting.SessionMark.{SessionMark}
@@ -21,8 +21,8 @@ MayOpen p m = (p.session.items ≢ []) × (p.session.items ≡ m.name.items) × 
 
 -- what a peer meets
 pub record Meets (p : Peer) (m : SessionMark) (x : Meeting) : Type 0 where
-  pub window : p.way ≡ Window → (x ≡ Same ↔ MayOpen p m)
-  pub other : (p.way ≡ Window → ⊥) → (x ≡ Same ↔ (IsAnother p m → ⊥))
+  pub window : p.subcommand ≡ Window → (x ≡ Same ↔ MayOpen p m)
+  pub other : (p.subcommand ≡ Window → ⊥) → (x ≡ Same ↔ (IsAnother p m → ⊥))
   pub another : x ≡ Another ↔ IsAnother p m
   pub older : x ≡ Older → (p.session.items ≡ m.name.items) × (m.is_current ≡ false)
   pub unnamed : x ≡ Unnamed → (p.session.items ≡ []) ⊎ (m.name.items ≡ [])
@@ -34,9 +34,9 @@ IsOwn p m is_here = (p.end ≡ None) × (is_here ≡ true) × (m.is_current ≡ 
 
 -- a window takes no name that may be that of an earlier server, or of a later one
 pub record Learns (old : Peer) (m : SessionMark) (is_here : Bool) (new : Peer) : Type 0 where
-  pub window : old.way ≡ Window → IsOwn old m is_here → new.session ≡ m.name
-  pub other : (old.way ≡ Window → ⊥) → new.session ≡ m.name
-  pub keeps : old.way ≡ Window → (IsOwn old m is_here → ⊥) → new ≡ old
+  pub window : old.subcommand ≡ Window → IsOwn old m is_here → new.session ≡ m.name
+  pub other : (old.subcommand ≡ Window → ⊥) → new.session ≡ m.name
+  pub keeps : old.subcommand ≡ Window → (IsOwn old m is_here → ⊥) → new ≡ old
   pub rest : new ≡ record old { session = new.session }
 
 -- the peer ends, and is never let in again
@@ -48,10 +48,10 @@ pub record StaysAway (old : Peer) (x : Meeting) (new : Peer) : Type 0 where
 -- What a window's program prints goes to no server before the window is opened again: no word of a server puts down a
 -- frame, and one that lets the window in again doesn't have it yet.
 pub record StaysClosed (old new : Peer) : Type 0 where
-  pub way : new.way ≡ old.way
+  pub subcommand : new.subcommand ≡ old.subcommand
   pub was : old.was_welcome ≡ true → new.was_welcome ≡ true
-  pub frames : old.way ≡ Window → new.frames ≡ old.frames
-  pub again : old.way ≡ Window → old.was_welcome ≡ true → HasServer new → HasServer old
+  pub frames : old.subcommand ≡ Window → new.frames ≡ old.frames
+  pub again : old.subcommand ≡ Window → old.was_welcome ≡ true → HasServer new → HasServer old
 
 -- A window is opened again: what is sent then is its page, perhaps, and what was held.
 pub record Opens (old new : Peer) (is_hidden : Bool) : Type 0 where

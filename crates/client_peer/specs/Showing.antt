@@ -1,18 +1,18 @@
 -- What a client passes on to its terminal: functions that draws use, and nothing else.
 use Rattle.std.specs.Prelude.{◌≡◌, ℕ, List, [], ◌∷◌, ◌++◌, ◌⊎◌}
-use Rattle.client_words.specs.declared.words.Way.TheVariants.{Attach}
+use Rattle.client_words.specs.declared.arguments.Subcommand.TheVariants.{Attach}
 use Rattle.draw_check.specs.Functions.{BeginDraws}
 use Rattle.draw_check.specs.Places.{place_after}
 use Rattle.client_peer.specs.declared.peer.Peer.{Peer}
 
 -- these bytes were added to those that wait for standard output
 pub record Adds (old new : Peer) (bytes : List ℕ) : Type 0 where
-  pub way : new.way ≡ old.way
+  pub subcommand : new.subcommand ≡ old.subcommand
   pub draws : new.draws ≡ old.draws
   pub added : new.bytes.items ≡ old.bytes.items ++ bytes
 
 pub record Keeps (old new : Peer) : Type 0 where
-  pub way : new.way ≡ old.way
+  pub subcommand : new.subcommand ≡ old.subcommand
   pub draws : new.draws ≡ old.draws
   pub kept : new.bytes.items ≡ old.bytes.items
 
@@ -30,10 +30,10 @@ pub record Read (old new : Peer) (came : List ℕ) : Type 0 where
 -- a client that has passed on `came`, whatever that is
 abbrev pub IfClient : Peer → (List ℕ → Type 0) → Type 0
 IfClient old P =
-    old.way ≡ Attach → (came : List ℕ) → BeginDraws came → old.draws ≡ place_after came → P came
+    old.subcommand ≡ Attach → (came : List ℕ) → BeginDraws came → old.draws ≡ place_after came → P came
 
 pub record PassesOn (old new : Peer) : Type 0 where
-  pub way : new.way ≡ old.way
+  pub subcommand : new.subcommand ≡ old.subcommand
   pub passes : IfClient old (Read old new)
 
 -- the same before a fault, after which the peer ends
@@ -42,7 +42,7 @@ StopsAt old new = IfClient old (Passed old new)
 
 -- CAN ends what may have been begun on the terminal, and the check has read nothing since
 pub record CutsOff (old new : Peer) : Type 0 where
-  pub way : new.way ≡ old.way
+  pub subcommand : new.subcommand ≡ old.subcommand
   pub draws : new.draws ≡ place_after []
   pub added : new.bytes.items ≡ old.bytes.items ++ 0x18 ∷ []
 

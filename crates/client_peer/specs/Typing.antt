@@ -3,7 +3,7 @@ use Rattle.std.specs.Prelude.{◌≡◌, ℕ, true, false, List, [], ◌++◌, �
 use Rattle.attach_proto.specs.declared.kind.Kind.TheVariants.{Keys}
 use Rattle.attach_proto.specs.declared.message.Message.TheVariants.{Resize}
 use Rattle.attach_proto.specs.Spelling.{spelling}
-use Rattle.client_words.specs.declared.words.Way.TheVariants.{Window}
+use Rattle.client_words.specs.declared.arguments.Subcommand.TheVariants.{Window}
 use Rattle.client_typing.specs.Fitting.{fit_keys}
 use Rattle.client_typing.specs.Following.{LetsThrough, Follows, Rests}
 use Rattle.client_peer.specs.declared.peer.Peer.{Peer}
@@ -12,7 +12,7 @@ use Rattle.client_peer.specs.Sending.{Prints, SendsFirst}
 
 -- a client that knows a server, and shows no help
 pub record IsSeated (p : Peer) : Type 0 where
-  pub client : p.way ≡ Window → ⊥
+  pub client : p.subcommand ≡ Window → ⊥
   pub here : p.loss ≡ None
   pub shown : p.is_helping ≡ false
 
@@ -30,9 +30,9 @@ pub record Presses (old new : Peer) (typed : List ℕ) : Type 0 where
 pub record TypesIn (old new : Peer) (input : List ℕ) : Type 0 where
   pub typed : List ℕ
   pub through : LetsThrough old.typing.leave input typed new.typing.leave
-  pub prints : old.way ≡ Window → Prints (record old { typing = new.typing }) new typed
-  pub none : (old.way ≡ Window → ⊥) → typed ≡ [] → new.frames ≡ old.frames
-  pub presses : (old.way ≡ Window → ⊥) → (typed ≡ [] → ⊥) → Presses old new typed
+  pub prints : old.subcommand ≡ Window → Prints (record old { typing = new.typing }) new typed
+  pub none : (old.subcommand ≡ Window → ⊥) → typed ≡ [] → new.frames ≡ old.frames
+  pub presses : (old.subcommand ≡ Window → ⊥) → (typed ≡ [] → ⊥) → Presses old new typed
 
 -- `fit` is put down only while the session waits for no key, or nothing is.
 abbrev pub Fits : Peer → Peer → Type 0

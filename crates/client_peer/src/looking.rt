@@ -7,7 +7,7 @@ ghost use Rattle.client_peer.specs.Typing.{Fits};
 use crate::notice::NoticeStage;
 use crate::peer::Peer;
 use attach_proto::Why;
-use client_words::{Fault, InputStage, Words};
+use client_words::{Arguments, InputStage, PeerFault};
 
 // How long the server may take to let a client in that can leave, before its input is read anyway, in
 // milliseconds. Keys that are typed meanwhile wait.
@@ -54,10 +54,10 @@ pub struct Timers {
 }
 
 impl Timers {
-    pub fn new(words: &Words<'_>) -> Timers {
+    pub fn new(arguments: &Arguments<'_>) -> Timers {
         Timers {
-            again: words.again,
-            wait: words.wait,
+            again: arguments.again,
+            wait: arguments.wait,
             has_begun: false,
             paired: None,
             left_at: None,
@@ -101,7 +101,7 @@ impl Peer {
             return self.look_at_end(now);
         }
         if self.is_late(now) {
-            self.end_by(Err(Fault::NoAnswer));
+            self.end_by(Err(PeerFault::NoAnswer));
             return PeerTask::WaitShortly;
         }
         if self.is_to_begin(now) {
@@ -178,7 +178,7 @@ impl Peer {
         let is_written = !self.is_writing && !self.has_output();
         if is_written || self.is_lost() {
             PeerTask::End
-        } else if !self.way.is_window() {
+        } else if !self.subcommand.is_window() {
             PeerTask::Wait
         } else if now.saturating_sub(ended) >= LAST_WRITING {
             PeerTask::End
@@ -189,14 +189,14 @@ impl Peer {
 
     // Whether an answer was waited for too long.
     fn is_late(&self, now: u64) -> bool {
-        (self.way.is_command() || self.way.is_ping())
+        (self.subcommand.is_command() || self.subcommand.is_ping())
             && self.times.wait > 0
             && now >= u64::from(self.times.wait) * 1000
     }
 
     // Whether standard input is to be read now.
     fn is_to_begin(&self, now: u64) -> bool {
-        (self.way.is_attach() || self.way.is_window())
+        (self.subcommand.is_attach() || self.subcommand.is_window())
             && !self.times.has_begun
             && (self.is_welcome || self.typing.can_leave() && now >= WELCOME)
     }
@@ -255,7 +255,8 @@ impl Peer {
     fn waits_for_time(&self) -> bool {
         let has_notice = matches!(self.notice.stage, NoticeStage::New | NoticeStage::Due(_));
         let waits_for_input = self.typing.can_leave() && !self.times.has_begun;
-        let is_asked = (self.way.is_command() || self.way.is_ping()) && self.times.wait > 0;
+        let is_asked = (self.subcommand.is_command() || self.subcommand.is_ping())
+            && self.times.wait > 0;
         has_notice
             || waits_for_input
             || is_asked
@@ -266,19 +267,24 @@ impl Peer {
 
     // Whether an end is one after which the server may come back. One that was planned is followed by another server. A
     // peer that tries to come back may be refused for a while, but not for ever if it isn't known any more.
-    fn may_return(&self, end: Result<Why, Fault>, is_planned: bool) -> bool {
+    fn may_return(&self, end: Result<Why, PeerFault>, is_planned: bool) -> bool {
         match end {
             Ok(why) => why == Why::Quit && is_planned,
-            Err(Fault::Gone(Why::TrailFull)) => true,
-            Err(Fault::Gone(Why::Fault)) => !self.is_welcome && !self.is_unknown(),
-            Err(Fault::Ended | Fault::NoServer | Fault::NoToken | Fault::Refused(..)) => true,
+            Err(PeerFault::Gone(Why::TrailFull)) => true,
+            Err(PeerFault::Gone(Why::Fault)) => !self.is_welcome && !self.is_unknown(),
+            Err(
+                PeerFault::Ended
+                | PeerFault::NoServer
+                | PeerFault::NoToken
+                | PeerFault::Refused(..),
+            ) => true,
             Err(_) => false,
         }
     }
 
     fn is_unknown(&self) -> bool {
         matches!(&self.said, Some(said) if said.as_str().starts_with("unknown user"))
-            && self.way.is_attach()
+            && self.subcommand.is_attach()
     }
 
     /// Decides whether the peer comes back, after its connection has ended: if the socket's folder is
@@ -306,7 +312,7 @@ impl Peer {
 
     // Says on a client's terminal that its server is gone. CAN ends what may have been cut.
     fn tell_loss(&mut self) {
-        if !self.way.is_attach() {
+        if !self.subcommand.is_attach() {
             return;
         }
         let text = b"the server is gone; waiting for it to come back (C-c leaves)";

@@ -3,7 +3,7 @@
 ghost use Rattle.client_peer.specs.Meeting.{Learns, Meets, StaysAway};
 
 use crate::peer::Peer;
-use client_words::Fault;
+use client_words::PeerFault;
 
 /// What stands beside a socket about the session that is served there.
 #[derive(Drop)]
@@ -34,7 +34,7 @@ impl Peer {
         ensures { Learns self.old mark is_here self.new }
     {
         let is_own = self.end.is_none() && is_here && mark.is_current;
-        if is_own || !self.way.is_window() {
+        if is_own || !self.subcommand.is_window() {
             self.session = mark.name;
         }
     }
@@ -43,7 +43,7 @@ impl Peer {
     pub fn meets(&self, mark: &SessionMark) -> Meeting
         ensures { Meets self.now mark.now result }
     {
-        let needs_name = self.way.is_window();
+        let needs_name = self.subcommand.is_window();
         if self.session.is_empty() || mark.name.is_empty() {
             return if needs_name {
                 Meeting::Unnamed
@@ -68,11 +68,11 @@ impl Peer {
         self.is_final = true;
         self.is_unsure = met != Meeting::Another;
         if met == Meeting::Another {
-            self.end = Some(Err(Fault::OtherSession));
+            self.end = Some(Err(PeerFault::OtherSession));
         } else if self.loss.is_some() {
             self.end = self.loss;
         } else {
-            self.end_by(Err(Fault::Ended));
+            self.end_by(Err(PeerFault::Ended));
         }
     }
 }

@@ -5,7 +5,7 @@ ghost use Rattle.client_peer.specs.Meeting.{StaysClosed};
 ghost use Rattle.client_peer.specs.Showing.{Keeps};
 
 use crate::peer::Peer;
-use client_words::{Fault, put_visible};
+use client_words::{PeerFault, put_visible};
 use program_words::explain;
 use std::alloc::{AllocError, Global};
 use std::io::Write;
@@ -82,7 +82,7 @@ fn cut(text: &[u8], most: usize) -> &[u8] {
 impl Peer {
     /// Takes a text that came after the client was let in. One of the session stands on the status
     /// line, too; if it is a refusal by number, its meaning is shown beside it.
-    pub fn hear_later(&mut self, text: &str) -> Result<(), Fault>
+    pub fn hear_later(&mut self, text: &str) -> Result<(), PeerFault>
         ensures keeps { Keeps self.old self.new }
         ensures closed { StaysClosed self.old self.new }
     {
@@ -120,7 +120,7 @@ impl Peer {
 
     /// Puts the text down. The terminal's place and rendition are saved and restored (DECSC, DECRC), and
     /// reverse on this line is used by no draw.
-    pub fn put_notice(&mut self) -> Result<(), Fault> {
+    pub fn put_notice(&mut self) -> Result<(), PeerFault> {
         let columns = usize::from(self.columns).saturating_sub(1);
         write!(self.bytes, "\x1b7\x1b[{};1H\x1b[0;7m", self.rows)?;
         self.bytes
@@ -130,7 +130,7 @@ impl Peer {
     }
 
     /// Shows the help, unless a draw is half written. It consists of functions that draws use.
-    pub fn help(&mut self) -> Result<(), Fault>
+    pub fn help(&mut self) -> Result<(), PeerFault>
         ensures { self.new.typing ≡ self.old.typing }
     {
         if self.is_cut || self.is_covered {

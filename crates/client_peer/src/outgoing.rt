@@ -11,7 +11,7 @@ ghost use Rattle.client_peer.specs.Sending.{HasServer, Prints, Holds, HoldsLast,
 
 use crate::peer::Peer;
 use attach_proto::{Kind, LONGEST, Message, head_of, write_message};
-use client_words::Fault;
+use client_words::PeerFault;
 use std::alloc::AllocError;
 use std::mem;
 
@@ -153,7 +153,7 @@ impl Peer {
     }
 
     /// Asks for a whole draw: RESIZE, with the size that the terminal has.
-    pub fn redraw(&mut self) -> Result<(), Fault>
+    pub fn redraw(&mut self) -> Result<(), PeerFault>
         ensures ok { OnOk result (Puts self.old self.new
             (spelling (Message.Resize self.old.rows self.old.columns))) }
         ensures err { OnErr result (self.new.frames.items ≡ self.old.frames.items) }
@@ -233,7 +233,7 @@ impl Peer {
         let mut frames = batch.frames;
         let kept = frames.extend_from_slice(&self.frames);
         if kept.is_err() {
-            self.end_by(Err(Fault::NoMemory));
+            self.end_by(Err(PeerFault::NoMemory));
             return kept;
         }
         self.frames = frames;

@@ -15,7 +15,7 @@ use crate::notice::Notice;
 use attach_proto::{Message, Why};
 use client_page::KeptPage;
 use client_typing::Typing;
-use client_words::{Fault, Size, Way, Words};
+use client_words::{Arguments, PeerFault, Subcommand, TerminalSize};
 use draw_check::DrawCheck;
 use std::alloc::Global;
 use std::mem;
@@ -24,7 +24,7 @@ use std::mem;
 #[derive(Drop)]
 pub struct Peer {
     pub alloc: Global,
-    pub way: Way,
+    pub subcommand: Subcommand,
     /// The size of a client's terminal or of a window.
     pub rows: u16,
     pub columns: u16,
@@ -81,30 +81,30 @@ pub struct Peer {
     /// The session's last text before it let the peer in.
     pub said: Option<String>,
     /// How the connection ended.
-    pub end: Option<Result<Why, Fault>>,
+    pub end: Option<Result<Why, PeerFault>>,
     /// How the connection ended that is to be replaced by another one.
-    pub loss: Option<Result<Why, Fault>>,
+    pub loss: Option<Result<Why, PeerFault>>,
     /// The peer doesn't come back.
     pub is_final: bool,
     /// Why standard input or standard output failed.
-    pub fault: Option<Fault>,
+    pub fault: Option<PeerFault>,
     /// A line of the sizes' file wasn't a size.
     pub has_dropped: bool,
     pub times: Timers,
 }
 
 impl Peer {
-    pub fn new(alloc: Global, words: &Words<'_>) -> Peer
-        ensures way { result.way ≡ words.now.way }
+    pub fn new(alloc: Global, arguments: &Arguments<'_>) -> Peer
+        ensures subcommand { result.subcommand ≡ arguments.now.subcommand }
         ensures none { result.bytes.items ≡ [] }
         ensures unread { result.draws ≡ place_after [] }
     {
         Peer {
             alloc,
-            way: words.way,
-            rows: words.rows,
-            columns: words.columns,
-            fits: words.fit,
+            subcommand: arguments.subcommand,
+            rows: arguments.rows,
+            columns: arguments.columns,
+            fits: arguments.fit,
             bytes: Vec::new(alloc),
             draws: DrawCheck::new(),
             has_drawn: false,
@@ -121,13 +121,13 @@ impl Peer {
             is_shut: false,
             connection: 0,
             held: Vec::new(alloc),
-            page: KeptPage::new(alloc, words),
+            page: KeptPage::new(alloc, arguments),
             number: 0,
             page_number: 0,
             is_reopening: false,
             session: Vec::new(alloc),
             is_unsure: false,
-            typing: Typing::new(words),
+            typing: Typing::new(arguments),
             is_welcome: false,
             was_welcome: false,
             said: None,
@@ -136,7 +136,7 @@ impl Peer {
             is_final: false,
             fault: None,
             has_dropped: false,
-            times: Timers::new(words),
+            times: Timers::new(arguments),
         }
     }
 
@@ -187,7 +187,7 @@ impl Peer {
     }
 
     /// Notes how the connection ended. Only the first call counts.
-    pub fn end_by(&mut self, end: Result<Why, Fault>)
+    pub fn end_by(&mut self, end: Result<Why, PeerFault>)
         ensures ends { self.old.end ≡ None → self.new.end ≡ Some end }
         ensures some { IsSome self.new.end }
         ensures first { IsSome self.old.end → self.new ≡ self.old }
@@ -199,13 +199,13 @@ impl Peer {
     }
 
     /// How the peer ended. A fault of its input or output replaces a good end.
-    pub fn ending(&self) -> Result<Why, Fault>
+    pub fn ending(&self) -> Result<Why, PeerFault>
         ensures { result ≡ ending_of self.now.end self.now.fault }
     {
         match (self.end, self.fault) {
             (Some(Ok(_)), Some(fault)) => Err(fault),
             (Some(end), _) => end,
-            (None, _) => Err(Fault::Ended),
+            (None, _) => Err(PeerFault::Ended),
         }
     }
 
@@ -217,7 +217,7 @@ impl Peer {
     }
 
     /// Takes a new size of the terminal, even if it is the old one: then all is drawn anew.
-    pub fn resize(&mut self, size: Size) -> Result<(), Fault>
+    pub fn resize(&mut self, size: TerminalSize) -> Result<(), PeerFault>
         ensures size { (self.new.rows ≡ size.rows) × (self.new.columns ≡ size.columns) }
         ensures asks { OnOk result (self.new.frames.items ≡ self.old.frames.items
             ++ spelling (Message.Resize size.rows size.columns)) }
@@ -256,7 +256,7 @@ impl Peer {
 
     /// Notes that it was written, or why it wasn't: then the peer ends. A window that has ended anyway
     /// may have a program that reads no more.
-    pub fn end_writing(&mut self, fault: Option<Fault>)
+    pub fn end_writing(&mut self, fault: Option<PeerFault>)
         ensures written { fault ≡ None → self.new ≡ record self.old { is_writing = false } }
         ensures failed { IsSome fault → (self.new.is_final ≡ true) × IsSome self.new.end
             × (self.old.end ≡ None → self.new.fault ≡ fault) }
@@ -265,7 +265,7 @@ impl Peer {
         let Some(fault) = fault else {
             return;
         };
-        if self.end.is_none() || !self.way.is_window() {
+        if self.end.is_none() || !self.subcommand.is_window() {
             self.fault = Some(fault);
         }
         self.bytes.clear();

@@ -1,8 +1,8 @@
 //! Sorts the messages that come from the server.
 
 ghost use Rattle.std.specs.Prelude.{◌≡◌, ◌++◌, [], Ok, Err, Some, OnOk, OnErr, IfOk};
-ghost use Rattle.client_words.specs.declared.words.Way.TheVariants.{Attach, Ping};
-ghost use Rattle.client_words.specs.declared.fault.Fault.TheVariants.{Ended};
+ghost use Rattle.client_words.specs.declared.arguments.Subcommand.TheVariants.{Attach, Ping};
+ghost use Rattle.client_words.specs.declared.fault.PeerFault.TheVariants.{Ended};
 ghost use Rattle.client_peer.specs.Ending.{end_for};
 ghost use Rattle.client_peer.specs.Meeting.{Meets, Opens, StaysClosed};
 ghost use Rattle.client_peer.specs.Showing.{Keeps, Adds, PassesOn, StopsAt};
@@ -11,7 +11,7 @@ ghost use Rattle.client_peer.specs.declared.meeting.Meeting.TheVariants.{Same};
 use crate::meeting::{Meeting, SessionMark};
 use crate::peer::Peer;
 use attach_proto::{LONGEST, Message, ProtoFault, Reader, Told, Why};
-use client_words::{Fault, Way, put_visible};
+use client_words::{PeerFault, Subcommand, put_visible};
 use std::alloc::Global;
 use std::io::Write;
 
@@ -19,18 +19,18 @@ use std::io::Write;
 const MOST_WAITING: usize = 65_536;
 
 // How a peer ends after the server's GONE.
-fn ended(way: Way, why: Why) -> Result<Why, Fault>
-    ensures { result ≡ end_for way why }
+fn ended(subcommand: Subcommand, why: Why) -> Result<Why, PeerFault>
+    ensures { result ≡ end_for subcommand why }
 {
     match why {
         Why::Detached | Why::Quit => Ok(why),
-        Why::Killed if way.is_window() => Ok(why),
-        _ => Err(Fault::Gone(why)),
+        Why::Killed if subcommand.is_window() => Ok(why),
+        _ => Err(PeerFault::Gone(why)),
     }
 }
 
 impl Peer {
-    fn put(&mut self, bytes: &[u8]) -> Result<(), Fault>
+    fn put(&mut self, bytes: &[u8]) -> Result<(), PeerFault>
         ensures ok { OnOk result (Adds self.old self.new bytes.now) }
         ensures err { OnErr result (Keeps self.old self.new) }
         ensures same { self.new ≡ record self.old { bytes = self.new.bytes } }
@@ -41,20 +41,20 @@ impl Peer {
 
     // The bytes of a draw for a client's terminal. None is passed on unless all that came consist of
     // the functions that draws use.
-    pub(crate) fn put_draw(&mut self, bytes: &[u8]) -> Result<(), Fault>
+    pub(crate) fn put_draw(&mut self, bytes: &[u8]) -> Result<(), PeerFault>
         ensures ok { OnOk result (PassesOn self.old self.new) }
         ensures err { OnErr result (StopsAt self.old self.new) }
         ensures added { OnOk result (self.new.bytes.items ≡ self.old.bytes.items ++ bytes.now) }
         ensures same { self.new ≡ record self.old { bytes = self.new.bytes; draws = self.new.draws } }
     {
         if !self.draws.feed(bytes) {
-            return Err(Fault::NoDraw);
+            return Err(PeerFault::NoDraw);
         }
         self.put(bytes)
     }
 
     // Puts down a draw, unless the terminal shows the help: then a whole draw follows it.
-    fn show(&mut self, bytes: &[u8]) -> Result<(), Fault>
+    fn show(&mut self, bytes: &[u8]) -> Result<(), PeerFault>
         ensures ok { OnOk result (PassesOn self.old self.new) }
         ensures err { OnErr result (StopsAt self.old self.new) }
         ensures closed { StaysClosed self.old self.new }
@@ -85,7 +85,7 @@ impl Peer {
         self.is_covered = is_cut || self.is_helping;
     }
 
-    fn put_size(&mut self, rows: u16, columns: u16) -> Result<(), Fault>
+    fn put_size(&mut self, rows: u16, columns: u16) -> Result<(), PeerFault>
         ensures keeps { Keeps self.old self.new }
         ensures same { self.new ≡ record self.old { rows = rows; columns = columns; sizes = self.new.sizes } }
     {
@@ -95,7 +95,7 @@ impl Peer {
         Ok(())
     }
 
-    fn put_line(&mut self, line: &str) -> Result<(), Fault>
+    fn put_line(&mut self, line: &str) -> Result<(), PeerFault>
         ensures { self.new ≡ record self.old { bytes = self.new.bytes } }
     {
         put_visible(line.as_bytes(), &mut self.bytes)?;
@@ -104,12 +104,12 @@ impl Peer {
 
     // A text for a command is its output. Once a client is let in, its status line has the texts. The
     // last text before that is the reason if the peer isn't let in.
-    fn hear(&mut self, alloc: Global, text: &str) -> Result<(), Fault>
-        ensures way { self.new.way ≡ self.old.way }
-        ensures keeps { self.old.way ≡ Attach → Keeps self.old self.new }
+    fn hear(&mut self, alloc: Global, text: &str) -> Result<(), PeerFault>
+        ensures subcommand { self.new.subcommand ≡ self.old.subcommand }
+        ensures keeps { self.old.subcommand ≡ Attach → Keeps self.old self.new }
         ensures closed { StaysClosed self.old self.new }
     {
-        if self.way.is_command() {
+        if self.subcommand.is_command() {
             self.put_line(text)?;
         }
         self.said = Some(String::from_str(alloc, text)?);
@@ -118,19 +118,19 @@ impl Peer {
 
     // Notes that the peer is let in. A window gets its first size. One that is opened again has to know first whether
     // its page may be told.
-    fn welcome(&mut self) -> Result<(), Fault>
+    fn welcome(&mut self) -> Result<(), PeerFault>
         ensures keeps { Keeps self.old self.new }
         ensures closed { StaysClosed self.old self.new }
     {
-        if self.is_welcome || self.way.is_command() {
+        if self.is_welcome || self.subcommand.is_command() {
             return Ok(());
         }
-        self.is_reopening = self.was_welcome && self.way.is_window();
+        self.is_reopening = self.was_welcome && self.subcommand.is_window();
         self.is_welcome = true;
         self.was_welcome = true;
         self.loss = None;
         self.times.wants_fit = self.fits;
-        if self.way.is_window() && !self.is_reopening {
+        if self.subcommand.is_window() && !self.is_reopening {
             self.page_number = self.number;
             return self.put_size(self.rows, self.columns);
         }
@@ -140,7 +140,7 @@ impl Peer {
     /// Opens a window again, if the session at the socket is the one that it was in; its page is hidden from this
     /// server or isn't. If the server isn't told the page, the window's size is told again, so that its program draws
     /// anew.
-    pub fn reopen(&mut self, mark: &SessionMark, is_hidden: bool) -> Result<Meeting, Fault>
+    pub fn reopen(&mut self, mark: &SessionMark, is_hidden: bool) -> Result<Meeting, PeerFault>
         ensures meets { IfOk result (Meets self.old mark.now) }
         ensures ok { IfOk result (λ met. met ≡ Same → Opens self.old self.new is_hidden) }
         ensures stays { IfOk result (λ met. (met ≡ Same → ⊥) → self.new ≡ self.old) }
@@ -154,7 +154,7 @@ impl Peer {
         Ok(met)
     }
 
-    fn open(&mut self, is_hidden: bool) -> Result<(), Fault>
+    fn open(&mut self, is_hidden: bool) -> Result<(), PeerFault>
         ensures opens { OnOk result (Opens self.old self.new is_hidden) }
         ensures keeps { Keeps self.old self.new }
     {
@@ -168,7 +168,7 @@ impl Peer {
     }
 
     // Takes a window's new size.
-    fn resize_window(&mut self, rows: u16, columns: u16) -> Result<(), Fault>
+    fn resize_window(&mut self, rows: u16, columns: u16) -> Result<(), PeerFault>
         ensures keeps { Keeps self.old self.new }
         ensures closed { StaysClosed self.old self.new }
     {
@@ -179,18 +179,18 @@ impl Peer {
 
     // Puts down what a message has for the files that the peer writes to. A server of ours sends draws to
     // clients, and input and sizes to windows.
-    fn put_message(&mut self, message: &Message) -> Result<(), Fault>
+    fn put_message(&mut self, message: &Message) -> Result<(), PeerFault>
         ensures ok { OnOk result (PassesOn self.old self.new) }
         ensures err { OnErr result (StopsAt self.old self.new) }
         ensures closed { StaysClosed self.old self.new }
     {
         match message {
-            Message::Draw(bytes) if self.way.is_attach() => self.show(bytes.as_slice()),
-            Message::Say(text) if self.way.is_attach() && self.is_welcome => self.hear_later(
+            Message::Draw(bytes) if self.subcommand.is_attach() => self.show(bytes.as_slice()),
+            Message::Say(text) if self.subcommand.is_attach() && self.is_welcome => self.hear_later(
                 text.as_str(),
             ),
-            Message::Input(bytes) if self.way.is_window() => self.put(bytes.as_slice()),
-            Message::Size { rows, columns } if self.way.is_window() => self.resize_window(
+            Message::Input(bytes) if self.subcommand.is_window() => self.put(bytes.as_slice()),
+            Message::Size { rows, columns } if self.subcommand.is_window() => self.resize_window(
                 *rows, *columns,
             ),
             Message::Welcome(number) => {
@@ -198,14 +198,14 @@ impl Peer {
                 Ok(())
             }
             Message::Draw(_) | Message::Input(_) | Message::Size { .. } => {
-                Err(Fault::NoServerOfOurs)
+                Err(PeerFault::NoServerOfOurs)
             }
             _ => Ok(()),
         }
     }
 
     // Sorts one message. Returns why the server lets the peer go, if it does.
-    fn take(&mut self, alloc: Global, message: &Message) -> Result<Option<Why>, Fault>
+    fn take(&mut self, alloc: Global, message: &Message) -> Result<Option<Why>, PeerFault>
         ensures ok { OnOk result (PassesOn self.old self.new) }
         ensures err { OnErr result (StopsAt self.old self.new) }
         ensures closed { StaysClosed self.old self.new }
@@ -230,7 +230,7 @@ impl Peer {
         alloc: Global,
         messages: &[Message],
         fed: Result<(), ProtoFault>,
-    ) -> Result<Option<Why>, Fault>
+    ) -> Result<Option<Why>, PeerFault>
         ensures ok { OnOk result (PassesOn self.old self.new) }
         ensures err { OnErr result (StopsAt self.old self.new) }
         ensures closed { StaysClosed self.old self.new }
@@ -242,8 +242,8 @@ impl Peer {
         }
         match fed {
             Ok(()) => Ok(None),
-            Err(ProtoFault::NoMemory) => Err(Fault::NoMemory),
-            Err(_) => Err(Fault::NoServerOfOurs),
+            Err(ProtoFault::NoMemory) => Err(PeerFault::NoMemory),
+            Err(_) => Err(PeerFault::NoServerOfOurs),
         }
     }
 
@@ -261,23 +261,23 @@ impl Peer {
         alloc: Global,
         reader: &mut Reader,
         bytes: &[u8],
-    ) -> Result<Option<Result<Why, Fault>>, Fault>
+    ) -> Result<Option<Result<Why, PeerFault>>, PeerFault>
         ensures ok { OnOk result (PassesOn self.old self.new) }
         ensures err { OnErr result (StopsAt self.old self.new) }
         ensures closed { StaysClosed self.old self.new }
-        ensures ends { (self.old.way ≡ Ping → ⊥) → bytes.now ≡ [] → result ≡ Ok (Some (Err Ended)) }
+        ensures ends { (self.old.subcommand ≡ Ping → ⊥) → bytes.now ≡ [] → result ≡ Ok (Some (Err Ended)) }
     {
         // Any answer to `mux ping` shows that there is a server.
-        if matches!(self.way, Way::Ping) {
+        if matches!(self.subcommand, Subcommand::Ping) {
             return Ok(Some(Ok(Why::Detached)));
         }
         if bytes.is_empty() {
-            return Ok(Some(Err(Fault::Ended)));
+            return Ok(Some(Err(PeerFault::Ended)));
         }
         let mut messages = Vec::new(alloc);
         let fed = reader.feed(bytes, &mut messages);
         match self.take_all(alloc, messages.as_slice(), fed)? {
-            Some(why) => Ok(Some(ended(self.way, why))),
+            Some(why) => Ok(Some(ended(self.subcommand, why))),
             None => Ok(None),
         }
     }

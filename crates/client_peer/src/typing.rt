@@ -5,7 +5,7 @@ ghost use Rattle.client_peer.specs.Typing.{TypesIn, Presses};
 
 use crate::notice::NoticeStage;
 use crate::peer::Peer;
-use client_words::Fault;
+use client_words::PeerFault;
 use std::alloc::AllocError;
 use std::io::Write;
 
@@ -13,12 +13,12 @@ const ETX: u8 = 0x03;
 
 impl Peer {
     /// Takes what was read of standard input.
-    pub fn type_in(&mut self, input: &[u8]) -> Result<(), Fault>
+    pub fn type_in(&mut self, input: &[u8]) -> Result<(), PeerFault>
         ensures { OnOk result (TypesIn self.old self.new input.now) }
     {
         let mut bytes = Vec::new(self.alloc);
         self.typing.read(input, &mut bytes)?;
-        if self.way.is_window() {
+        if self.subcommand.is_window() {
             self.print(&bytes)?;
             return Ok(());
         }
@@ -31,7 +31,7 @@ impl Peer {
     }
 
     // Takes keys. They are dropped while no server is there, and one takes the help away.
-    fn press(&mut self, keys: &[u8]) -> Result<(), Fault>
+    fn press(&mut self, keys: &[u8]) -> Result<(), PeerFault>
         ensures presses { OnOk result (Presses self.old self.new keys.now) }
         ensures leave { self.new.typing.leave ≡ self.old.typing.leave }
     {
@@ -60,7 +60,7 @@ impl Peer {
     }
 
     // Takes keys of a client that has its own.
-    fn assist(&mut self, keys: &[u8]) -> Result<(), Fault>
+    fn assist(&mut self, keys: &[u8]) -> Result<(), PeerFault>
         ensures { self.new.typing.leave ≡ self.old.typing.leave }
     {
         let mut out = Vec::new(self.alloc);
@@ -79,7 +79,7 @@ impl Peer {
     }
 
     // Says how to come back.
-    fn tell_scrolled(&mut self) -> Result<(), Fault>
+    fn tell_scrolled(&mut self) -> Result<(), PeerFault>
         ensures { self.new.typing ≡ self.old.typing }
     {
         let back = self.typing.back;
@@ -97,7 +97,7 @@ impl Peer {
     }
 
     /// Takes the end of standard input.
-    pub fn end_input(&mut self, fault: Option<Fault>) -> Result<(), AllocError> {
+    pub fn end_input(&mut self, fault: Option<PeerFault>) -> Result<(), AllocError> {
         if fault.is_some() {
             self.fault = fault;
         }

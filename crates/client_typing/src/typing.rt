@@ -7,7 +7,7 @@ ghost use Rattle.keys.specs.Kept.{rest_of};
 ghost use Rattle.client_typing.specs.Own.{IsPageKey, turned, view_keys};
 ghost use Rattle.client_typing.specs.Fitting.{given_keys, fit_keys, awaits_key};
 
-use client_words::{Fault, InputStage, LeaveReader, Words};
+use client_words::{Arguments, InputStage, LeaveReader, PeerFault};
 use keys::KeyReader;
 use std::alloc::AllocError;
 use std::io::Write;
@@ -59,12 +59,12 @@ impl Typing {
     ghost use Rattle.client_typing.specs.Assisting.{Assists, IsAssisted, Takes};
     ghost use Rattle.client_typing.specs.Following.{LetsThrough, Follows, IsSet, IsUnread, StaysBeside, Rests};
 
-    pub fn new(words: &Words<'_>) -> Typing
+    pub fn new(arguments: &Arguments<'_>) -> Typing
         ensures stands { IsUnread result }
         ensures assisted { IsAssisted result [] [] }
-        ensures assists { result.assists ≡ words.now.assist }
+        ensures assists { result.assists ≡ arguments.now.assist }
     {
-        let leave = match words.leave {
+        let leave = match arguments.leave {
             Some(byte) => Some(LeaveReader::new(byte)),
             None => None,
         };
@@ -72,7 +72,7 @@ impl Typing {
             leave,
             keys: KeyReader::new(),
             is_begun: false,
-            assists: words.assist,
+            assists: arguments.assist,
             back: 0,
             reads: 0,
             asks_help: false,
@@ -178,7 +178,7 @@ impl Typing {
     }
 
     // Moves the view this many lines back.
-    fn scroll(&mut self, back: u16, out: &mut Vec<u8>) -> Result<(), Fault>
+    fn scroll(&mut self, back: u16, out: &mut Vec<u8>) -> Result<(), PeerFault>
         ensures given { OnOk result (out.new.items ≡ out.old.items ++ view_keys back) }
         ensures follows { OnOk result (Follows self.old.keys (view_keys back) self.new.keys) }
         ensures back { OnOk result (self.new.back ≡ back) }
@@ -191,7 +191,7 @@ impl Typing {
     }
 
     // Moves the view by a page.
-    fn turn(&mut self, is_up: bool, page: u16, out: &mut Vec<u8>) -> Result<(), Fault>
+    fn turn(&mut self, is_up: bool, page: u16, out: &mut Vec<u8>) -> Result<(), PeerFault>
         ensures assists { (keys : List ℕ) → Rests self.old → IsPageKey keys is_up
             → OnOk result (Assists self.old keys out.old.items self.new out.new.items) }
         ensures same { IsSet self.old self.new }
@@ -212,7 +212,7 @@ impl Typing {
 
     // Brings lines that were moved back to the end, before a key.
     #[tactic(auto, using(crate::proofs::Assisted::assists_none))]
-    fn come_to_end(&mut self, out: &mut Vec<u8>) -> Result<(), Fault>
+    fn come_to_end(&mut self, out: &mut Vec<u8>) -> Result<(), PeerFault>
         ensures assists { OnOk result (Assists self.old [] out.old.items self.new out.new.items) }
         ensures end { OnOk result (Rests self.new → self.new.back ≡ 0) }
         ensures same { IsSet self.old self.new }
@@ -224,7 +224,7 @@ impl Typing {
     }
 
     // Takes a key that isn't the client's own. Lines that were moved back come to the end first.
-    fn press(&mut self, key: u8, is_last: bool, out: &mut Vec<u8>) -> Result<(), Fault>
+    fn press(&mut self, key: u8, is_last: bool, out: &mut Vec<u8>) -> Result<(), PeerFault>
         ensures assists { OnOk result (Assists self.old (key ∷ []) out.old.items self.new out.new.items) }
         ensures same { IsSet self.old self.new }
     {
@@ -233,7 +233,7 @@ impl Typing {
     }
 
     // Passes a key on. The command key waits for the one after it, which may ask for the help: that pair isn't sent.
-    fn pass(&mut self, key: u8, is_last: bool, out: &mut Vec<u8>) -> Result<(), Fault>
+    fn pass(&mut self, key: u8, is_last: bool, out: &mut Vec<u8>) -> Result<(), PeerFault>
         ensures assists { (Rests self.old → self.old.back ≡ 0)
             → OnOk result (Assists self.old (key ∷ []) out.old.items self.new out.new.items) }
         ensures same { IsSet self.old self.new }
@@ -256,7 +256,12 @@ impl Typing {
     }
 
     // Takes the first of some keys, or those to scroll by a page. Returns the keys after them.
-    fn take<'k>(&mut self, keys: &'k [u8], page: u16, out: &mut Vec<u8>) -> Result<&'k [u8], Fault>
+    fn take<'k>(
+        &mut self,
+        keys: &'k [u8],
+        page: u16,
+        out: &mut Vec<u8>,
+    ) -> Result<&'k [u8], PeerFault>
         ensures takes { IfOk result (λ later. Takes self.old keys.now later.now out.old.items
             self.new out.new.items) }
         ensures fewer { 0 < length keys.now → IfOk result (λ later. length later.now < length keys.now) }
@@ -276,7 +281,7 @@ impl Typing {
     }
 
     /// Appends what is to be sent of some keys. `page` is how many lines a page has.
-    pub fn assist(&mut self, keys: &[u8], page: u16, out: &mut Vec<u8>) -> Result<(), Fault>
+    pub fn assist(&mut self, keys: &[u8], page: u16, out: &mut Vec<u8>) -> Result<(), PeerFault>
         ensures assists { OnOk result (Assists self.old keys.now out.old.items self.new out.new.items) }
         ensures same { IsSet self.old self.new }
     {

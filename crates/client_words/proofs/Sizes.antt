@@ -9,7 +9,7 @@ use Rattle.std.proofs.lemmas.List.Elements.{filter_map-append}
 use Rattle.std.proofs.lemmas.List.Folds.{list_any-append}
 use Rattle.std.proofs.lemmas.Bool.Decides.{nat_tests}
 use Rattle.std.proofs.lemmas.Grind.{common_steps}
-use Rattle.client_words.specs.declared.size_lines.Size.{Size}
+use Rattle.client_words.specs.declared.size_lines.TerminalSize.{TerminalSize}
 use Rattle.client_words.specs.Lines.{is_blank, is_number, number_of, size_by, size_of, last_size, has_other}
 
 -- ---- a line
@@ -18,7 +18,7 @@ pub by_none : (rows : Option ℕ) → size_by rows None ≡ None
 by_none None = refl
 by_none (Some rows) = refl
 
-pub chosen : (b : Bool) (size : Size) → then_some b size ≡ (if b then Some size else None)
+pub chosen : (b : Bool) (size : TerminalSize) → then_some b size ≡ (if b then Some size else None)
 chosen true size = refl
 chosen false size = refl
 
@@ -98,7 +98,7 @@ last_or-more : {A : Type 0} (o : Option A) (xs : List A) (x : A) → last_or o (
 last_or-more o [] x = refl
 last_or-more o (y ∷ xs) x = last_or-more (Some y) xs x
 
-sized : (sizes : List Size) (size : Option Size) (line : List ℕ) → size_of line ≡ size
+sized : (sizes : List TerminalSize) (size : Option TerminalSize) (line : List ℕ) → size_of line ≡ size
     → last_or None (sizes ++ filter_map size_of (line ∷ [])) ≡ option_or size (last_or None sizes)
 sized sizes None line e = rw e (simp append-nil)
 sized sizes (Some size) line e = rw e (last_or-more None sizes size)

@@ -5,7 +5,7 @@ use Rattle.std.specs.List.{list_all, list_any, before_first, after_first, slice_
 use Rattle.std.specs.List.{filter_map, last_or}
 use Rattle.std.specs.Char.{is_ascii_digit}
 use Rattle.std.specs.Str.Parse.{digits_value}
-use Rattle.client_words.specs.declared.size_lines.Size.{Size}
+use Rattle.client_words.specs.declared.size_lines.TerminalSize.{TerminalSize}
 
 -- ---- one line, without its line feed
 
@@ -24,13 +24,13 @@ number_of word = if is_number word then Some (digits_value 10 word) else None
 abbrev pub is_size : ℕ → ℕ → Bool
 is_size rows columns = nat_le 4 rows && nat_le rows 200 && nat_le 20 columns && nat_le columns 300
 
-abbrev pub size_by : Option ℕ → Option ℕ → Option Size
+abbrev pub size_by : Option ℕ → Option ℕ → Option TerminalSize
 size_by (Some rows) (Some columns) =
     if is_size rows columns then Some (record { rows = rows; columns = columns }) else None
 size_by _ _ = None
 
 -- the numbers before and after the first blank
-unfoldable pub size_of : List ℕ → Option Size
+unfoldable pub size_of : List ℕ → Option TerminalSize
 size_of line =
     size_by (number_of (before_first is_blank line)) (number_of (after_first is_blank line))
 
@@ -60,7 +60,7 @@ unended bytes = last_of (slice_split is_feed bytes)
 -- ---- what lines say
 
 -- the last size that lines say
-abbrev pub last_size : List (List ℕ) → Option Size
+abbrev pub last_size : List (List ℕ) → Option TerminalSize
 last_size lines = last_or None (filter_map size_of lines)
 
 -- whether a line says no size

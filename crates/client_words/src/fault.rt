@@ -1,6 +1,6 @@
 //! What can go wrong for a peer, and how to say it.
 
-use crate::words::Words;
+use crate::arguments::Arguments;
 use attach_proto::{Why, WriteFault};
 use std::alloc::{AllocError, AllocFailed};
 use std::io::ErrorKind;
@@ -8,7 +8,7 @@ use std::{fmt, io};
 
 /// Why `mux` failed.
 #[derive(Clone, Copy)]
-pub enum Fault {
+pub enum PeerFault {
     /// No frame is long enough for the arguments.
     TooLong,
     NoToken,
@@ -48,19 +48,23 @@ pub enum RefusedPart {
 
 impl RefusedPart {
     // What could not be done, with the path that it was done to.
-    fn write<W: fmt::Write>(self, words: &Words<'_>, f: &mut fmt::Formatter<W>) -> fmt::Result {
+    fn write<W: fmt::Write>(
+        self,
+        arguments: &Arguments<'_>,
+        f: &mut fmt::Formatter<W>,
+    ) -> fmt::Result {
         match self {
-            RefusedPart::Token => write!(f, "can't read token file {}: ", words.token),
+            RefusedPart::Token => write!(f, "can't read token file {}: ", arguments.token),
             RefusedPart::Sizes => write!(
                 f,
                 "can't open sizes file {}: ",
-                words.sizes.unwrap_or("")
+                arguments.sizes.unwrap_or("")
             ),
-            RefusedPart::Socket => write!(f, "can't connect to {}: ", words.socket),
+            RefusedPart::Socket => write!(f, "can't connect to {}: ", arguments.socket),
             RefusedPart::Input => f.write_str("can't read standard input: "),
             RefusedPart::Output => f.write_str("can't write to standard output: "),
-            RefusedPart::Stream => write!(f, "lost the server at {}: ", words.socket),
-            RefusedPart::Other => write!(f, "{}: ", words.place()),
+            RefusedPart::Stream => write!(f, "lost the server at {}: ", arguments.socket),
+            RefusedPart::Other => write!(f, "{}: ", arguments.place()),
         }
     }
 
@@ -99,11 +103,11 @@ pub fn gone(why: Why) -> &'static str {
     }
 }
 
-impl Fault {
+impl PeerFault {
     /// The exit status: 2 if the arguments are at fault.
     pub fn status(self) -> u8 {
         match self {
-            Fault::TooLong => 2,
+            PeerFault::TooLong => 2,
             _ => 1,
         }
     }
@@ -112,33 +116,33 @@ impl Fault {
 /// A fault of a peer with these arguments, as a message.
 #[derive(Clone, Copy)]
 pub struct ToldFault<'a> {
-    pub fault: Fault,
-    pub words: &'a Words<'a>,
+    pub fault: PeerFault,
+    pub arguments: &'a Arguments<'a>,
 }
 
 impl ToldFault<'_> {
     // A fault of the server at the socket.
     fn server<W: fmt::Write>(&self, f: &mut fmt::Formatter<W>) -> fmt::Result {
-        let socket = self.words.socket;
+        let socket = self.arguments.socket;
         match self.fault {
-            Fault::NoServer => write!(
+            PeerFault::NoServer => write!(
                 f,
                 "no server at {socket}: start it with 'muxd --socket {socket} --users PATH'"
             ),
-            Fault::NoServerOfOurs => write!(
+            PeerFault::NoServerOfOurs => write!(
                 f,
                 "the server at {socket} doesn't speak this protocol: is it another program or version?"
             ),
-            Fault::NoDraw => write!(
+            PeerFault::NoDraw => write!(
                 f,
                 "the server sent what no draw has: {socket}: nothing of it was shown (ask who runs it)"
             ),
-            Fault::OtherSession => write!(
+            PeerFault::OtherSession => write!(
                 f,
                 "another session is at {socket} now: the one before has ended"
             ),
-            Fault::NoAnswer => {
-                let wait = self.words.wait;
+            PeerFault::NoAnswer => {
+                let wait = self.arguments.wait;
                 write!(
                     f,
                     "no answer from {socket} within {wait} s: it may come later (--wait)"
@@ -153,7 +157,7 @@ impl ToldFault<'_> {
 
     // Why the server let the peer go, which peer it was, and what to do.
     fn gone<W: fmt::Write>(&self, why: Why, f: &mut fmt::Formatter<W>) -> fmt::Result {
-        write!(f, "{}: {}", gone(why), self.words.place())?;
+        write!(f, "{}: {}", gone(why), self.arguments.place())?;
         f.write_str(match why {
             Why::Fault => ": see the server's log",
             Why::TrailFull => ": start another session",
@@ -163,9 +167,12 @@ impl ToldFault<'_> {
 
     // A fault of the token's file.
     fn token<W: fmt::Write>(&self, f: &mut fmt::Formatter<W>) -> fmt::Result {
-        let token = self.words.token;
+        let token = self.arguments.token;
         match self.fault {
-            Fault::Writable => write!(f, "others may write the token's file: chmod go-w {token}"),
+            PeerFault::Writable => write!(
+                f,
+                "others may write the token's file: chmod go-w {token}"
+            ),
             _ => write!(
                 f,
                 "no token in {token}: the file must have 64 digits of 0 to 9 and a to f, and nothing else"
@@ -177,22 +184,22 @@ impl ToldFault<'_> {
 impl fmt::Display for ToldFault<'_> {
     fn fmt<W: fmt::Write>(&self, f: &mut fmt::Formatter<W>) -> fmt::Result {
         match self.fault {
-            Fault::TooLong => write!(
+            PeerFault::TooLong => write!(
                 f,
                 "the arguments are too long: {}: a name has at most 255 bytes, a command about 8,000",
-                self.words.place()
+                self.arguments.place()
             ),
-            Fault::Writable | Fault::NoToken => self.token(f),
-            Fault::NoServer
-            | Fault::NoServerOfOurs
-            | Fault::NoDraw
-            | Fault::NoAnswer
-            | Fault::OtherSession
-            | Fault::Ended => self.server(f),
-            Fault::Gone(why) => self.gone(why, f),
-            Fault::NoMemory => write!(f, "out of memory: {}", self.words.place()),
-            Fault::Refused(part, error) => {
-                part.write(self.words, f)?;
+            PeerFault::Writable | PeerFault::NoToken => self.token(f),
+            PeerFault::NoServer
+            | PeerFault::NoServerOfOurs
+            | PeerFault::NoDraw
+            | PeerFault::NoAnswer
+            | PeerFault::OtherSession
+            | PeerFault::Ended => self.server(f),
+            PeerFault::Gone(why) => self.gone(why, f),
+            PeerFault::NoMemory => write!(f, "out of memory: {}", self.arguments.place()),
+            PeerFault::Refused(part, error) => {
+                part.write(self.arguments, f)?;
                 write_error(error, f)?;
                 f.write_str(part.advice())
             }
@@ -200,29 +207,29 @@ impl fmt::Display for ToldFault<'_> {
     }
 }
 
-impl From<WriteFault> for Fault {
-    fn from(fault: WriteFault) -> Fault {
+impl From<WriteFault> for PeerFault {
+    fn from(fault: WriteFault) -> PeerFault {
         match fault {
-            WriteFault::Unspellable => Fault::TooLong,
-            WriteFault::NoMemory => Fault::NoMemory,
+            WriteFault::Unspellable => PeerFault::TooLong,
+            WriteFault::NoMemory => PeerFault::NoMemory,
         }
     }
 }
 
-impl From<io::Error> for Fault {
-    fn from(error: io::Error) -> Fault {
-        Fault::Refused(RefusedPart::Other, error)
+impl From<io::Error> for PeerFault {
+    fn from(error: io::Error) -> PeerFault {
+        PeerFault::Refused(RefusedPart::Other, error)
     }
 }
 
-impl From<AllocError> for Fault {
-    fn from(_error: AllocError) -> Fault {
-        Fault::NoMemory
+impl From<AllocError> for PeerFault {
+    fn from(_error: AllocError) -> PeerFault {
+        PeerFault::NoMemory
     }
 }
 
-impl<T: Drop> From<AllocFailed<T>> for Fault {
-    fn from(_error: AllocFailed<T>) -> Fault {
-        Fault::NoMemory
+impl<T: Drop> From<AllocFailed<T>> for PeerFault {
+    fn from(_error: AllocFailed<T>) -> PeerFault {
+        PeerFault::NoMemory
     }
 }

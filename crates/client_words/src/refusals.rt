@@ -1,17 +1,17 @@
 //! What refusals mean that are a number or a bad size, and what was refused.
 
+use crate::arguments::{Arguments, Subcommand};
 use crate::visible::put_visible;
-use crate::words::{Way, Words};
 use program_words::explain as explain_number;
 use std::alloc::Global;
 use std::io;
 use std::io::Write;
 
 // The sizes that a peer can have, as they follow a refusal.
-fn bounds(way: Way) -> &'static [u8] {
-    match way {
-        Way::Attach => b" (4 to 200 lines by 20 to 300 columns)",
-        Way::Window | Way::Command | Way::Ping => {
+fn bounds(subcommand: Subcommand) -> &'static [u8] {
+    match subcommand {
+        Subcommand::Attach => b" (4 to 200 lines by 20 to 300 columns)",
+        Subcommand::Window | Subcommand::Command | Subcommand::Ping => {
             b" (2 to 200 lines by 2 to 300 columns, up to 2000 kept)"
         }
     }
@@ -38,16 +38,16 @@ fn is_plain(line: &str) -> bool {
 }
 
 // Puts what follows a refusal's text.
-fn put_explanation(said: &str, words: &Words<'_>, out: &mut Vec<u8>) -> io::Result<()> {
+fn put_explanation(said: &str, arguments: &Arguments<'_>, out: &mut Vec<u8>) -> io::Result<()> {
     if said == "bad size" {
-        out.write_all(bounds(words.way))?;
+        out.write_all(bounds(arguments.subcommand))?;
     } else {
-        explain_number(said, words.line, out)?;
+        explain_number(said, arguments.line, out)?;
     }
-    if words.way.is_command() && is_plain(words.line) {
-        write!(out, ": {}", words.line)?;
+    if arguments.subcommand.is_command() && is_plain(arguments.line) {
+        write!(out, ": {}", arguments.line)?;
     } else {
-        write!(out, ": {}", words.place())?;
+        write!(out, ": {}", arguments.place())?;
     }
     out.write_all(advice(said))
 }
@@ -58,11 +58,11 @@ fn put_explanation(said: &str, words: &Words<'_>, out: &mut Vec<u8>) -> io::Resu
 pub fn explain<E: Write>(
     alloc: Global,
     said: &str,
-    words: &Words<'_>,
+    arguments: &Arguments<'_>,
     errors: &mut E,
 ) -> io::Result<()> {
     let mut text = Vec::new(alloc);
-    put_explanation(said, words, &mut text)?;
+    put_explanation(said, arguments, &mut text)?;
     let mut visible = Vec::new(alloc);
     put_visible(&text, &mut visible)?;
     errors.write_all(&visible)

@@ -75,7 +75,7 @@ fn list<O: Write>(output: &mut O) -> io::Result<()> {
 
 /// Writes why the arguments give no matches, and returns the exit status. Names the script if a word is
 /// one, lists the scripts below the help of `mux`, and says how to begin if there is no argument.
-pub fn tell_words<O: Write, E: Write>(
+pub fn tell_mistake<O: Write, E: Write>(
     error: &Error,
     words: &[String],
     output: &mut O,

@@ -56,21 +56,21 @@ fn is_size(rows: u16, columns: u16) -> bool
 
 /// The lines and columns of a client's terminal: 4 to 200 by 20 to 300.
 #[derive(Clone, Copy)]
-pub struct Size {
+pub struct TerminalSize {
     pub rows: u16,
     pub columns: u16,
 }
 
-impl Size {
+impl TerminalSize {
     /// The size that a line without its line feed says. None if the line isn't two numbers of one to
     /// four digits with a blank between them, or if no client's terminal may have the size.
-    pub fn read(line: &[u8]) -> Option<Size>
+    pub fn read(line: &[u8]) -> Option<TerminalSize>
         ensures { result ≡ size_of line.now }
     {
         let at = first_blank(line)?;
         let rows = read_number(&line[..at])?;
         let columns = read_number(&line[at + 1..])?;
-        is_size(rows, columns).then_some(Size { rows, columns })
+        is_size(rows, columns).then_some(TerminalSize { rows, columns })
     }
 }
 
@@ -105,7 +105,7 @@ impl SizeLines {
     }
 
     /// Takes a byte. If it ends a line, returns the size that the line says, if it says one.
-    fn take(&mut self, byte: u8) -> Option<Size>
+    fn take(&mut self, byte: u8) -> Option<TerminalSize>
         requires room { 64 ≤ vec_capacity self.old.line }
         ensures size { result ≡ (if is_feed byte then size_of self.old.line.items else None) }
         ensures stands { (bytes : List ℕ) → StandsFor self.old bytes
@@ -118,7 +118,7 @@ impl SizeLines {
             }
             return None;
         }
-        let size = Size::read(self.line.as_slice());
+        let size = TerminalSize::read(self.line.as_slice());
         self.has_dropped |= size.is_none();
         self.line.clear();
         size
@@ -126,7 +126,7 @@ impl SizeLines {
 
     /// Takes bytes. Returns the last size that the lines that end in them say. After an `Err` no byte
     /// was taken; once a call was `Ok`, no later call is an `Err`.
-    pub fn feed(&mut self, bytes: &[u8]) -> Result<Option<Size>, AllocError>
+    pub fn feed(&mut self, bytes: &[u8]) -> Result<Option<TerminalSize>, AllocError>
         ensures size { (before : List ℕ) → StandsFor self.old before
             → IfOk result (λ size. size ≡ last_size (ended (unended before ++ bytes.now))) }
         ensures stands { (before : List ℕ) → StandsFor self.old before

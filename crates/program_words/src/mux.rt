@@ -1,6 +1,6 @@
 //! The arguments of `mux`.
 
-use crate::table::{Kind, MOST, Need, Program, VERSION, Way, Word, matches_of};
+use crate::table::{ArgumentRow, Kind, MOST, Need, Program, SubcommandRow, VERSION, matches_of};
 use clap::{ArgMatches, Error};
 use std::alloc::Global;
 
@@ -20,8 +20,8 @@ const SIZE: Kind = Kind::Number {
     need: Need::Needed,
 };
 
-/// The user who asks. Each way but ping has it.
-const USER: Word = Word {
+/// The user who asks. Each subcommand but ping has it.
+const USER: ArgumentRow = ArgumentRow {
     name: "user",
     kind: Kind::Text {
         value: "NAME",
@@ -30,8 +30,8 @@ const USER: Word = Word {
     help: "The user's name",
 };
 
-/// The file with the user's token. Each way but ping has it.
-const TOKEN: Word = Word {
+/// The file with the user's token. Each subcommand but ping has it.
+const TOKEN: ArgumentRow = ArgumentRow {
     name: "token",
     kind: Kind::Text {
         value: "PATH",
@@ -40,8 +40,8 @@ const TOKEN: Word = Word {
     help: "The file with the user's token: 64 digits",
 };
 
-/// How long a way with one answer waits for it.
-const WAIT: Word = Word {
+/// How long a subcommand with one answer waits for it.
+const WAIT: ArgumentRow = ArgumentRow {
     name: "wait",
     kind: Kind::Number {
         value: "SECONDS",
@@ -65,7 +65,7 @@ static MUX: Program = Program {
     version: Some(VERSION),
     about: "Joins a session that muxd serves",
     example: Some(EXAMPLE),
-    words: &[Word {
+    arguments: &[ArgumentRow {
         name: "socket",
         kind: Kind::Text {
             value: "PATH",
@@ -73,24 +73,24 @@ static MUX: Program = Program {
         },
         help: "The server's socket",
     }],
-    ways: &[
-        Way {
+    subcommands: &[
+        SubcommandRow {
             name: "attach",
             about: "Shows the session: keys from standard input, draws to standard output",
-            words: &[
+            arguments: &[
                 USER,
                 TOKEN,
-                Word {
+                ArgumentRow {
                     name: "rows",
                     kind: SIZE,
                     help: "The terminal's lines, 4 to 200",
                 },
-                Word {
+                ArgumentRow {
                     name: "cols",
                     kind: SIZE,
                     help: "The terminal's columns, 20 to 300",
                 },
-                Word {
+                ArgumentRow {
                     name: "sizes",
                     kind: Kind::Text {
                         value: "PATH",
@@ -98,12 +98,12 @@ static MUX: Program = Program {
                     },
                     help: "A FIFO to read the terminal's new sizes from, as lines ROWS COLS",
                 },
-                Word {
+                ArgumentRow {
                     name: "why",
                     kind: Kind::Flag,
                     help: "Says on standard error why it ends, even without a fault",
                 },
-                Word {
+                ArgumentRow {
                     name: "leave",
                     kind: Kind::Number {
                         value: "BYTE",
@@ -113,40 +113,40 @@ static MUX: Program = Program {
                     },
                     help: "A byte (28 is C-\\) that leaves at once, even if the server hangs; type it twice to send it",
                 },
-                Word {
+                ArgumentRow {
                     name: "fit",
                     kind: Kind::Flag,
                     help: "Gives the window in focus the terminal's size, at the start and after each change of size",
                 },
-                Word {
+                ArgumentRow {
                     name: "assist",
                     kind: Kind::Flag,
                     help: "C-a ? shows the keys, Shift-PgUp and Shift-PgDn scroll, and refusals are explained",
                 },
-                Word {
+                ArgumentRow {
                     name: "again",
                     kind: SECONDS,
                     help: "How long to try to attach again, once the server is gone",
                 },
             ],
         },
-        Way {
+        SubcommandRow {
             name: "window",
             about: "Opens a window: output from standard input, input to standard output",
-            words: &[
+            arguments: &[
                 USER,
                 TOKEN,
-                Word {
+                ArgumentRow {
                     name: "rows",
                     kind: SIZE,
                     help: "The window's lines, 2 to 200",
                 },
-                Word {
+                ArgumentRow {
                     name: "cols",
                     kind: SIZE,
                     help: "The window's columns, 2 to 300",
                 },
-                Word {
+                ArgumentRow {
                     name: "title",
                     kind: Kind::Text {
                         value: "TEXT",
@@ -154,7 +154,7 @@ static MUX: Program = Program {
                     },
                     help: "The window's title, 1 to 40 characters",
                 },
-                Word {
+                ArgumentRow {
                     name: "keep",
                     kind: Kind::Number {
                         value: "N",
@@ -164,7 +164,7 @@ static MUX: Program = Program {
                     },
                     help: "How many lines to keep above the page, at most 2000",
                 },
-                Word {
+                ArgumentRow {
                     name: "sizes",
                     kind: Kind::Text {
                         value: "PATH",
@@ -172,21 +172,21 @@ static MUX: Program = Program {
                     },
                     help: "A file to write the window's new sizes to, as lines ROWS COLS",
                 },
-                Word {
+                ArgumentRow {
                     name: "stay",
                     kind: SECONDS,
                     help: "How long to keep the program and to try to open the window again, once the server is gone",
                 },
             ],
         },
-        Way {
+        SubcommandRow {
             name: "command",
             about: "Gives a command, and prints what is said to it",
-            words: &[
+            arguments: &[
                 USER,
                 TOKEN,
                 WAIT,
-                Word {
+                ArgumentRow {
                     name: "window",
                     kind: Kind::Number {
                         value: "N",
@@ -196,17 +196,17 @@ static MUX: Program = Program {
                     },
                     help: "The number of the window that the command acts on",
                 },
-                Word {
+                ArgumentRow {
                     name: "line",
                     kind: Kind::Bare { value: "LINE" },
                     help: "The command with its words, as one argument",
                 },
             ],
         },
-        Way {
+        SubcommandRow {
             name: "ping",
             about: "Asks whether a server answers, as nobody",
-            words: &[WAIT],
+            arguments: &[WAIT],
         },
     ],
 };

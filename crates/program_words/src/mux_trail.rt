@@ -1,11 +1,11 @@
 //! The arguments of `mux-trail`.
 
-use crate::table::{Kind, Need, Program, VERSION, Way, Word, matches_of};
+use crate::table::{ArgumentRow, Kind, Need, Program, SubcommandRow, VERSION, matches_of};
 use clap::{ArgMatches, Error};
 use std::alloc::Global;
 
 /// The owner of a session.
-const OWNER: Word = Word {
+const OWNER: ArgumentRow = ArgumentRow {
     name: "owner",
     kind: Kind::Text {
         value: "NAME",
@@ -15,7 +15,7 @@ const OWNER: Word = Word {
 };
 
 /// The place of the last entry that counts.
-const AT: Word = Word {
+const AT: ArgumentRow = ArgumentRow {
     name: "at",
     kind: Kind::Text {
         value: "PLACE|TIME",
@@ -25,7 +25,7 @@ const AT: Word = Word {
 };
 
 /// The users whose confinement is looked at.
-const CONFINED: Word = Word {
+const CONFINED: ArgumentRow = ArgumentRow {
     name: "confined",
     kind: Kind::Text {
         value: "USERS",
@@ -35,21 +35,21 @@ const CONFINED: Word = Word {
 };
 
 /// The trail's file.
-const FILE: Word = Word {
+const FILE: ArgumentRow = ArgumentRow {
     name: "file",
     kind: Kind::Bare { value: "FILE" },
     help: "A file with the trail of a session",
 };
 
 /// Waits for more at the file's end.
-const FOLLOW: Word = Word {
+const FOLLOW: ArgumentRow = ArgumentRow {
     name: "follow",
     kind: Kind::Flag,
     help: "Waits for more until the trail ends",
 };
 
 /// The user whose entries are printed.
-const USER: Word = Word {
+const USER: ArgumentRow = ArgumentRow {
     name: "user",
     kind: Kind::Text {
         value: "NAME",
@@ -59,7 +59,7 @@ const USER: Word = Word {
 };
 
 /// The window whose entries are printed.
-const WINDOW: Word = Word {
+const WINDOW: ArgumentRow = ArgumentRow {
     name: "window",
     kind: Kind::Text {
         value: "TITLE|SERIAL",
@@ -69,7 +69,7 @@ const WINDOW: Word = Word {
 };
 
 /// The time of the first entry that is printed.
-const SINCE: Word = Word {
+const SINCE: ArgumentRow = ArgumentRow {
     name: "since",
     kind: Kind::Text {
         value: "TIME",
@@ -79,7 +79,7 @@ const SINCE: Word = Word {
 };
 
 /// The time of the last entry that is printed.
-const UNTIL: Word = Word {
+const UNTIL: ArgumentRow = ArgumentRow {
     name: "until",
     kind: Kind::Text {
         value: "TIME",
@@ -93,23 +93,23 @@ static MUX_TRAIL: Program = Program {
     version: Some(VERSION),
     about: "Reads the trail of a session that users shared",
     example: None,
-    words: &[],
-    ways: &[
-        Way {
+    arguments: &[],
+    subcommands: &[
+        SubcommandRow {
             name: "check",
             about: "Judges whether the trail is legal",
-            words: &[OWNER, FILE],
+            arguments: &[OWNER, FILE],
         },
-        Way {
+        SubcommandRow {
             name: "log",
             about: "Prints who did what, a line an entry",
-            words: &[OWNER, USER, WINDOW, SINCE, UNTIL, FOLLOW, FILE],
+            arguments: &[OWNER, USER, WINDOW, SINCE, UNTIL, FOLLOW, FILE],
         },
-        Way {
+        SubcommandRow {
             name: "show",
             about: "Prints the trail's lines, with times that are read",
-            words: &[
-                Word {
+            arguments: &[
+                ArgumentRow {
                     name: "json",
                     kind: Kind::Flag,
                     help: "Prints each entry as a JSON object",
@@ -118,34 +118,34 @@ static MUX_TRAIL: Program = Program {
                 FILE,
             ],
         },
-        Way {
+        SubcommandRow {
             name: "who",
             about: "Prints who may do what, and who holds which lock",
-            words: &[OWNER, AT, CONFINED, FILE],
+            arguments: &[OWNER, AT, CONFINED, FILE],
         },
-        Way {
+        SubcommandRow {
             name: "setup",
             about: "Prints the setup that brings a new session to the same users and rights",
-            words: &[OWNER, AT, FILE],
+            arguments: &[OWNER, AT, FILE],
         },
-        Way {
+        SubcommandRow {
             name: "why",
             about: "Prints which acts decide whether a user has a bit on an object",
-            words: &[
+            arguments: &[
                 OWNER,
                 AT,
                 FILE,
-                Word {
+                ArgumentRow {
                     name: "user",
                     kind: Kind::Bare { value: "USER" },
                     help: "The name of a user",
                 },
-                Word {
+                ArgumentRow {
                     name: "bit",
                     kind: Kind::Bare { value: "BIT" },
                     help: "r, w or x",
                 },
-                Word {
+                ArgumentRow {
                     name: "object",
                     kind: Kind::Bare { value: "OBJECT" },
                     help: "A window's serial or title, or the name of a command",

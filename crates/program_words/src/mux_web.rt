@@ -1,6 +1,6 @@
 //! The arguments of `mux-web`.
 
-use crate::table::{Kind, Need, Program, VERSION, Word, matches_of};
+use crate::table::{ArgumentRow, Kind, Need, Program, VERSION, matches_of};
 use clap::{ArgMatches, Error};
 use std::alloc::Global;
 
@@ -13,8 +13,8 @@ static MUX_WEB: Program = Program {
     version: Some(VERSION),
     about: "Lets users join a session from their browsers",
     example: Some(EXAMPLE),
-    words: &[
-        Word {
+    arguments: &[
+        ArgumentRow {
             name: "socket",
             kind: Kind::Text {
                 value: "PATH",
@@ -22,7 +22,7 @@ static MUX_WEB: Program = Program {
             },
             help: "The server's socket",
         },
-        Word {
+        ArgumentRow {
             name: "listen",
             kind: Kind::Text {
                 value: "ADDRESS:PORT|PATH",
@@ -30,12 +30,12 @@ static MUX_WEB: Program = Program {
             },
             help: "Where browsers connect: an address of this machine, or a socket for a web server",
         },
-        Word {
+        ArgumentRow {
             name: "origin",
             kind: Kind::Texts { value: "URL" },
             help: "The page's address without a path, such as https://mux.example.org; may be given again",
         },
-        Word {
+        ArgumentRow {
             name: "watch",
             kind: Kind::Text {
                 value: "NAME",
@@ -43,7 +43,7 @@ static MUX_WEB: Program = Program {
             },
             help: "The user as whom anybody may watch",
         },
-        Word {
+        ArgumentRow {
             name: "watch-token",
             kind: Kind::Text {
                 value: "FILE",
@@ -51,7 +51,7 @@ static MUX_WEB: Program = Program {
             },
             help: "The file with that user's token",
         },
-        Word {
+        ArgumentRow {
             name: "window",
             kind: Kind::Text {
                 value: "WHICH",
@@ -59,7 +59,7 @@ static MUX_WEB: Program = Program {
             },
             help: "The window that watchers see, a number or a title [default: the first one]",
         },
-        Word {
+        ArgumentRow {
             name: "links",
             kind: Kind::Text {
                 value: "FOLDER",
@@ -67,7 +67,7 @@ static MUX_WEB: Program = Program {
             },
             help: "The folder of links that mux-user link makes; it must be yours",
         },
-        Word {
+        ArgumentRow {
             name: "most",
             kind: Kind::Number {
                 value: "N",
@@ -77,7 +77,7 @@ static MUX_WEB: Program = Program {
             },
             help: "How many pages may be open, 1 to 10000",
         },
-        Word {
+        ArgumentRow {
             name: "page",
             kind: Kind::Text {
                 value: "FOLDER",
@@ -85,13 +85,13 @@ static MUX_WEB: Program = Program {
             },
             help: "The folder with index.html, mux.js and mux.css [default: the installed one]",
         },
-        Word {
+        ArgumentRow {
             name: "log",
             kind: Kind::Flag,
             help: "Logs to standard error who comes and goes",
         },
     ],
-    ways: &[],
+    subcommands: &[],
 };
 
 /// The arguments of `mux-web` as they were understood; the first of `words` is the program's name.

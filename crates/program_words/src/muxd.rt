@@ -1,6 +1,6 @@
 //! The arguments of `muxd`.
 
-use crate::table::{Kind, Need, Program, VERSION, Word, matches_of};
+use crate::table::{ArgumentRow, Kind, Need, Program, VERSION, matches_of};
 use clap::{ArgMatches, Error};
 use std::alloc::Global;
 
@@ -17,8 +17,8 @@ static MUXD: Program = Program {
     version: Some(VERSION),
     about: "Serves a session that users share",
     example: Some(EXAMPLE),
-    words: &[
-        Word {
+    arguments: &[
+        ArgumentRow {
             name: "socket",
             kind: Kind::Text {
                 value: "PATH",
@@ -26,7 +26,7 @@ static MUXD: Program = Program {
             },
             help: "The socket to listen on",
         },
-        Word {
+        ArgumentRow {
             name: "users",
             kind: Kind::Text {
                 value: "PATH",
@@ -34,7 +34,7 @@ static MUXD: Program = Program {
             },
             help: "The users' file: lines of a name, a blank and 64 digits (0 to 9, a to f); the first is the owner",
         },
-        Word {
+        ArgumentRow {
             name: "setup",
             kind: Kind::Text {
                 value: "PATH",
@@ -42,7 +42,7 @@ static MUXD: Program = Program {
             },
             help: "A file with the owner's first commands, one per line",
         },
-        Word {
+        ArgumentRow {
             name: "loops",
             kind: Kind::Number {
                 value: "N",
@@ -52,7 +52,7 @@ static MUXD: Program = Program {
             },
             help: "How many loops serve, 1 to 8",
         },
-        Word {
+        ArgumentRow {
             name: "user-clients",
             kind: Kind::Number {
                 value: "N",
@@ -62,7 +62,7 @@ static MUXD: Program = Program {
             },
             help: "How many clients one user may have, 1 to 64",
         },
-        Word {
+        ArgumentRow {
             name: "user-windows",
             kind: Kind::Number {
                 value: "N",
@@ -72,7 +72,7 @@ static MUXD: Program = Program {
             },
             help: "How many windows one user may have, 1 to 40",
         },
-        Word {
+        ArgumentRow {
             name: "trail",
             kind: Kind::Text {
                 value: "PATH",
@@ -80,13 +80,13 @@ static MUXD: Program = Program {
             },
             help: "A new file for the session's trail, which mux-trail reads",
         },
-        Word {
+        ArgumentRow {
             name: "log",
             kind: Kind::Flag,
             help: "Logs to standard error who comes and goes",
         },
     ],
-    ways: &[],
+    subcommands: &[],
 };
 
 /// The arguments of `muxd` as they were understood; the first of `words` is the program's name.

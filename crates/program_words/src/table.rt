@@ -1,10 +1,12 @@
-//! A program's arguments as rows of a table.
+//! A program's arguments, as it was given them and as rows of a table.
 
 use clap::builder::ValueParser;
 use clap::error::ErrorKind;
 use clap::{Arg, ArgAction, ArgMatches, Command, Error};
 use std::alloc::{AllocError, Global};
+use std::env::Env;
 use std::io::Write;
+use std::{env, io};
 
 /// The version of the programs.
 pub const VERSION: &str = "0.1.0";
@@ -14,18 +16,18 @@ pub const MOST: i64 = 65_535;
 
 /// An argument of a command line.
 #[derive(Clone, Copy)]
-pub struct Word {
+pub struct ArgumentRow {
     pub name: &'static str,
     pub kind: Kind,
     pub help: &'static str,
 }
 
-/// A way to use a program, named by its first argument.
+/// A subcommand of a program, named by the first argument.
 #[derive(Clone, Copy)]
-pub struct Way {
+pub struct SubcommandRow {
     pub name: &'static str,
     pub about: &'static str,
-    pub words: &'static [Word],
+    pub arguments: &'static [ArgumentRow],
 }
 
 /// A program: what its help says, and the arguments that it takes.
@@ -36,10 +38,10 @@ pub struct Program {
     pub about: &'static str,
     /// The end of the help.
     pub example: Option<&'static str>,
-    /// The arguments that it takes, or that all of its ways take.
-    pub words: &'static [Word],
-    /// Empty for a program that has only one way.
-    pub ways: &'static [Way],
+    /// The arguments that it takes, or that all of its subcommands take.
+    pub arguments: &'static [ArgumentRow],
+    /// Empty for a program without subcommands.
+    pub subcommands: &'static [SubcommandRow],
 }
 
 /// How an argument is given; `value` is the name of its value in the help.
@@ -88,8 +90,8 @@ fn needing(arg: Arg<'static>, need: Need) -> Arg<'static> {
 }
 
 /// The argument that a row describes.
-fn arg_of(alloc: Global, word: Word) -> Arg<'static> {
-    let Word { name, kind, help } = word;
+fn arg_of(alloc: Global, row: ArgumentRow) -> Arg<'static> {
+    let ArgumentRow { name, kind, help } = row;
     let arg = Arg::new(alloc, name).help(help);
     match kind {
         Kind::Flag => arg.long(name).action(ArgAction::SetTrue),
@@ -110,44 +112,52 @@ fn arg_of(alloc: Global, word: Word) -> Arg<'static> {
 }
 
 /// The command, with the arguments of a table.
-fn with_words<'a>(
+fn with_arguments<'a>(
     alloc: Global,
     command: Command<'a>,
-    table: &[Word],
+    table: &[ArgumentRow],
 ) -> Result<Command<'a>, AllocError> {
     let mut command = command;
-    for word in table {
-        command = command.arg(arg_of(alloc, *word))?;
+    for row in table {
+        command = command.arg(arg_of(alloc, *row))?;
     }
     Ok(command)
 }
 
-/// The command of a way, with the arguments that all ways take, and after them its own.
-fn way_of<'a>(alloc: Global, shared: &[Word], way: &Way) -> Result<Command<'a>, AllocError> {
-    let command = Command::new(alloc, way.name).about(way.about);
-    with_words(alloc, with_words(alloc, command, shared)?, way.words)
-}
-
-/// The command, with one more way.
-fn with_way<'a>(
+/// The command of a subcommand, with the arguments that all subcommands take, and after them its own.
+fn subcommand_of<'a>(
     alloc: Global,
-    command: Command<'a>,
-    shared: &[Word],
-    way: &Way,
+    shared: &[ArgumentRow],
+    row: &SubcommandRow,
 ) -> Result<Command<'a>, AllocError> {
-    command.subcommand(way_of(alloc, shared, way)?)
+    let command = Command::new(alloc, row.name).about(row.about);
+    with_arguments(
+        alloc,
+        with_arguments(alloc, command, shared)?,
+        row.arguments,
+    )
 }
 
-/// The command, with the ways of a table, which share some arguments.
-fn with_ways<'a>(
+/// The command, with one more subcommand.
+fn with_subcommand<'a>(
     alloc: Global,
     command: Command<'a>,
-    shared: &[Word],
-    ways: &[Way],
+    shared: &[ArgumentRow],
+    row: &SubcommandRow,
+) -> Result<Command<'a>, AllocError> {
+    command.subcommand(subcommand_of(alloc, shared, row)?)
+}
+
+/// The command, with the subcommands of a table, which share some arguments.
+fn with_subcommands<'a>(
+    alloc: Global,
+    command: Command<'a>,
+    shared: &[ArgumentRow],
+    table: &[SubcommandRow],
 ) -> Result<Command<'a>, AllocError> {
     let mut command = command.subcommand_required(true);
-    for way in ways {
-        command = with_way(alloc, command, shared, way)?;
+    for row in table {
+        command = with_subcommand(alloc, command, shared, row)?;
     }
     Ok(command)
 }
@@ -161,10 +171,10 @@ fn command_of<'a>(alloc: Global, program: &Program) -> Result<Command<'a>, Alloc
     if let Some(example) = program.example {
         command = command.after_help(example);
     }
-    if program.ways.is_empty() {
-        with_words(alloc, command, program.words)
+    if program.subcommands.is_empty() {
+        with_arguments(alloc, command, program.arguments)
     } else {
-        with_ways(alloc, command, program.words, program.ways)
+        with_subcommands(alloc, command, program.arguments, program.subcommands)
     }
 }
 
@@ -191,4 +201,25 @@ pub fn tell<O: Write, E: Write>(error: &Error, output: &mut O, errors: &mut E) -
         Ok(()) => 0,
         Err(_) => 1,
     }
+}
+
+/// A program's name and the arguments that it was given.
+pub fn given<R: Env + AllocGlobal>(rt: &R, name: &str) -> io::Result<Vec<String>> {
+    let mut words = Vec::new(rt.alloc());
+    words.push(String::from_str(rt.alloc(), name)?)?;
+    for word in env::args(rt)?.skip(1) {
+        words.push(word)?;
+    }
+    Ok(words)
+}
+
+/// Writes why a program can't read its arguments, and gives the status to exit with: 2 for one that isn't
+/// UTF-8, 1 if memory was refused.
+pub fn not_given<E: Write>(program: &str, error: &io::Error, errors: &mut E) -> u8 {
+    if error.kind() == io::ErrorKind::InvalidData {
+        let _ = writeln!(errors, "{program}: an argument isn't UTF-8");
+        return 2;
+    }
+    let _ = writeln!(errors, "{program}: can't read its arguments: {error}");
+    1
 }

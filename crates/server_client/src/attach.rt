@@ -1,13 +1,13 @@
 //! Runs `mux`: a client, a window, a command, or a question whether the server answers.
 
 use crate::ending::{PeerEnding, tell_end, tell_fault, tell_unseen};
-use crate::host::{PeerHost, Sink, Source};
 use crate::opening::{prepare, warn_of_token};
 use crate::shared::{SharedPeer, start_thread};
 use crate::typing::{resize, type_out};
 use crate::waiting::{start, wait};
 use crate::writing::write_out;
-use client_words::{Fault, Words, words_of};
+use crate::{PeerHost, Sink, Source};
+use client_words::{Arguments, PeerFault, arguments_of};
 use std::alloc::{AllocError, Global};
 use std::fs::{File, Files};
 use std::io::Write;
@@ -48,14 +48,14 @@ impl<I: Source> Sources<I> {
 // Runs a peer to its end. A thread writes, one reads each connection, and one reads standard input.
 fn run<R: PeerHost + Threads + Wait + Files<File = File> + AllocGlobal, I: Source, O: Sink>(
     rt: &R,
-    words: &Words<'_>,
+    arguments: &Arguments<'_>,
     input: I,
     output: O,
-) -> Result<PeerEnding, Fault> {
+) -> Result<PeerEnding, PeerFault> {
     let alloc = rt.alloc();
     let mut kept = Vec::new(alloc);
-    let (door, files) = prepare(rt, words, &mut kept)?;
-    let shared = Arc::new(alloc, SharedPeer::new(alloc, words))?;
+    let (door, files) = prepare(rt, arguments, &mut kept)?;
+    let shared = Arc::new(alloc, SharedPeer::new(alloc, arguments))?;
     let (mut output, mut told) = (output, files.told);
     start_thread(
         rt,
@@ -67,7 +67,7 @@ fn run<R: PeerHost + Threads + Wait + Files<File = File> + AllocGlobal, I: Sourc
         input: Some(input),
         asked: files.asked,
     };
-    Ok(wait(rt, &shared, words, sources))
+    Ok(wait(rt, &shared, arguments, sources))
 }
 
 /// Runs `mux`. The first word is the program's name. Returns the exit status: 0, 1 for a fault, 2 for
@@ -79,16 +79,16 @@ pub fn client<
     E: Write,
 >(rt: &R, words: &[String], input: I, output: O, errors: &mut E) -> u8 {
     let mut output = output;
-    let words = match words_of(rt.alloc(), words, &mut output, errors) {
-        Ok(words) => words,
+    let arguments = match arguments_of(rt.alloc(), words, &mut output, errors) {
+        Ok(arguments) => arguments,
         Err(status) => return status,
     };
-    warn_of_token(rt, words.token, errors);
-    match run(rt, &words, input, output) {
-        Ok(ending) => tell_end(rt.alloc(), &ending, &words, errors),
+    warn_of_token(rt, arguments.token, errors);
+    match run(rt, &arguments, input, output) {
+        Ok(ending) => tell_end(rt.alloc(), &ending, &arguments, errors),
         Err(fault) => {
-            let status = tell_fault(fault, &words, errors);
-            tell_unseen(&words, errors);
+            let status = tell_fault(fault, &arguments, errors);
+            tell_unseen(&arguments, errors);
             status
         }
     }

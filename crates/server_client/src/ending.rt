@@ -2,14 +2,14 @@
 
 use attach_proto::Why;
 use client_peer::Peer;
-use client_words::{Fault, ToldFault, Words, explain, gone, put_visible};
+use client_words::{Arguments, PeerFault, ToldFault, explain, gone, put_visible};
 use std::alloc::Global;
 use std::io::Write;
 
 /// How a peer ended.
 #[derive(Drop)]
 pub struct PeerEnding {
-    pub end: Result<Why, Fault>,
+    pub end: Result<Why, PeerFault>,
     /// The session's last text before it let the peer in.
     pub said: Option<String>,
     pub has_dropped: bool,
@@ -35,24 +35,24 @@ impl PeerEnding {
 }
 
 // Prints the session's text, and what a number in it means.
-fn tell_said<E: Write>(alloc: Global, said: &str, words: &Words<'_>, errors: &mut E) {
+fn tell_said<E: Write>(alloc: Global, said: &str, arguments: &Arguments<'_>, errors: &mut E) {
     let mut visible = Vec::new(alloc);
     let _ = put_visible(said.as_bytes(), &mut visible);
     let _ = errors.write_all(b"mux: ");
     let _ = errors.write_all(&visible);
-    let _ = explain(alloc, said, words, errors);
+    let _ = explain(alloc, said, arguments, errors);
     let _ = writeln!(errors);
 }
 
 /// Prints a fault. Returns the exit status.
-pub fn tell_fault<E: Write>(fault: Fault, words: &Words<'_>, errors: &mut E) -> u8 {
-    let _ = writeln!(errors, "mux: {}", ToldFault { fault, words });
+pub fn tell_fault<E: Write>(fault: PeerFault, arguments: &Arguments<'_>, errors: &mut E) -> u8 {
+    let _ = writeln!(errors, "mux: {}", ToldFault { fault, arguments });
     fault.status()
 }
 
 // Prints, with `--why`, how a client left.
-fn tell_left<E: Write>(ending: &PeerEnding, words: &Words<'_>, errors: &mut E) {
-    if !words.why {
+fn tell_left<E: Write>(ending: &PeerEnding, arguments: &Arguments<'_>, errors: &mut E) {
+    if !arguments.why {
         return;
     }
     let _ = match ending.end {
@@ -60,7 +60,7 @@ fn tell_left<E: Write>(ending: &PeerEnding, words: &Words<'_>, errors: &mut E) {
         Err(_) => writeln!(
             errors,
             "mux: left without an answer of the server at {}",
-            words.socket
+            arguments.socket
         ),
     };
 }
@@ -69,33 +69,33 @@ fn tell_left<E: Write>(ending: &PeerEnding, words: &Words<'_>, errors: &mut E) {
 pub fn tell_end<E: Write>(
     alloc: Global,
     ending: &PeerEnding,
-    words: &Words<'_>,
+    arguments: &Arguments<'_>,
     errors: &mut E,
 ) -> u8 {
     if ending.has_dropped {
         let _ = writeln!(
             errors,
             "mux: lines of {} were ignored: each is ROWS COLS, 4 to 200 by 20 to 300",
-            words.sizes.unwrap_or("--sizes")
+            arguments.sizes.unwrap_or("--sizes")
         );
     }
-    let status = tell_cause(alloc, ending, words, errors);
+    let status = tell_cause(alloc, ending, arguments, errors);
     if ending.is_unsure {
         let _ = writeln!(
             errors,
             "mux: the window isn't opened again, in case the session is another one: {}.session is missing or older than the socket (see muxd-run --again)",
-            words.socket
+            arguments.socket
         );
     }
     if !ending.was_welcome {
-        tell_unseen(words, errors);
+        tell_unseen(arguments, errors);
     }
     status
 }
 
 /// Prints, with `--why`, that a client drew nothing.
-pub fn tell_unseen<E: Write>(words: &Words<'_>, errors: &mut E) {
-    if words.why {
+pub fn tell_unseen<E: Write>(arguments: &Arguments<'_>, errors: &mut E) {
+    if arguments.why {
         let _ = errors.write_all(b"mux: nothing was shown\n");
     }
 }
@@ -104,23 +104,23 @@ pub fn tell_unseen<E: Write>(words: &Words<'_>, errors: &mut E) {
 fn tell_cause<E: Write>(
     alloc: Global,
     ending: &PeerEnding,
-    words: &Words<'_>,
+    arguments: &Arguments<'_>,
     errors: &mut E,
 ) -> u8 {
     if ending.has_left {
-        tell_left(ending, words, errors);
+        tell_left(ending, arguments, errors);
         return 0;
     }
     match (ending.end, &ending.said) {
-        (Ok(why), _) if words.why => {
+        (Ok(why), _) if arguments.why => {
             let _ = writeln!(errors, "mux: {}", gone(why));
             0
         }
         (Ok(_), _) => 0,
-        (Err(Fault::Gone(Why::Fault)), Some(said)) => {
-            tell_said(alloc, said.as_str(), words, errors);
+        (Err(PeerFault::Gone(Why::Fault)), Some(said)) => {
+            tell_said(alloc, said.as_str(), arguments, errors);
             1
         }
-        (Err(fault), _) => tell_fault(fault, words, errors),
+        (Err(fault), _) => tell_fault(fault, arguments, errors),
     }
 }

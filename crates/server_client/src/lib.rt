@@ -3,7 +3,6 @@
 
 mod attach;
 mod ending;
-mod host;
 mod opening;
 mod reading;
 mod shared;
@@ -12,4 +11,35 @@ mod waiting;
 mod writing;
 
 pub use attach::client;
-pub use host::Connects;
+use std::io;
+use std::io::{Read, Write};
+use std::os::unix::net::UnixStream;
+use std::time::Clock;
+
+/// Something that connects to a server's socket. (A thread can't be handed `Net`, which has types of
+/// its own.)
+pub trait Connects {
+    fn reach(&self, socket: &str) -> io::Result<UnixStream>;
+}
+
+impl Connects for HostRuntime {
+    fn reach(&self, socket: &str) -> io::Result<UnixStream> {
+        UnixStream::connect(self, socket)
+    }
+}
+
+/// A runtime with what a peer's threads ask for, except to wait and to start threads: a function says
+/// these two itself, as they let it never return.
+pub trait PeerHost: Connects + Clock + Copy + Send + 'static {}
+
+impl<R: Connects + Clock + Copy + Send + 'static> PeerHost for R {}
+
+/// What a peer reads its input from, in a thread of its own.
+pub trait Source: Read + Send + Drop + 'static {}
+
+impl<I: Read + Send + Drop + 'static> Source for I {}
+
+/// What a peer writes its output to, in a thread of its own.
+pub trait Sink: Write + Send + Drop + 'static {}
+
+impl<O: Write + Send + Drop + 'static> Sink for O {}

@@ -1,8 +1,8 @@
 //! The connection with its first frame, and the files that the arguments name.
 
-use crate::host::PeerHost;
+use crate::PeerHost;
 use attach_proto::Token;
-use client_words::{Fault, RefusedPart, Way, Words};
+use client_words::{Arguments, PeerFault, RefusedPart, Subcommand};
 use std::alloc::Global;
 use std::fs::{File, OpenOptions};
 use std::io::{ErrorKind, Write};
@@ -26,13 +26,13 @@ const OTHERS_READ: u32 = 0o044;
 const OTHERS_WRITE: u32 = 0o022;
 
 // A fault of the arguments, whatever the token is.
-fn judge_words(alloc: Global, words: &Words<'_>) -> Result<(), Fault> {
+fn judge_arguments(alloc: Global, arguments: &Arguments<'_>) -> Result<(), PeerFault> {
     let Some(zeros) = Token::read(&[b'0'; 64]) else {
-        return Err(Fault::NoToken);
+        return Err(PeerFault::NoToken);
     };
-    match words.first_frame(alloc, zeros) {
+    match arguments.first_frame(alloc, zeros) {
         Ok(_) => Ok(()),
-        Err(fault) => Err(Fault::from(fault)),
+        Err(fault) => Err(PeerFault::from(fault)),
     }
 }
 
@@ -54,28 +54,35 @@ pub fn warn_of_token<R: fs::Files<File = File>, E: Write>(rt: &R, path: &str, er
     }
 }
 
-fn token_of(file: &[u8]) -> Result<Token, Fault> {
+fn token_of(file: &[u8]) -> Result<Token, PeerFault> {
     let digits = file.strip_suffix(b"\n".as_slice()).unwrap_or(file);
-    Token::read(digits).ok_or(Fault::NoToken)
+    Token::read(digits).ok_or(PeerFault::NoToken)
 }
 
 // Reads the token of a file; a file that others may write is refused.
-fn read_token<R: fs::Files<File = File> + AllocGlobal>(rt: &R, path: &str) -> Result<Token, Fault> {
+fn read_token<R: fs::Files<File = File> + AllocGlobal>(
+    rt: &R,
+    path: &str,
+) -> Result<Token, PeerFault> {
     if is_open(rt, path, OTHERS_WRITE) {
-        return Err(Fault::Writable);
+        return Err(PeerFault::Writable);
     }
     match fs::read(rt, path) {
         Ok(file) => token_of(&file),
-        Err(error) => Err(Fault::Refused(RefusedPart::Token, error)),
+        Err(error) => Err(PeerFault::Refused(RefusedPart::Token, error)),
     }
 }
 
 // Opens a FIFO for reading and writing: that waits for no writer, and the last writer's end isn't the
 // end of the file.
-fn open_sizes<R: fs::Files<File = File>>(rt: &R, way: Way, path: &str) -> io::Result<File> {
+fn open_sizes<R: fs::Files<File = File>>(
+    rt: &R,
+    subcommand: Subcommand,
+    path: &str,
+) -> io::Result<File> {
     let mut options = OpenOptions::new();
-    match way {
-        Way::Attach => options.read(true).write(true),
+    match subcommand {
+        Subcommand::Attach => options.read(true).write(true),
         _ => options.append(true),
     };
     options.open(rt, path)
@@ -91,18 +98,21 @@ pub struct SizesFiles {
 }
 
 // The sizes' files, of which at most one is named by the arguments.
-fn sizes_of<R: fs::Files<File = File>>(rt: &R, words: &Words<'_>) -> Result<SizesFiles, Fault> {
+fn sizes_of<R: fs::Files<File = File>>(
+    rt: &R,
+    arguments: &Arguments<'_>,
+) -> Result<SizesFiles, PeerFault> {
     let mut files = SizesFiles {
         asked: None,
         told: None,
     };
-    if let Some(path) = words.sizes {
-        let file = match open_sizes(rt, words.way, path) {
+    if let Some(path) = arguments.sizes {
+        let file = match open_sizes(rt, arguments.subcommand, path) {
             Ok(file) => file,
-            Err(error) => return Err(Fault::Refused(RefusedPart::Sizes, error)),
+            Err(error) => return Err(PeerFault::Refused(RefusedPart::Sizes, error)),
         };
-        match words.way {
-            Way::Attach => files.asked = Some(file),
+        match arguments.subcommand {
+            Subcommand::Attach => files.asked = Some(file),
             _ => files.told = Some(file),
         }
     }
@@ -135,18 +145,18 @@ impl Door {
     }
 
     /// Makes the connection.
-    pub fn open(&self, rt: &impl PeerHost) -> Result<UnixStream, Fault> {
+    pub fn open(&self, rt: &impl PeerHost) -> Result<UnixStream, PeerFault> {
         match rt.reach(self.socket.as_str()) {
             Ok(stream) => {
                 thread::sleep(rt, Duration::from_millis(self.grace));
                 match self.begin(&stream) {
                     Ok(()) => Ok(stream),
-                    Err(error) => Err(Fault::Refused(RefusedPart::Stream, error)),
+                    Err(error) => Err(PeerFault::Refused(RefusedPart::Stream, error)),
                 }
             }
             Err(error) => Err(match error.kind() {
-                ErrorKind::NotFound | ErrorKind::ConnectionRefused => Fault::NoServer,
-                _ => Fault::Refused(RefusedPart::Socket, error),
+                ErrorKind::NotFound | ErrorKind::ConnectionRefused => PeerFault::NoServer,
+                _ => PeerFault::Refused(RefusedPart::Socket, error),
             }),
         }
     }
@@ -155,24 +165,24 @@ impl Door {
 // The first frame, with the token of the file that the arguments name.
 fn frame_for<R: fs::Files<File = File> + AllocGlobal>(
     rt: &R,
-    words: &Words<'_>,
-) -> Result<Vec<u8>, Fault> {
-    if words.way.is_ping() {
+    arguments: &Arguments<'_>,
+) -> Result<Vec<u8>, PeerFault> {
+    if arguments.subcommand.is_ping() {
         return Ok(Vec::new(rt.alloc()));
     }
-    judge_words(rt.alloc(), words)?;
-    let token = read_token(rt, words.token)?;
-    Ok(words.first_frame(rt.alloc(), token)?)
+    judge_arguments(rt.alloc(), arguments)?;
+    let token = read_token(rt, arguments.token)?;
+    Ok(arguments.first_frame(rt.alloc(), token)?)
 }
 
 fn door_for<R: fs::Files<File = File> + AllocGlobal>(
     rt: &R,
-    words: &Words<'_>,
-) -> Result<Door, Fault> {
+    arguments: &Arguments<'_>,
+) -> Result<Door, PeerFault> {
     Ok(Door {
-        frame: frame_for(rt, words)?,
-        socket: String::from_str(rt.alloc(), words.socket)?,
-        can_leave: words.leave.is_some(),
+        frame: frame_for(rt, arguments)?,
+        socket: String::from_str(rt.alloc(), arguments.socket)?,
+        can_leave: arguments.leave.is_some(),
         grace: 0,
     })
 }
@@ -180,14 +190,14 @@ fn door_for<R: fs::Files<File = File> + AllocGlobal>(
 /// A door to come back by, with the token as it is now, and this size.
 pub fn another_door<R: fs::Files<File = File> + AllocGlobal>(
     rt: &R,
-    words: &Words<'_>,
+    arguments: &Arguments<'_>,
     (rows, columns): (u16, u16),
-) -> Result<Door, Fault> {
-    let mut words = *words;
-    words.rows = rows;
-    words.columns = columns;
-    let mut door = door_for(rt, &words)?;
-    if words.way.is_attach() {
+) -> Result<Door, PeerFault> {
+    let mut arguments = *arguments;
+    arguments.rows = rows;
+    arguments.columns = columns;
+    let mut door = door_for(rt, &arguments)?;
+    if arguments.subcommand.is_attach() {
         door.grace = GRACE;
     }
     Ok(door)
@@ -218,12 +228,12 @@ fn fill_closed<R: fs::Files<File = File>>(rt: &R, kept: &mut Vec<File>) -> io::R
 /// as that list.
 pub fn prepare<R: fs::Files<File = File> + AllocGlobal>(
     rt: &R,
-    words: &Words<'_>,
+    arguments: &Arguments<'_>,
     kept: &mut Vec<File>,
-) -> Result<(Door, SizesFiles), Fault> {
+) -> Result<(Door, SizesFiles), PeerFault> {
     fill_closed(rt, kept)?;
-    let door = door_for(rt, words)?;
-    match sizes_of(rt, words) {
+    let door = door_for(rt, arguments)?;
+    match sizes_of(rt, arguments) {
         Ok(files) => Ok((door, files)),
         Err(fault) => Err(fault),
     }

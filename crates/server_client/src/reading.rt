@@ -1,10 +1,10 @@
 //! Connects, and reads what the server sends.
 
-use crate::host::PeerHost;
+use crate::PeerHost;
 use crate::opening::Door;
 use crate::shared::{PeerSeat, SharedPeer, is_open};
 use attach_proto::{LONGEST, Why};
-use client_words::{Fault, RefusedPart};
+use client_words::{PeerFault, RefusedPart};
 use std::alloc::Global;
 use std::io::{ErrorKind, Read};
 use std::os::unix::net::UnixStream;
@@ -19,7 +19,7 @@ fn connect<R: PeerHost + Wait>(
     rt: &R,
     shared: &SharedPeer,
     door: &Door,
-) -> Result<Arc<UnixStream, Global>, Fault> {
+) -> Result<Arc<UnixStream, Global>, PeerFault> {
     let stream = Arc::new(shared.alloc, door.open(rt)?)?;
     let theirs = Arc::try_clone(&stream)?;
     shared.seat.lock(rt).stream = Some(theirs);
@@ -31,7 +31,7 @@ fn take<R: Wait>(
     rt: &R,
     shared: &SharedPeer,
     bytes: &[u8],
-) -> Result<Option<Result<Why, Fault>>, Fault> {
+) -> Result<Option<Result<Why, PeerFault>>, PeerFault> {
     let mut guard = shared.seat.lock(rt);
     let PeerSeat { peer, reader, .. } = &mut *guard;
     let was_welcome = peer.is_welcome;
@@ -68,7 +68,11 @@ fn wait_for_room<R: PeerHost + Wait>(rt: &R, shared: &SharedPeer, stream: &UnixS
 }
 
 // Reads until the connection ends. Returns how it did.
-fn read_all<R: PeerHost + Wait>(rt: &R, shared: &SharedPeer, door: &Door) -> Result<Why, Fault> {
+fn read_all<R: PeerHost + Wait>(
+    rt: &R,
+    shared: &SharedPeer,
+    door: &Door,
+) -> Result<Why, PeerFault> {
     let stream = connect(rt, shared, door)?;
     let mut stream: &UnixStream = &stream;
     let mut buffer = vec![in shared.alloc; 0; LONGEST]?;
@@ -78,13 +82,13 @@ fn read_all<R: PeerHost + Wait>(rt: &R, shared: &SharedPeer, door: &Door) -> Res
         let end = match stream.read(buffer.as_mut_slice()) {
             Ok(count) => take(rt, shared, &buffer[..count])?,
             Err(error) if error.kind() == ErrorKind::Interrupted => None,
-            Err(error) => return Err(Fault::Refused(RefusedPart::Stream, error)),
+            Err(error) => return Err(PeerFault::Refused(RefusedPart::Stream, error)),
         };
         if let Some(end) = end {
             return end;
         }
     }
-    Err(Fault::Ended)
+    Err(PeerFault::Ended)
 }
 
 /// Serves one connection, until it ends.

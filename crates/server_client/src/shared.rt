@@ -1,9 +1,9 @@
 //! What the threads of a peer share, and how they begin.
 
-use crate::host::PeerHost;
+use crate::PeerHost;
 use attach_proto::{Reader, Side};
 use client_peer::{Meeting, Peer, SessionMark};
-use client_words::Words;
+use client_words::Arguments;
 use std::alloc::{AllocError, Global};
 use std::io::Write;
 use std::os::unix::net::UnixStream;
@@ -32,11 +32,11 @@ pub struct SharedPeer {
 }
 
 impl SharedPeer {
-    pub fn new(alloc: Global, words: &Words<'_>) -> SharedPeer {
+    pub fn new(alloc: Global, arguments: &Arguments<'_>) -> SharedPeer {
         SharedPeer {
             alloc,
             seat: Mutex::new(PeerSeat {
-                peer: Peer::new(alloc, words),
+                peer: Peer::new(alloc, arguments),
                 reader: Reader::new(alloc, Side::Peer),
                 stream: None,
             }),

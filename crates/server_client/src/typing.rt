@@ -2,11 +2,11 @@
 
 ghost use Rattle.std.specs.Io.{ReadsAtMost};
 
-use crate::host::{PeerHost, Source};
 use crate::shared::SharedPeer;
 use crate::writing::send;
+use crate::{PeerHost, Source};
 use attach_proto::LONGEST;
-use client_words::{Fault, InputStage, RefusedPart, SizeLines};
+use client_words::{InputStage, PeerFault, RefusedPart, SizeLines};
 use std::alloc::AllocError;
 use std::fs::File;
 use std::io;
@@ -27,7 +27,7 @@ fn read_input<I: Read>(input: &mut I, buffer: &mut [u8]) -> io::Result<usize>
 }
 
 // Sends input that was read. Returns whether to go on.
-fn take<R: Wait>(rt: &R, shared: &SharedPeer, input: &[u8]) -> Result<bool, Fault> {
+fn take<R: Wait>(rt: &R, shared: &SharedPeer, input: &[u8]) -> Result<bool, PeerFault> {
     let mut seat = shared.seat.lock(rt);
     seat.peer.type_in(input)?;
     let goes_on = !matches!(seat.peer.typing.stage(), InputStage::Left);
@@ -44,14 +44,18 @@ fn take<R: Wait>(rt: &R, shared: &SharedPeer, input: &[u8]) -> Result<bool, Faul
 }
 
 // Reads and sends the input. Returns whether it came to its end, or why it can't be read any more.
-fn take_all<R: Wait, I: Source>(rt: &R, shared: &SharedPeer, input: &mut I) -> Result<bool, Fault> {
+fn take_all<R: Wait, I: Source>(
+    rt: &R,
+    shared: &SharedPeer,
+    input: &mut I,
+) -> Result<bool, PeerFault> {
     let mut buffer = vec![in shared.alloc; 0; LONGEST]?;
     for _ in 0..u64::MAX {
         let goes_on = match read_input(input, buffer.as_mut_slice()) {
             Ok(0) => return Ok(true),
             Ok(count) => take(rt, shared, &buffer[..count])?,
             Err(error) if error.kind() == ErrorKind::Interrupted => true,
-            Err(error) => return Err(Fault::Refused(RefusedPart::Input, error)),
+            Err(error) => return Err(PeerFault::Refused(RefusedPart::Input, error)),
         };
         if !goes_on {
             return Ok(false);

@@ -2,13 +2,13 @@
 
 use crate::attach::Sources;
 use crate::ending::PeerEnding;
-use crate::host::{PeerHost, Source};
 use crate::opening::{Door, another_door};
 use crate::reading::serve;
 use crate::shared::{SharedPeer, start_thread};
 use crate::writing::send;
+use crate::{PeerHost, Source};
 use client_peer::{Meeting, PeerTask, SessionMark};
-use client_words::{Fault, Words};
+use client_words::{Arguments, PeerFault};
 use std::alloc::Global;
 use std::fs::{File, Files};
 use std::os::unix::fs::MetadataExt;
@@ -62,16 +62,16 @@ fn look<R: PeerHost + Wait>(rt: &R, shared: &SharedPeer, began: Option<Instant>)
 
 // What stands beside the socket about the session that is served there. A mark is made anew for each server, so one
 // that is older than the socket isn't this server's.
-fn mark_of<R: Files<File = File> + AllocGlobal>(rt: &R, words: &Words<'_>) -> SessionMark {
+fn mark_of<R: Files<File = File> + AllocGlobal>(rt: &R, arguments: &Arguments<'_>) -> SessionMark {
     let mut mark = SessionMark {
         name: Vec::new(rt.alloc()),
         is_current: false,
     };
-    if let Ok(path) = format!(in rt.alloc(); "{}.session", words.socket)
+    if let Ok(path) = format!(in rt.alloc(); "{}.session", arguments.socket)
         && let Ok(name) = fs::read(rt, path.as_str())
     {
         mark.name = name;
-        mark.is_current = is_as_new(rt, path.as_str(), words.socket);
+        mark.is_current = is_as_new(rt, path.as_str(), arguments.socket);
     }
     mark
 }
@@ -89,16 +89,20 @@ fn is_as_new<R: Files<File = File>>(rt: &R, path: &str, other: &str) -> bool {
 
 // Whether there is a file beside the socket: .again after a planned end of a server that starts again,
 // .pending while windows of the session before come back.
-fn is_beside<R: Files<File = File> + AllocGlobal>(rt: &R, words: &Words<'_>, name: &str) -> bool {
-    match format!(in rt.alloc(); "{}{}", words.socket, name) {
+fn is_beside<R: Files<File = File> + AllocGlobal>(
+    rt: &R,
+    arguments: &Arguments<'_>,
+    name: &str,
+) -> bool {
+    match format!(in rt.alloc(); "{}{}", arguments.socket, name) {
         Ok(path) => fs::metadata(rt, path.as_str()).is_ok(),
         Err(_) => false,
     }
 }
 
 // Whether the socket's folder is there. Without it no server comes back.
-fn has_place<R: Files<File = File>>(rt: &R, words: &Words<'_>) -> bool {
-    match words.socket.rsplit_once('/') {
+fn has_place<R: Files<File = File>>(rt: &R, arguments: &Arguments<'_>) -> bool {
+    match arguments.socket.rsplit_once('/') {
         Some((folder, _)) if !folder.is_empty() => fs::metadata(rt, folder).is_ok(),
         _ => true,
     }
@@ -109,7 +113,7 @@ pub fn start<R: PeerHost + Threads + Wait>(
     rt: &R,
     shared: &Arc<SharedPeer, Global>,
     door: Door,
-) -> Result<(), Fault> {
+) -> Result<(), PeerFault> {
     start_thread(rt, shared, move |rt, shared| serve(rt, shared, &door))?;
     Ok(())
 }
@@ -125,9 +129,13 @@ struct Comeback {
 
 // Whether the next server must not be told a window's page, since a command has cleared it, or this isn't known.
 // SOCKET.restoring has a line for each such window, with its user and the number that it had.
-fn is_hidden<R: Files<File = File> + AllocGlobal>(rt: &R, words: &Words<'_>, number: u8) -> bool {
-    let line = format!(in rt.alloc(); "{} {number}", words.user);
-    let path = format!(in rt.alloc(); "{}.restoring", words.socket);
+fn is_hidden<R: Files<File = File> + AllocGlobal>(
+    rt: &R,
+    arguments: &Arguments<'_>,
+    number: u8,
+) -> bool {
+    let line = format!(in rt.alloc(); "{} {number}", arguments.user);
+    let path = format!(in rt.alloc(); "{}.restoring", arguments.socket);
     let (Ok(line), Ok(path)) = (line, path) else {
         return true;
     };
@@ -151,9 +159,11 @@ impl Comeback {
     fn lets_pass<R: Files<File = File> + AllocGlobal>(
         &mut self,
         rt: &R,
-        words: &Words<'_>,
+        arguments: &Arguments<'_>,
     ) -> bool {
-        let passes = words.way.is_attach() && self.held < HELD && is_beside(rt, words, ".pending");
+        let passes = arguments.subcommand.is_attach()
+            && self.held < HELD
+            && is_beside(rt, arguments, ".pending");
         self.held = if passes { self.held.wrapping_add(1) } else { 0 };
         passes
     }
@@ -163,12 +173,12 @@ impl Comeback {
         &mut self,
         rt: &R,
         shared: &SharedPeer,
-        words: &Words<'_>,
+        arguments: &Arguments<'_>,
         met: Meeting,
     ) {
         let waits = met == Meeting::Older && self.older < HELD;
         self.older = match met {
-            Meeting::Older if is_beside(rt, words, "") => self.older.wrapping_add(1),
+            Meeting::Older if is_beside(rt, arguments, "") => self.older.wrapping_add(1),
             _ => 0,
         };
         if met != Meeting::Same && !waits {
@@ -181,19 +191,19 @@ impl Comeback {
         &mut self,
         rt: &R,
         shared: &SharedPeer,
-        words: &Words<'_>,
+        arguments: &Arguments<'_>,
     ) {
-        let mark = mark_of(rt, words);
+        let mark = mark_of(rt, arguments);
         let mut seat = shared.seat.lock(rt);
         let number = seat.peer.page_number;
-        let opened = seat.peer.reopen(&mark, is_hidden(rt, words, number));
+        let opened = seat.peer.reopen(&mark, is_hidden(rt, arguments, number));
         if let Err(fault) = opened {
             seat.peer.end_by(Err(fault));
         }
         drop(seat);
         shared.work.notify_all();
         if let Ok(met) = opened {
-            self.judge(rt, shared, words, met);
+            self.judge(rt, shared, arguments, met);
             if met == Meeting::Older {
                 thread::sleep(rt, Duration::from_millis(PAUSE));
             }
@@ -206,12 +216,12 @@ impl Comeback {
 fn learn<R: PeerHost + Wait + Files<File = File> + AllocGlobal>(
     rt: &R,
     shared: &SharedPeer,
-    words: &Words<'_>,
+    arguments: &Arguments<'_>,
     tries: u32,
 ) -> bool {
     for _ in 0..tries {
-        let mark = mark_of(rt, words);
-        if words.way.is_attach() || mark.is_current || mark.name.is_empty() {
+        let mark = mark_of(rt, arguments);
+        if arguments.subcommand.is_attach() || mark.is_current || mark.name.is_empty() {
             shared.learn(rt, mark);
             return true;
         }
@@ -224,33 +234,33 @@ fn learn<R: PeerHost + Wait + Files<File = File> + AllocGlobal>(
 fn come_back<R: PeerHost + Threads + Wait + Files<File = File> + AllocGlobal>(
     rt: &R,
     shared: &Arc<SharedPeer, Global>,
-    words: &Words<'_>,
+    arguments: &Arguments<'_>,
     comeback: &mut Comeback,
-) -> Result<(), Fault> {
+) -> Result<(), PeerFault> {
     thread::sleep(rt, Duration::from_millis(PAUSE));
-    if comeback.lets_pass(rt, words) {
+    if comeback.lets_pass(rt, arguments) {
         return Ok(());
     }
-    let met = shared.begin(rt, &mark_of(rt, words));
-    comeback.judge(rt, shared, words, met);
+    let met = shared.begin(rt, &mark_of(rt, arguments));
+    comeback.judge(rt, shared, arguments, met);
     if met != Meeting::Same {
         return Ok(());
     }
     let seat = shared.seat.lock(rt);
     let size = (seat.peer.rows, seat.peer.columns);
     drop(seat);
-    start(rt, shared, another_door(rt, words, size)?)
+    start(rt, shared, another_door(rt, arguments, size)?)
 }
 
 // Asks whether the peer comes back after its connection has ended, and lets it.
 fn ask<R: PeerHost + Threads + Wait + Files<File = File> + AllocGlobal>(
     rt: &R,
     shared: &Arc<SharedPeer, Global>,
-    words: &Words<'_>,
+    arguments: &Arguments<'_>,
     time: u64,
     comeback: &mut Comeback,
 ) {
-    let (is_planned, has_place) = (is_beside(rt, words, ".again"), has_place(rt, words));
+    let (is_planned, has_place) = (is_beside(rt, arguments, ".again"), has_place(rt, arguments));
     let mut seat = shared.seat.lock(rt);
     let comes_back = seat.peer.comes_back(time, is_planned, has_place);
     drop(seat);
@@ -258,7 +268,7 @@ fn ask<R: PeerHost + Threads + Wait + Files<File = File> + AllocGlobal>(
         return;
     }
     shared.work.notify_all();
-    if let Err(fault) = come_back(rt, shared, words, comeback) {
+    if let Err(fault) = come_back(rt, shared, arguments, comeback) {
         shared.seat.lock(rt).peer.end_by(Err(fault));
     }
 }
@@ -267,7 +277,7 @@ fn ask<R: PeerHost + Threads + Wait + Files<File = File> + AllocGlobal>(
 pub fn wait<R: PeerHost + Threads + Wait + Files<File = File> + AllocGlobal, I: Source>(
     rt: &R,
     shared: &Arc<SharedPeer, Global>,
-    words: &Words<'_>,
+    arguments: &Arguments<'_>,
     sources: Sources<I>,
 ) -> PeerEnding {
     let began = Instant::now(rt).ok();
@@ -277,18 +287,18 @@ pub fn wait<R: PeerHost + Threads + Wait + Files<File = File> + AllocGlobal, I: 
         match look(rt, shared, began) {
             PeerTask::Wait | PeerTask::WaitShortly => {}
             PeerTask::Send => send(rt, shared),
-            PeerTask::Reopen => comeback.reopen(rt, shared, words),
+            PeerTask::Reopen => comeback.reopen(rt, shared, arguments),
             PeerTask::Begin => {
                 // Input that is sent may end the server, so the first try comes before it.
-                let is_known = words.again == 0 || learn(rt, shared, words, 1);
+                let is_known = arguments.again == 0 || learn(rt, shared, arguments, 1);
                 if sources.start(rt, shared).is_err() {
-                    shared.seat.lock(rt).peer.end_by(Err(Fault::NoMemory));
+                    shared.seat.lock(rt).peer.end_by(Err(PeerFault::NoMemory));
                 }
                 if !is_known {
-                    learn(rt, shared, words, LEARNING);
+                    learn(rt, shared, arguments, LEARNING);
                 }
             }
-            PeerTask::Ask => ask(rt, shared, words, now(rt, began), &mut comeback),
+            PeerTask::Ask => ask(rt, shared, arguments, now(rt, began), &mut comeback),
             PeerTask::End => break,
         }
     }

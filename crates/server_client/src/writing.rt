@@ -1,9 +1,9 @@
 //! Writes to standard output and the sizes' file, and sends frames to the server.
 
-use crate::host::{PeerHost, Sink};
 use crate::shared::SharedPeer;
+use crate::{PeerHost, Sink};
 use client_peer::Batch;
-use client_words::{Fault, RefusedPart};
+use client_words::{PeerFault, RefusedPart};
 use std::alloc::Global;
 use std::fs::File;
 use std::io;
@@ -40,7 +40,7 @@ pub fn write_out<R: PeerHost + Wait, O: Sink>(
         drop(seat);
         let fault = match write(output, sizes, taken) {
             Ok(()) => None,
-            Err(error) => Some(Fault::Refused(RefusedPart::Output, error)),
+            Err(error) => Some(PeerFault::Refused(RefusedPart::Output, error)),
         };
         let mut seat = shared.seat.lock(rt);
         seat.peer.end_writing(fault);

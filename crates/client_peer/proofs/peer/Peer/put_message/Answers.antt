@@ -14,7 +14,8 @@ returns-in_default-3 c =
     record { ok = passes_same c.args.self.now; err = tt; closed = closed_same c.args.self.now }
 
 pub returns-in-Welcome-clause-ok : goal.returns-in-Welcome-clause-ok
-returns-in-Welcome-clause-ok c = passes_keeps c.args.self.now _ (record { way = refl; draws = refl; kept = refl })
+returns-in-Welcome-clause-ok c =
+    passes_keeps c.args.self.now _ (record { subcommand = refl; draws = refl; kept = refl })
 
 pub returns-in-Say-clause-ok : goal.returns-in-Say-clause-ok
 returns-in-Say-clause-ok c =

@@ -21,7 +21,7 @@ returns-clause-ok c =
     let heard : PassesOn second last = elim c.match-told-3.branch [
       | in-Some+in_ok-hear w ↦
           subst (PassesOn second) (sym w.self-is)
-          (passes_heard second w.hear.new.self w.hear.ensures.way w.hear.ensures.keeps)
+          (passes_heard second w.hear.new.self w.hear.ensures.subcommand w.hear.ensures.keeps)
       | in_default w ↦ subst (PassesOn second) (sym w.self-is) (passes_same second)
     ] in
     passes_then c.args.self.now first last c.in_ok-put_message.ensures.ok

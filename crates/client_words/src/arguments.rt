@@ -1,9 +1,9 @@
 //! The arguments of `mux`, and the first message that they make.
 
 ghost use Rattle.std.specs.Prelude.{◌≡◌, ◌↔◌, IsTrue};
-ghost use Rattle.client_words.specs.declared.words.Way.TheVariants.{Attach, Window, Command};
+ghost use Rattle.client_words.specs.declared.arguments.Subcommand.TheVariants.{Attach, Window, Command};
 
-use crate::scripts::tell_words;
+use crate::scripts::tell_mistake;
 use attach_proto::{Bytes, Message, Text, Token, WriteFault, write_message};
 use clap::ArgMatches;
 use program_words::of_client;
@@ -13,7 +13,7 @@ use std::io::Write;
 
 /// What a peer is to the server.
 #[derive(Clone, Copy)]
-pub enum Way {
+pub enum Subcommand {
     Attach,
     Window,
     Command,
@@ -21,43 +21,43 @@ pub enum Way {
     Ping,
 }
 
-impl Way {
-    fn of(name: &str) -> Way {
+impl Subcommand {
+    fn of(name: &str) -> Subcommand {
         match name {
-            "attach" => Way::Attach,
-            "window" => Way::Window,
-            "ping" => Way::Ping,
-            _ => Way::Command,
+            "attach" => Subcommand::Attach,
+            "window" => Subcommand::Window,
+            "ping" => Subcommand::Ping,
+            _ => Subcommand::Command,
         }
     }
 
     pub fn is_attach(self) -> bool
         ensures { IsTrue result ↔ (self ≡ Attach) }
     {
-        matches!(self, Way::Attach)
+        matches!(self, Subcommand::Attach)
     }
 
     pub fn is_window(self) -> bool
         ensures { IsTrue result ↔ (self ≡ Window) }
     {
-        matches!(self, Way::Window)
+        matches!(self, Subcommand::Window)
     }
 
     pub fn is_command(self) -> bool
         ensures { IsTrue result ↔ (self ≡ Command) }
     {
-        matches!(self, Way::Command)
+        matches!(self, Subcommand::Command)
     }
 
     pub fn is_ping(self) -> bool {
-        matches!(self, Way::Ping)
+        matches!(self, Subcommand::Ping)
     }
 }
 
-/// The values of the arguments. One that a way doesn't take is 0, empty or none.
+/// The values of the arguments. One that the subcommand doesn't take is 0, empty or none.
 #[derive(Clone, Copy)]
-pub struct Words<'a> {
-    pub way: Way,
+pub struct Arguments<'a> {
+    pub subcommand: Subcommand,
     pub socket: &'a str,
     /// The user's name.
     pub user: &'a str,
@@ -93,11 +93,11 @@ fn number(matches: &ArgMatches, name: &str) -> u16 {
     matches.get_one::<u16>(name).unwrap_or(0)
 }
 
-impl<'a> Words<'a> {
-    // Whatever the way needs is there: without it there would be no matches.
-    fn of_way(way: Way, matches: &ArgMatches<'a>) -> Words<'a> {
-        Words {
-            way,
+impl<'a> Arguments<'a> {
+    // Whatever the subcommand needs is there: without it there would be no matches.
+    fn of_subcommand(subcommand: Subcommand, matches: &ArgMatches<'a>) -> Arguments<'a> {
+        Arguments {
+            subcommand,
             socket: text(matches, "socket"),
             user: text(matches, "user"),
             token: text(matches, "token"),
@@ -108,8 +108,8 @@ impl<'a> Words<'a> {
             leave: matches.get_one::<u8>("leave"),
             fit: matches.get_flag("fit"),
             assist: matches.get_flag("assist"),
-            again: match way {
-                Way::Window => number(matches, "stay"),
+            again: match subcommand {
+                Subcommand::Window => number(matches, "stay"),
                 _ => number(matches, "again"),
             },
             wait: number(matches, "wait"),
@@ -120,10 +120,10 @@ impl<'a> Words<'a> {
         }
     }
 
-    /// None if no way is named.
-    fn of(matches: &ArgMatches<'a>) -> Option<Words<'a>> {
+    /// None if no subcommand is named.
+    fn of(matches: &ArgMatches<'a>) -> Option<Arguments<'a>> {
         let (name, matches) = matches.subcommand()?;
-        Some(Words::of_way(Way::of(name), matches))
+        Some(Arguments::of_subcommand(Subcommand::of(name), matches))
     }
 
     fn attach(&self, token: Token, name: Text) -> Message {
@@ -166,11 +166,15 @@ impl<'a> Words<'a> {
     // The first message, with this token. None for a ping.
     fn first(&self, alloc: Global, token: Token) -> Result<Option<Message>, AllocError> {
         let name = Text::of(alloc, self.user)?;
-        Ok(Some(match self.way {
-            Way::Attach => self.attach(token, name),
-            Way::Window => self.window(token, name, Text::of(alloc, self.title)?),
-            Way::Command => self.command(token, name, Bytes::of(alloc, self.line.as_bytes())?),
-            Way::Ping => return Ok(None),
+        Ok(Some(match self.subcommand {
+            Subcommand::Attach => self.attach(token, name),
+            Subcommand::Window => self.window(token, name, Text::of(alloc, self.title)?),
+            Subcommand::Command => self.command(
+                token,
+                name,
+                Bytes::of(alloc, self.line.as_bytes())?,
+            ),
+            Subcommand::Ping => return Ok(None),
         }))
     }
 
@@ -211,14 +215,14 @@ pub fn frame_of(alloc: Global, message: &Message) -> Result<Vec<u8>, WriteFault>
 
 /// The values of the arguments, which begin with the program's name. If they are invalid, writes why and
 /// returns the exit status.
-pub fn words_of<'a, O: Write, E: Write>(
+pub fn arguments_of<'a, O: Write, E: Write>(
     alloc: Global,
     words: &'a [String],
     output: &mut O,
     errors: &mut E,
-) -> Result<Words<'a>, u8> {
+) -> Result<Arguments<'a>, u8> {
     match of_client(alloc, words) {
-        Ok(matches) => Words::of(&matches).ok_or(2),
-        Err(error) => Err(tell_words(&error, words, output, errors)),
+        Ok(matches) => Arguments::of(&matches).ok_or(2),
+        Err(error) => Err(tell_mistake(&error, words, output, errors)),
     }
 }

@@ -1,5 +1,5 @@
 use Rattle.client_typing.proofs.Fitting.{typed-alone, given-between, fit-line, view-line}
-use Rattle.client_typing.proofs.laws.own_keys_split_nothing.Goals as goal
+use Rattle.client_typing.proofs.own_keys_split_nothing.Goals as goal
 
 pub returns-clause-given : goal.returns-clause-given
 returns-clause-given c = given-between
