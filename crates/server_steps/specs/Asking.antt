@@ -76,7 +76,7 @@ module _ {S : Type 0} where
   abbrev pub prints_at : Bool → ℕ → Option (Peer S) → Bool
   prints_at is_next left peer = (is_next && nat_lt 0 left) && is_window_at peer
 
-  -- it is a window of which messages are left, or 8,192 bytes of output or more were done in this turn
+  -- it is a window of which messages are left, or more than 8,192 bytes of output were done in this turn
   abbrev pub is_much : Bool → ℕ → Option (Peer S) → Bool
   is_much is_done left peer = (not is_done || nat_lt left 24576) && is_window_at peer
 
