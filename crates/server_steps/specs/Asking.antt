@@ -1,5 +1,5 @@
 -- What one connection is read, and which message of it comes next.
-use Rattle.std.specs.Prelude.{◌≡◌, ◌⊎◌, ◌&&◌, ◌++◌, ◌∷◌, ℕ, Bool, true, false, not, List, [], Option, Some, None}
+use Rattle.std.specs.Prelude.{◌≡◌, ◌⊎◌, ◌&&◌, ◌||◌, ◌++◌, ◌∷◌, ℕ, Bool, true, false, not, List, [], Option, Some, None}
 use Rattle.std.specs.Prelude.{IfSome, length, nat_lt}
 use Rattle.std.specs.Io.KnownBytes.{Consumes}
 use Rattle.slab.specs.Slab.{get}
@@ -75,6 +75,10 @@ module _ {S : Type 0} where
   -- it is a window, comes next, and so much output may still be done
   abbrev pub prints_at : Bool → ℕ → Option (Peer S) → Bool
   prints_at is_next left peer = (is_next && nat_lt 0 left) && is_window_at peer
+
+  -- it is a window of which messages are left, or more than 8,192 bytes of output were done in this turn
+  abbrev pub is_much : Bool → ℕ → Option (Peer S) → Bool
+  is_much is_done left peer = (not is_done || nat_lt left 24576) && is_window_at peer
 
   -- what it sends is denied, and more is there than one read finds
   abbrev pub drains_at : Option (Peer S) → Bool

@@ -1,5 +1,5 @@
 -- What a message of a connection means to a loop.
-use Rattle.std.specs.Prelude.{ℕ, Bool, true, false, Option, Some, None, Ok, Err, nat_le}
+use Rattle.std.specs.Prelude.{ℕ, Bool, true, false, List, Option, Some, None, Ok, Err, codes, nat_le}
 use Rattle.attach_proto.specs.declared.message.Message.{Message}
 use Rattle.attach_proto.specs.declared.message.Message.TheVariants as message
 use Rattle.session.specs.Trace.{EventValue, Attach, Command, Open, Reply}
@@ -57,6 +57,11 @@ role_of kind.Window done = role.Window done.made
 abbrev pub guest_of : GuestKind → Shown → Done → Guest
 guest_of kind.Client shown done = record { kind = kind.Client; user = shown.user; number = done.made }
 guest_of kind.Window shown done = record { kind = kind.Window; user = shown.user; number = done.number }
+
+-- the first words of what a user is told who has as many as a user may have
+abbrev pub many_of : GuestKind → List ℕ
+many_of kind.Client = codes "too many clients of "
+many_of kind.Window = codes "too many windows of "
 
 -- what the log is told of a user's command
 abbrev pub news_of : Shown → Reply → News

@@ -51,6 +51,16 @@ abbrev pub progress_of : Tried → Typed → Progress
 progress_of (Ok None) left = progress.Held
 progress_of other left = if is_idle left then progress.Done else progress.Part
 
+-- keys were judged: their user didn't have to wait
+abbrev pub is_judged : Progress → Bool
+is_judged progress.Held = false
+is_judged p = true
+
+-- what came of a step for the user who tried it
+abbrev pub came_of : Result SeatAnswer SeatFault → Outcome
+came_of (Ok answer) = answer.outcome
+came_of (Err refusal) = outcome.Untaken
+
 -- there was no memory for a step
 abbrev pub is_refused : Tried → Bool
 is_refused (Err fault.NoMemory) = true

@@ -4,11 +4,15 @@ ghost use Rattle.std.specs.Prelude.{◌≡◌, length};
 ghost use Rattle.slab.specs.Slab.{get};
 ghost use Rattle.server_connections.specs.Changing.{changed};
 ghost use Rattle.server_steps.specs.Asking.{AsksAt, ReadsAt, drains_at, goes_on, has_asked_at, held_after};
-ghost use Rattle.server_steps.specs.Asking.{is_due_at, is_faulty_at, is_window_at, left_over, prints_at, unheld};
+ghost use Rattle.server_steps.specs.Asking.{is_due_at, is_faulty_at, is_much, is_window_at, left_over, prints_at};
+ghost use Rattle.server_steps.specs.Asking.{unheld};
 
 use crate::progress::Progress;
 use server_connections::{Arrival, Asked, Connections, Role};
 use std::io::{Read, Write};
+
+// While fewer bytes of output may still be done in a turn, much of it is done.
+const MUCH: usize = 24_576;
 
 /// Takes out the next message of a connection, or what is left of one.
 pub fn next_asked<S: Read + Write + Drop>(
@@ -86,6 +90,19 @@ pub fn may_print<S: Drop>(
     ensures { result ≡ prints_at is_next left (get connections.now.peers key) }
 {
     is_next && 0 < left && is_window(connections, key)
+}
+
+/// Whether a connection is a window of which messages are left, or after which this little output may still
+/// be done.
+pub fn is_much<S: Drop>(
+    connections: &Connections<S>,
+    key: usize,
+    is_done: bool,
+    left: usize,
+) -> bool
+    ensures { result ≡ is_much is_done left (get connections.now.peers key) }
+{
+    (!is_done || left < MUCH) && is_window(connections, key)
 }
 
 /// Whether what a connection sends is denied, and more of it is there than one read finds.

@@ -12,17 +12,17 @@ mod turns;
 mod typing;
 
 pub use asking::{
-    drains, go_on, has_asked, is_due_again, is_faulty, is_window, may_print, next_asked, put_back,
-    read,
+    drains, go_on, has_asked, is_due_again, is_faulty, is_much, is_window, may_print, next_asked,
+    put_back, read,
 };
 pub use ending::{
     count_new, end_after, expire, finish, oldest_new, quit_if, set_look, take_fullness, take_guest,
 };
 pub use meaning::{
-    Meaning, event_of, guest_of, is_extra, kind_of, make_guest, may_judge, meaning_of, news_of,
-    quits, role_at, role_of, shown_in,
+    Meaning, event_of, guest_of, is_extra, kind_of, make_guest, many_of, may_judge, meaning_of,
+    news_of, quits, role_at, role_of, shown_in,
 };
-pub use progress::{Progress, is_refused, settle, window_after};
+pub use progress::{Progress, came_of, is_judged, is_refused, settle, window_after};
 pub use sending::{cut_off, drop_typed, is_laggard, typist_after, wanting, write};
 pub use submitted::{Gate, Open, Submitted, entries_of, is_quit, kept_of};
 pub use turns::{Pending, Reads, Writes, drawn_from, next_from};

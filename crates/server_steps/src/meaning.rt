@@ -4,7 +4,7 @@ ghost use Rattle.std.specs.Prelude.{◌≡◌, ◌↔◌, IfOk, IfSome, IsTrue, 
 ghost use Rattle.slab.specs.Slab.{get};
 ghost use Rattle.session.specs.Trace.{happening};
 ghost use Rattle.server_connections.specs.Changing.{changed};
-ghost use Rattle.server_steps.specs.Meaning.{event_of, guest_of, kind_of, meaning_of};
+ghost use Rattle.server_steps.specs.Meaning.{event_of, guest_of, kind_of, many_of, meaning_of};
 ghost use Rattle.server_steps.specs.Meaning.{is_extra_at, joined, may_judge, news_of, role_at, role_of, shown_in};
 ghost use Rattle.server_steps.specs.Submitted.{IsQuit};
 
@@ -121,6 +121,16 @@ pub fn role_of(kind: GuestKind, done: &Done) -> Role
     match kind {
         GuestKind::Client => Role::Client(done.made),
         GuestKind::Window => Role::Window(done.made),
+    }
+}
+
+/// The first words of what a user is told who has as many clients or windows as a user may have.
+pub fn many_of(kind: GuestKind) -> &'static [u8]
+    ensures { result.now ≡ many_of kind }
+{
+    match kind {
+        GuestKind::Client => b"too many clients of ",
+        GuestKind::Window => b"too many windows of ",
     }
 }
 

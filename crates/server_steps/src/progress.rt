@@ -2,7 +2,7 @@
 
 ghost use Rattle.std.specs.Prelude.{◌≡◌, if◌then◌else◌};
 ghost use Rattle.server_typing.specs.Typed.{is_idle};
-ghost use Rattle.server_steps.specs.Settling.{is_refused, left_of, progress_of, settled, taken_of};
+ghost use Rattle.server_steps.specs.Settling.{came_of, is_judged, is_refused, left_of, progress_of, settled, taken_of};
 ghost use Rattle.server_steps.specs.Settling.{window_after};
 
 use server_connections::{SeatAnswer, SeatFault, Typeahead};
@@ -80,6 +80,23 @@ pub fn settle(typed: &mut Typeahead, answer: &Result<Option<SeatAnswer>, SeatFau
             leave(typed, taken_of(&answer.reply))
         }
         Err(_) => leave(typed, 0),
+    }
+}
+
+/// Whether keys were judged: their user didn't have to wait.
+pub fn is_judged(progress: Progress) -> bool
+    ensures { result ≡ is_judged progress }
+{
+    !matches!(progress, Progress::Held)
+}
+
+/// What came of a step for the user who tried it.
+pub fn came_of(answer: &Result<SeatAnswer, SeatFault>) -> Outcome
+    ensures { result ≡ came_of answer.now }
+{
+    match answer {
+        Ok(answer) => answer.outcome,
+        Err(_) => Outcome::Untaken,
     }
 }
 
