@@ -3,7 +3,7 @@ use denote.RattleType.{RattleType}
 use denote.Param.Send.{IsSend, IsSync}
 use denote.Param.SendFields.{declared_send, declared_sync}
 use Rattle.std.specs.declared.sync.ledger.Ledger.{Ghosts}
-use Rattle.hub_ledger.specs.declared.begun.Begun.{Ghosts as Beginnings}
+use Rattle.hub_ledger.specs.declared.Begun.{Ghosts as Beginnings}
 use Rattle.std.specs.contracts.sync.Mutex as Mutex
 use Rattle.std.proofs.sync.Mutex.TheSendSync as mutex
 use Rattle.std.proofs.Crossing.{Vec-send}

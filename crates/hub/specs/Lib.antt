@@ -4,7 +4,7 @@ pub use Rattle.hub_check.specs.Judges
 pub use Rattle.hub_check.specs.declared.replay
 pub use Rattle.hub_ledger.specs.Closing
 pub use Rattle.hub_ledger.specs.Seats
-pub use Rattle.hub_ledger.specs.declared.begun
+pub use Rattle.hub_ledger.specs.declared.Begun
 pub use Rattle.hub_trail.specs.Filing
 pub use Rattle.hub_trail.specs.Judging
 pub use Rattle.hub_trail.specs.Legal

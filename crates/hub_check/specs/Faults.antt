@@ -1,7 +1,7 @@
 -- The number of each fault.
 use Rattle.std.specs.Prelude.{ℕ}
-use Rattle.hub_check.specs.declared.fault.CheckFault.{CheckFault}
-use Rattle.hub_check.specs.declared.fault.CheckFault.TheVariants.{BadEntry, NoMemory}
+use Rattle.hub_check.specs.declared.CheckFault.{CheckFault}
+use Rattle.hub_check.specs.declared.CheckFault.TheVariants.{BadEntry, NoMemory}
 
 -- the number of a fault
 abbrev pub check_number : CheckFault → ℕ

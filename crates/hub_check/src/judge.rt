@@ -10,11 +10,10 @@ ghost use Rattle.hub_check.specs.Following.{StandsAfter};
 ghost use Rattle.hub_check.specs.Parts.{IsAnswered, IsJudged};
 ghost use Rattle.hub_check.specs.Judges.{HasJudged, Judges};
 
-use crate::acts::are_let;
 use crate::commands::fits_line;
 use crate::fits::{fits, is_of_known};
 use crate::replay::Replay;
-use crate::verdicts::{are_of, are_of_client, are_true, failed};
+use crate::verdicts::{are_let, are_of, are_of_client, are_true, failed};
 use acl::{Edition, UserId};
 use hub_record::TrailEntry;
 use hub_replies::{carries_failed, is_denied};

@@ -1,18 +1,18 @@
-//! What verdicts say, and whether they pass.
+//! What verdicts say, whether they pass, and whether they let acts be done.
 
 ghost use Rattle.std.specs.Prelude.{◌≡◌, ◌↔◌, true};
 ghost use Rattle.std.specs.List.{list_all};
 ghost use Rattle.acl.specs.declared.edition.Edition.{Edition};
 ghost use Rattle.acl.specs.declared.user_id.UserId.{UserId};
 ghost use Rattle.acl.specs.History.{History};
-ghost use Rattle.hub_trail.specs.Legal.{passes, failed, user_of, AsksFirst};
+ghost use Rattle.hub_trail.specs.Legal.{passes, failed, user_of, AsksFirst, is_let, AreLet};
 ghost use Rattle.hub_trail.specs.Legal.{is_client_of, is_granted, is_of_user};
 ghost use Rattle.hub_check.specs.Following.{StandsAfter};
 ghost use Rattle.hub_check.specs.Parts.{AreTrue, AsksFor};
 
 use crate::replay::Replay;
-use acl::{Bit, CommandName, Object, UserId};
-use hub_trail::asks_for_command;
+use acl::{Act, Bit, CommandName, Object, UserId};
+use hub_trail::{Kept, asks_for_command, from_command};
 use session::Verdict;
 
 /// Whether the verdict lets its user go on.
@@ -121,4 +121,23 @@ pub fn is_granted(verdicts: &[Verdict]) -> bool
         [first, ..] => asks_for_command(*first) && all_pass(verdicts),
         [] => false,
     }
+}
+
+/// Whether the verdicts let the event change anything.
+fn is_let(event: &Kept, verdicts: &[Verdict]) -> bool
+    ensures { result ≡ is_let event.now verdicts.now }
+{
+    match event {
+        Kept::Command { .. } => is_granted(verdicts),
+        Kept::Keys { .. } => is_granted(from_command(verdicts)),
+        Kept::Attach { .. } | Kept::Detach { .. } | Kept::Open { .. } | Kept::Closed { .. } =>
+            all_pass(verdicts),
+    }
+}
+
+/// Whether there are no acts, or the verdicts let them be done.
+pub fn are_let(event: &Kept, verdicts: &[Verdict], acts: &[Act]) -> bool
+    ensures { (result ≡ true) ↔ AreLet event.now verdicts.now acts.now }
+{
+    acts.is_empty() || is_let(event, verdicts)
 }

@@ -4,11 +4,11 @@ use denote.RattleType.{RattleType}
 use denote.Param.Send.{IsSend, view_send}
 use denote.Param.SendFields.{declared_send}
 use Rattle.std.specs.declared.sync.ledger.Ledger.{Ghosts}
-use Rattle.hub_ledger.specs.declared.begun.Begun.{Ghosts as Beginnings}
+use Rattle.hub_ledger.specs.declared.Begun.{Ghosts as Beginnings}
 use Rattle.std.proofs.sync.ledger.Book.TheSendSync as book
 use Rattle.std.proofs.alloc.Global.TheSendSync as global
 use Rattle.session.proofs.Crossing.{session_send}
-use Rattle.hub_peers.proofs.peers.Peers.TheSendSync as peers
+use Rattle.hub_peers.proofs.Peers.TheSendSync as peers
 use Rattle.hub_ledger.proofs.waiting.SeatEffects.TheSendSync as waiting
 use Rattle.hub_record.proofs.growing_trail.GrowingTrail.TheSendSync as entries
 use Rattle.hub_ledger.specs.contracts.filed_session.FiledSession as FiledSession

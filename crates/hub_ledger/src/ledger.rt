@@ -23,7 +23,7 @@ mod trail;
 #[cfg(test)]
 mod turned;
 
-use crate::begun::Begun;
+use crate::Begun;
 use crate::closing::{count, first_wrong};
 use crate::filed_session::FiledSession;
 use crate::seat::Seat;

@@ -9,7 +9,7 @@ use Rattle.session.specs.event.Effect.TheVariants.{Gone}
 use Rattle.session.specs.event.Peer.TheVariants as peer
 use Rattle.session.specs.Trace.{EventValue, Reply}
 use Rattle.hub_trail.specs.Peers.{attaches, opens}
-use Rattle.hub_peers.specs.declared.peers.Peers.{Peers}
+use Rattle.hub_peers.specs.declared.Peers.{Peers}
 
 -- the seats of clients, and those of windows, by serial
 pub record Owners : Type 0 where

@@ -1,7 +1,7 @@
 -- What a list of entries stands for.
 use Rattle.std.specs.Prelude.{ℕ, ◌<◌, ◌≤◌, ◌≡◌, ◌++◌, List, length, flat_map, option_to_list, slice_get}
 use Rattle.hub_trail.specs.Trails.{Entry}
-use Rattle.hub_record.specs.declared.new_entry.NewEntry.{NewEntry}
+use Rattle.hub_record.specs.declared.growing_trail.NewEntry.{NewEntry}
 
 -- the entries, the oldest first; how many fit without more memory; how many forms are stored, and
 -- how many of them fit

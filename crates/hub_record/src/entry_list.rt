@@ -4,7 +4,7 @@ ghost use Rattle.std.specs.Prelude.{◌≡◌, ◌∷◌, ◌++◌, ◌<◌, [],
 ghost use Rattle.std.specs.Prelude.{IfOk, OnOk, Some};
 ghost use Rattle.hub_record.specs.EntryLists.{HasOneMore, HasRoom, entry_in};
 
-use crate::new_entry::NewEntry;
+use crate::growing_trail::NewEntry;
 use crate::search::{KEPT, find, first_of, slot_of};
 use crate::trail_entry::TrailEntry;
 use std::alloc::{AllocError, Global};

@@ -1,17 +1,18 @@
 //! The entries of a trail that grows, and what is made before a step so that its entry takes no memory.
 
-ghost use Rattle.std.specs.Prelude.{◌≡◌, ◌<◌, IfOk, OnOk, length};
+ghost use Rattle.std.specs.Prelude.{◌≡◌, ◌<◌, IfOk, OnOk, length, true};
 ghost use Rattle.session.specs.Trace.{happening};
 ghost use Rattle.hub_trail.specs.Filing.{kept_of};
-ghost use Rattle.hub_record.specs.EntryLists.{HasRoom};
+ghost use Rattle.hub_record.specs.EntryLists.{HasRoom, entry_in};
 ghost use Rattle.hub_record.specs.Growing.{kept_by, trail_in, with_entries, written};
 
 use crate::entry_list::EntryList;
-use crate::new_entry::NewEntry;
+use crate::equal::are_same;
 use crate::reply::KeptReply;
-use acl::{Edition, UserId};
+use crate::trail_entry::TrailEntry;
+use acl::{Act, Edition, UserId};
 use hub_trail::Kept;
-use session::{Event, Notes, Refusal, Reply};
+use session::{Event, Notes, Refusal, Reply, Verdict};
 use std::alloc::{AllocError, Global};
 
 /// What is kept of an event, and a block of memory for a refusal.
@@ -71,5 +72,40 @@ impl GrowingTrail {
                 reply,
             });
         }
+    }
+}
+
+/// The parts of an entry that is still to be stored.
+#[derive(Drop)]
+pub struct NewEntry {
+    pub event: Kept,
+    pub verdicts: Vec<Verdict>,
+    pub acts: Vec<Act>,
+    pub reply: KeptReply,
+}
+
+impl NewEntry {
+    /// Whether this is equal to the entry.
+    pub fn is_of(&self, entry: &TrailEntry) -> bool
+        ensures { result ≡ true → entry.now ≡ entry_in self.now }
+    {
+        entry.is_told(&self.event, &self.reply)
+            && are_same(entry.verdicts(), self.verdicts.as_slice())
+            && are_same(entry.acts(), self.acts.as_slice())
+    }
+
+    /// The entry, which takes only the memory that it needs.
+    pub fn into_entry(self) -> TrailEntry
+        ensures { result ≡ entry_in self }
+    {
+        let NewEntry {
+            event,
+            mut verdicts,
+            mut acts,
+            reply,
+        } = self;
+        verdicts.shrink_to_fit();
+        acts.shrink_to_fit();
+        TrailEntry::new(event, verdicts, acts, reply)
     }
 }

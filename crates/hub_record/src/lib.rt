@@ -5,7 +5,6 @@
 mod entry_list;
 mod equal;
 mod growing_trail;
-mod new_entry;
 mod receipts;
 mod refusals;
 mod reply;
@@ -13,9 +12,8 @@ mod search;
 mod trail_entry;
 
 pub use entry_list::EntryList;
-pub use growing_trail::{GrowingTrail, Prepared};
+pub use growing_trail::{GrowingTrail, NewEntry, Prepared};
 pub use hub_trail::Kept;
-pub use new_entry::NewEntry;
 pub use receipts::{Receipt, Receipts};
 pub use reply::KeptReply;
 pub use trail_entry::TrailEntry;

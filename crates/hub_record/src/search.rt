@@ -3,7 +3,7 @@
 ghost use Rattle.std.specs.Prelude.{◌≡◌, ◌≤◌, Some, IfSome, slice_get};
 ghost use Rattle.hub_record.specs.EntryLists.{entry_in};
 
-use crate::new_entry::NewEntry;
+use crate::growing_trail::NewEntry;
 use crate::reply::KeptReply;
 use crate::trail_entry::TrailEntry;
 use acl::{Object, UserId};

@@ -6,7 +6,7 @@ ghost use Rattle.session.specs.Trace.{begun};
 ghost use Rattle.hub.specs.Seats.{StandsFor};
 
 use crate::entries::copy_of;
-use crate::steps::{are_done, line_of};
+use crate::fresh::{are_done, line_of};
 use acl::{Bit, Edition, Object, UserId};
 use hub::{Begun, CheckFault, EntryList, Hub, Session, Trail, check_entries, check_trail};
 use session::{Event, Refusal, Verdict};

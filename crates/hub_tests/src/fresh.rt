@@ -4,7 +4,6 @@ ghost use Rattle.std.specs.Prelude.{◌≡◌};
 ghost use Rattle.session.specs.Trace.{begun};
 ghost use Rattle.hub.specs.Seats.{StandsFor};
 
-use crate::steps::{are_done, line_of};
 use acl::UserId;
 use hub::{Begun, Hub, Seat, Sent, Session};
 use session::{Effect, Event};
@@ -12,6 +11,31 @@ use std::alloc::Global;
 use std::marker::Brand;
 use std::sync::Wait;
 use std::sync::ledger::Blank;
+
+/// A line of a user.
+pub fn line_of(user: UserId, line: &'static [u8]) -> Event<'static> {
+    Event::Command {
+        user,
+        window: None,
+        line,
+    }
+}
+
+/// Whether a seat submits all of these, and none is refused.
+pub fn are_done<L: Begun, R: Wait>(
+    rt: &R,
+    hub: &Hub<L>,
+    seat: &mut Seat<L>,
+    events: &[Event<'_>],
+) -> bool {
+    for event in events {
+        match hub.submit(rt, seat, *event) {
+            Ok(answer) if answer.reply().is_ok() => {}
+            _ => return false,
+        }
+    }
+    true
+}
 
 /// Three windows of the owner, and bob, who shows the third.
 fn beginning(owner: UserId, bob: UserId) -> [Event<'static>; 7] {

@@ -20,7 +20,6 @@ mod refusing;
 #[cfg(test)]
 mod shared;
 #[cfg(test)]
-mod steps;
 #[cfg(test)]
 mod stops;
 #[cfg(test)]

@@ -4,7 +4,7 @@ ghost use Rattle.std.specs.Prelude.{◌≡◌};
 ghost use Rattle.session.specs.Trace.{begun};
 ghost use Rattle.hub.specs.Seats.{StandsFor};
 
-use crate::steps::line_of;
+use crate::fresh::line_of;
 use acl::UserId;
 use hub::{Begun, Hub, Seat, Session};
 use session::Event;

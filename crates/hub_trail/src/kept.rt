@@ -5,7 +5,6 @@ ghost use Rattle.session.specs.Trace.{happening};
 ghost use Rattle.hub_trail.specs.Filing.{copies, ending_of, finished_by, kept_of};
 ghost use Rattle.hub_trail.specs.declared.kept.Kept.TheVariants as kept;
 
-use crate::same::{is_command, is_open};
 use acl::UserId;
 use session::{Bytes, Done, Event, Refusal, Reply};
 use std::alloc::{AllocError, Global};
@@ -224,5 +223,38 @@ pub fn ending_of(reply: &Reply) -> Ending
     match reply {
         Ok(done) => Ok(Finished::of(done)),
         Err(refusal) => Err(*refusal),
+    }
+}
+
+/// Whether the event is this Command.
+fn is_command(event: &Kept, user: UserId, window: Option<u8>, line: &Bytes) -> bool
+    ensures { (result ≡ true) ↔ (event.now ≡ kept.Command user window line.now) }
+{
+    match event {
+        Kept::Command {
+            user: named,
+            window: number,
+            line: given,
+        } => *named == user && *number == window && given.as_slice() == line.as_slice(),
+        _ => false,
+    }
+}
+
+/// Whether the event is this Open.
+fn is_open(event: &Kept, user: UserId, size: (u16, u16), keep: u16, title: &Bytes) -> bool
+    ensures { (result ≡ true) ↔ (event.now ≡ kept.Open user size.0 size.1 keep title.now) }
+{
+    match event {
+        Kept::Open {
+            user: named,
+            rows,
+            columns,
+            keep: kept,
+            title: given,
+        } => {
+            let is_size = *rows == size.0 && *columns == size.1;
+            *named == user && is_size && *kept == keep && given.as_slice() == title.as_slice()
+        }
+        _ => false,
     }
 }

@@ -5,25 +5,21 @@
 #![tactic(auto)]
 
 ghost use Rattle.hub_trail.specs.Laws.{EntriesAreLegal, TrailsAreLegal, TrailsHaveTheActs};
-ghost use Rattle.hub_trail.specs.Laws.{LegalInParts, VerdictsAreDecided};
+ghost use Rattle.hub_trail.specs.Laws.{LegalInParts, VerdictsAreDecided, TrailsAreJudgeable};
 ghost use Rattle.hub_trail.specs.Peers.{EffectsHavePeers, SerialsAreGiven};
+ghost use Rattle.hub_trail.specs.Steps.{EntriesAreJudgeable};
 
-mod asked;
 mod fits;
 mod has;
 mod kept;
-mod laws;
 mod makes;
-mod same;
 mod says;
 
-pub use asked::{asks_for_command, from_command};
 pub use fits::{all_shut, attaches_one, opens_one};
 pub use has::{has_act_of, has_closed, has_come, has_gone, has_opened};
 pub use kept::{Ending, Finished, Kept, ending_of, writes_entry};
-pub use laws::{entries_are_judgeable, trails_are_judgeable};
 pub use makes::made_by;
-pub use says::{gives, is_listed, leads, removes};
+pub use says::{asks_for_command, from_command, gives, is_listed, leads, removes};
 
 /// A step on the tables of a run writes one entry, which is legal after the acts of the tables, or
 /// it has no acts.
@@ -60,4 +56,16 @@ pub fn verdicts_are_decided()
 /// after the acts of the first.
 pub fn entries_are_legal_in_parts()
     ensures { LegalInParts }
+{}
+
+/// Tables of rights and locks can judge what a step files, if the step is on fit tables: its
+/// verdicts are on objects that are there, and its acts can follow one another.
+pub fn entries_are_judgeable()
+    ensures { EntriesAreJudgeable }
+{}
+
+/// Tables of rights and locks can judge each entry of the trail of a run, after the acts of the
+/// entries before it.
+pub fn trails_are_judgeable()
+    ensures { TrailsAreJudgeable }
 {}

@@ -1,4 +1,4 @@
-//! What a command's line says of users and rights.
+//! What a command's line says of users and rights, and which verdicts ask for the command.
 
 ghost use Rattle.std.specs.Prelude.{◌≡◌, false};
 ghost use Rattle.std.specs.List.{list_any};
@@ -10,10 +10,12 @@ ghost use Rattle.command_lang.specs.Names.{command_named};
 ghost use Rattle.session.specs.Naming.{new_leader_of};
 ghost use Rattle.hub_trail.specs.Saying.{same_value, changes, item_says, items_say, same_leader};
 ghost use Rattle.hub_trail.specs.Saying.{gives, removes, leads};
+ghost use Rattle.hub_trail.specs.Legal.{asks_for_command, from_command};
 
 use crate::makes::is_same;
 use acl::{Bit, BitChange, CommandName, Object, UserId};
 use command_lang::{Command, Leader, Text, command_named, has_byte, is_wide};
+use session::Verdict;
 
 /// Whether the word names the user.
 fn is_named_by(user: UserId, word: &Text) -> bool
@@ -140,4 +142,30 @@ pub fn leads(given: &Command, user: UserId, leader: Option<UserId>) -> bool
         } => is_named_by(user, word) && same_leader(chosen(named), leader),
         _ => false,
     }
+}
+
+/// Whether the verdict asks for x on a command.
+pub fn asks_for_command(verdict: Verdict) -> bool
+    ensures { result ≡ asks_for_command verdict }
+{
+    matches!(
+        verdict,
+        Verdict::Right {
+            bit: Bit::Execute,
+            object: Object::Command(_),
+            ..
+        }
+    )
+}
+
+/// The verdicts, from the first one on that asks for x on a command.
+pub fn from_command(verdicts: &[Verdict]) -> &[Verdict]
+    ensures { result.now ≡ from_command verdicts.now }
+{
+    for i in 0..verdicts.len() {
+        if asks_for_command(verdicts[i]) {
+            return &verdicts[i..];
+        }
+    }
+    &[]
 }

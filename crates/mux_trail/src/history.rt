@@ -1,12 +1,12 @@
 //! When a user got a bit, and lost it.
 
 use crate::words::TitledBit;
-use acl::{Bit, Object, UserId};
+use acl::{Object, UserId};
 use std::alloc::{AllocError, Global};
 use std::io::{self, Write};
 use trail_confined::Question;
 use trail_lines::EntryLine;
-use trail_log::{Names, giver};
+use trail_log::Names;
 use trail_rights::{Watch, may, text_of, write_when};
 
 /// The bit that is asked about.

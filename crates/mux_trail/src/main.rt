@@ -3,12 +3,10 @@
 
 mod ask;
 mod diary;
-mod following;
 mod history;
-mod outlet;
 mod program;
 mod reading;
-mod setup;
+mod streams;
 mod words;
 
 use crate::program::trail;

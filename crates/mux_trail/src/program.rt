@@ -2,9 +2,7 @@
 
 use crate::ask::ask;
 use crate::diary::tell_log;
-use crate::following::Following;
-use crate::outlet::Outlet;
-use crate::setup::tell_setup;
+use crate::streams::{Following, Outlet};
 use crate::words::{GivenArgs, Mistake, TrailArgs, Verb, asked_of, given_in};
 use acl::{Edition, UserId};
 use clap::Error;
@@ -15,10 +13,12 @@ use std::io::{self, BufRead, BufReader, Read, Write};
 use std::rt::Files;
 use std::time::Clock;
 use trail_files::{
-    Heading, ILLEGAL, LEGAL, LineFormat, TROUBLE, TrailFault, check_lines, heading_of, place_at,
-    show_lines, tell_back, tell_finish, tell_heading,
+    Heading, ILLEGAL, LEGAL, LineFormat, TROUBLE, TrailFault, check_lines, finish_of, heading_of,
+    place_at, show_lines, tell_back, tell_finish, tell_heading,
 };
 use trail_lines::Audit;
+use trail_rights::{AskedBits, Watch, watch_entries};
+use trail_setup::{SetupState, push_setup};
 
 /// Judges the entries of a reader.
 fn judge<R: BufRead, W: Write>(
@@ -210,4 +210,40 @@ pub fn trail<R: Clock + Files + AllocGlobal, W: Write, E: Write>(
         Ok(status) => status,
         Err(fault) => tell_fault(outlet.fault_of(fault), asked.path, errors),
     }
+}
+
+/// Writes the lines of a setup by the entries that a reader has, or what is wrong with the file.
+pub fn tell_setup<R: BufRead, W: Write>(
+    alloc: Global,
+    asked: TrailArgs<'_>,
+    reader: &mut R,
+    output: &mut W,
+) -> Result<u8, TrailFault> {
+    let heading = heading_of(alloc, reader)?;
+    let (edition, owner) = (heading.edition, asked.owner.unwrap_or(heading.owner));
+    let mut watch = Watch::new(alloc, edition, owner, AskedBits::Nothing).map_err(io::Error::from)?;
+    let mut state = SetupState::new(alloc, edition, owner).map_err(io::Error::from)?;
+    let mut line = Vec::new(alloc);
+    let last = asked.place.unwrap_or(u64::MAX);
+    let halt = watch_entries(
+        &mut watch,
+        reader,
+        &mut line,
+        last,
+        |said| state.take(&said.entry),
+    )?;
+    let finish = finish_of(alloc, watch.count(), halt, reader, &mut line)?;
+    if finish.is_bad() {
+        tell_finish(alloc, finish, watch.count(), owner, output)?;
+        return Ok(ILLEGAL);
+    }
+    if let Some(place) = asked.place
+        && place >= watch.count()
+    {
+        return Err(TrailFault::NoPlace(place, watch.count()));
+    }
+    let mut text = Vec::new(alloc);
+    push_setup(alloc, &watch, &state, &mut text).map_err(io::Error::from)?;
+    output.write_all(text.as_slice())?;
+    Ok(LEGAL)
 }

@@ -3,7 +3,7 @@ use denote.RattleType.{RattleType}
 use denote.Param.Send.{IsSync}
 use denote.Param.SendFields.{declared_sync}
 use Rattle.std.specs.declared.sync.ledger.Ledger.{Ghosts}
-use Rattle.hub.specs.begun.Begun.{Ghosts as Beginnings}
+use Rattle.hub.specs.Begun.{Ghosts as Beginnings}
 use Rattle.hub.proofs.Crossing.{hub_sync, seats_sync}
 use denote.Param.Send.{sendable}
 use Rattle.std.proofs.Crossing.{crosses}

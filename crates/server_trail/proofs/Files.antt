@@ -9,7 +9,7 @@ use Rattle.std.proofs.lemmas.Option.{slice_get_within, get_or_from_slice_get}
 use Rattle.std.proofs.lemmas.Grind.{common_steps}
 use Rattle.hub.specs.Trails.{Entry}
 use Rattle.trail_lines.specs.Entries.{line_of}
-use Rattle.trail_lines.specs.declared.lines.NextLine.TheVariants as came
+use Rattle.trail_lines.specs.declared.halt.NextLine.TheVariants as came
 use Rattle.trail_lines.specs.Lines.{ComesAs, OfKnown}
 use Rattle.trail_lines.specs.declared.header.Header.{Header}
 use Rattle.trail_lines.specs.Heading.{header_text}

@@ -10,7 +10,7 @@ use Rattle.hub.specs.Judging.{AreGood, CanFollow}
 use Rattle.hub.specs.Trails.{Entry}
 use Rattle.trail_lines.specs.Entries.{Said}
 use Rattle.trail_rights.specs.Marks.{Marked, acts_in, entries_in, marked_after, marked_by, marked_with}
-use Rattle.trail_rights.specs.declared.mark.Mark.{Mark}
+use Rattle.trail_rights.specs.declared.acts.Mark.{Mark}
 
 can_append : (edition : Edition) (owner : UserId) (h : History) (xs ys : List Act) → CanFollow edition owner h xs
     → CanFollow edition owner (followed_by h xs) ys → CanFollow edition owner h (xs ++ ys)

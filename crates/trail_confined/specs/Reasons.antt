@@ -12,7 +12,7 @@ use Rattle.acl.specs.Names.{name_of}
 use Rattle.acl.specs.Same.{same_user}
 use Rattle.line_fields.specs.Acts.{act_text}
 use Rattle.trail_rights.specs.declared.decider.Decider.{Decider}
-use Rattle.trail_rights.specs.declared.mark.Mark.{Mark}
+use Rattle.trail_rights.specs.declared.acts.Mark.{Mark}
 use Rattle.trail_confined.specs.declared.why.Question.{Question}
 use Rattle.line_fields.specs.Dates.{when_text}
 

@@ -17,7 +17,7 @@ use Rattle.acl.specs.Same.{same_user}
 use Rattle.command_lang.specs.Names.{name_text}
 use Rattle.session.specs.Texts.{letter}
 use Rattle.trail_rights.specs.declared.decider.Decider.{Decider}
-use Rattle.trail_rights.specs.declared.mark.Mark.{Mark}
+use Rattle.trail_rights.specs.declared.acts.Mark.{Mark}
 use Rattle.trail_rights.specs.declared.settler.RightsSetting.{RightsSetting}
 use Rattle.trail_rights.specs.declared.settler.RightsSetting.TheVariants as setting
 use Rattle.trail_rights.specs.declared.settler.Settler.{Settler}

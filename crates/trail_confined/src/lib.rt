@@ -2,16 +2,23 @@
 //! come.
 #![tactic(auto)]
 
+ghost use Rattle.trail_confined.specs.Confining.{ConfinementIsDecided};
+
 mod confined;
 mod failing;
-mod laws;
 mod premises;
 mod who;
 mod why;
 
 pub use confined::{failing_of, is_confined};
 pub use failing::{power_deciders, push_confinement};
-pub use laws::confinement_is_decided;
 pub use premises::{Premise, may_open, openers_of, premises_of};
 pub use who::write_rights;
 pub use why::{Question, bit_of, push_reasons};
+
+/// Users are confined for a bit on windows to come exactly if no premise fails that concerns the bit.
+pub fn confinement_is_decided()
+    ensures { ConfinementIsDecided }
+{
+    acl::users_listed();
+}

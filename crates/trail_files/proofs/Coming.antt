@@ -2,7 +2,7 @@
 use Rattle.std.proofs.Common.{◌≡◌, ◌≢◌, ◌∙◌, ◌++◌, ◌∷◌, [], ℕ, List, Bool, true, false, Option, Some, None, ap, sym}
 use Rattle.std.proofs.Common.{true≢false}
 use Rattle.std.specs.Prelude.{IfSome}
-use Rattle.trail_lines.specs.declared.lines.NextLine.TheVariants as came
+use Rattle.trail_lines.specs.declared.halt.NextLine.TheVariants as came
 use Rattle.trail_lines.specs.Lines.{ComesAs, OfKnown, feed}
 
 abbrev has_any : List ℕ → Bool

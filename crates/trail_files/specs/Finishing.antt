@@ -4,10 +4,10 @@ use Rattle.acl.specs.declared.edition.Edition.{Edition}
 use Rattle.acl.specs.declared.user_id.UserId.{UserId}
 use Rattle.trail_lines.specs.declared.audit.Audit.{Audit}
 use Rattle.trail_lines.specs.declared.ending.Ended.{Ended}
-use Rattle.trail_lines.specs.declared.fault.Wrong.TheVariants as wrong
+use Rattle.trail_lines.specs.declared.audit.Wrong.TheVariants as wrong
 use Rattle.trail_lines.specs.declared.halt.Halt.{Halt}
 use Rattle.trail_lines.specs.declared.halt.Halt.TheVariants as halt
-use Rattle.trail_lines.specs.declared.times.Times.{Times}
+use Rattle.trail_lines.specs.declared.audit.Times.{Times}
 use Rattle.trail_lines.specs.Halting.{IsRead}
 use Rattle.trail_lines.specs.Heading.{read_end}
 use Rattle.trail_files.specs.declared.check.Finish.{Finish}

@@ -1,7 +1,6 @@
 //! Entries as objects of JSON (RFC 8259), one a line.
 
-use crate::show::Said;
-use crate::shown_texts::{behind_words, first_word};
+use crate::show::{Said, behind_words, first_word};
 use std::alloc::Global;
 use std::io::{self, Write};
 use trail_lines::Ended;

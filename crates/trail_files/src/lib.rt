@@ -6,14 +6,11 @@ mod check;
 mod fault;
 mod heading;
 mod json;
-mod moment;
 mod show;
-mod shown_texts;
 mod tell;
 
 pub use check::{Finish, check_lines, finish_at, finish_of};
 pub use fault::TrailFault;
-pub use heading::{Heading, heading_of};
-pub use moment::place_at;
+pub use heading::{Heading, heading_of, place_at};
 pub use show::{LineFormat, show_lines};
 pub use tell::{ILLEGAL, LEGAL, TROUBLE, UNCONFINED, tell_back, tell_finish, tell_heading};

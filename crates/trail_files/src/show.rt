@@ -1,9 +1,8 @@
 //! A trail's lines, with times that are read.
 
 use crate::json::{write_end, write_entry};
-use crate::shown_texts::behind_words;
 use hub::Kept;
-use line_fields::{push_escaped, push_means};
+use line_fields::{cut, push_escaped, push_means};
 use std::alloc::{AllocError, Global};
 use std::io::{self, BufRead, Write};
 use trail_lines::{Ended, EntryLine, NextLine, UnreadLine, next_line, read_end, read_line};
@@ -175,4 +174,21 @@ pub fn show_lines<R: BufRead, W: Write>(
         }
     }
     Ok(None)
+}
+
+/// The first word of a text, and what follows its blank.
+pub fn first_word(text: &[u8]) -> (&[u8], &[u8]) {
+    match cut(text, b' ') {
+        Some(parts) => parts,
+        None => (text, &[]),
+    }
+}
+
+/// What follows the first words of a text.
+pub fn behind_words(text: &[u8], count: usize) -> &[u8] {
+    let mut rest = text;
+    for _ in 0..count {
+        rest = first_word(rest).1;
+    }
+    rest
 }

@@ -4,7 +4,7 @@ use Rattle.std.proofs.Common.{refl, ap, sym, ◌∙◌, cond, subst}
 use Rattle.std.specs.Prelude.{Bool, true, false, not, ◌==◌, ◌&&◌}
 use Rattle.std.specs.Io.BufRead.{take_through, drop_through, DropsThrough}
 use Rattle.std.proofs.BufReadLemmas.{take_through-nil}
-use Rattle.trail_lines.specs.declared.lines.NextLine.TheVariants as came
+use Rattle.trail_lines.specs.declared.halt.NextLine.TheVariants as came
 use Rattle.trail_lines.specs.Lines.{feed, is_unbroken, ComesAs, OfKnown}
 
 -- a list isn't empty that ends in a byte

@@ -5,11 +5,11 @@ use Rattle.acl.specs.declared.edition.Edition.{Edition}
 use Rattle.acl.specs.declared.user_id.UserId.{UserId}
 use Rattle.trail_lines.specs.Entries.{Said, read_line}
 use Rattle.trail_lines.specs.declared.audit.Audit.{Audit}
-use Rattle.trail_lines.specs.declared.fault.Wrong.{Wrong}
+use Rattle.trail_lines.specs.declared.audit.Wrong.{Wrong}
 use Rattle.trail_lines.specs.declared.halt.Halt.{Halt}
 use Rattle.trail_lines.specs.declared.halt.Halt.TheVariants as halt
-use Rattle.trail_lines.specs.declared.lines.NextLine.TheVariants as came
-use Rattle.trail_lines.specs.declared.times.Times.{Times}
+use Rattle.trail_lines.specs.declared.halt.NextLine.TheVariants as came
+use Rattle.trail_lines.specs.declared.audit.Times.{Times}
 use Rattle.trail_lines.specs.Lines.{ComesAs, OfKnown}
 use Rattle.trail_lines.specs.Times.{time_after, times_after}
 use Rattle.trail_lines.specs.Reading.{HasRead, entry_in, entries_in}

@@ -2,8 +2,8 @@
 use Rattle.std.specs.Prelude.{ℕ, ◌≡◌, ◌≢◌, ◌==◌, Bool, true, not, List, [], ◌∷◌, ◌++◌}
 use Rattle.std.specs.Prelude.{Option, Some, None}
 use Rattle.std.specs.List.{list_all}
-use Rattle.trail_lines.specs.declared.lines.NextLine.{NextLine}
-use Rattle.trail_lines.specs.declared.lines.NextLine.TheVariants as came
+use Rattle.trail_lines.specs.declared.halt.NextLine.{NextLine}
+use Rattle.trail_lines.specs.declared.halt.NextLine.TheVariants as came
 
 abbrev pub feed : ℕ
 feed = 0x0A

@@ -13,8 +13,8 @@ use Rattle.hub.specs.Judges.{HasJudged}
 use Rattle.trail_lines.specs.declared.entries.EntryLine.{EntryLine}
 use Rattle.trail_lines.specs.Entries.{Said, read_line, said}
 use Rattle.trail_lines.specs.declared.audit.Audit.{Audit}
-use Rattle.trail_lines.specs.declared.fault.Wrong.{Wrong}
-use Rattle.trail_lines.specs.declared.fault.Wrong.TheVariants as wrong
+use Rattle.trail_lines.specs.declared.audit.Wrong.{Wrong}
+use Rattle.trail_lines.specs.declared.audit.Wrong.TheVariants as wrong
 
 -- these entries were read, each at its place, and all are good
 pub record HasRead (a : Audit) (edition : Edition) (owner : UserId) (entries : List Entry)

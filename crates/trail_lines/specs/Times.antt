@@ -1,7 +1,7 @@
 -- Times that run backwards.
 use Rattle.std.specs.Prelude.{ℕ, ◌-◌, Bool, if◌then◌else◌, List, [], ◌∷◌, Option, Some, None, nat_lt}
 use Rattle.trail_lines.specs.Entries.{Said}
-use Rattle.trail_lines.specs.declared.times.Times.{Times}
+use Rattle.trail_lines.specs.declared.audit.Times.{Times}
 
 abbrev pub no_times : Times
 no_times = record { last = 0; back = None }

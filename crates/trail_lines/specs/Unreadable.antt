@@ -1,7 +1,7 @@
 -- What a call answers that reads and needs memory.
 use Rattle.std.specs.Prelude.{◌≡◌, Option, Some, None, Ok, Err, Result}
-use Rattle.trail_lines.specs.declared.unread.UnreadLine.{UnreadLine}
-use Rattle.trail_lines.specs.declared.unread.UnreadLine.TheVariants as unread
+use Rattle.trail_lines.specs.declared.UnreadLine.{UnreadLine}
+use Rattle.trail_lines.specs.declared.UnreadLine.TheVariants as unread
 
 -- nothing is read, unless memory was refused
 abbrev pub Fails : {Y : Type 0} → UnreadLine → Option Y → Type 0

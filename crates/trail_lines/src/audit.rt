@@ -8,14 +8,36 @@ ghost use Rattle.hub.specs.Legal.{acts_after};
 ghost use Rattle.hub.specs.Following.{StandsAfter};
 ghost use Rattle.trail_lines.specs.Reading.{HasRead, Tells};
 ghost use Rattle.trail_lines.specs.Times.{no_times, time_after};
+ghost use Rattle.trail_lines.specs.declared.audit.Wrong.TheVariants.{NoMemory};
 
+use crate::UnreadLine;
 use crate::entries::{EntryLine, read_line};
-use crate::fault::Wrong;
-use crate::times::Times;
-use crate::unread::UnreadLine;
 use acl::{Edition, UserId};
 use hub::{Judge, Replay};
 use std::alloc::{AllocError, Global};
+use thiserror::Error;
+
+/// What is wrong with the line of the next entry.
+#[derive(Clone, Copy, PartialEq, Eq, Debug, Error)]
+pub enum Wrong {
+    #[error("no entry is spelled so")]
+    NoEntry,
+    #[error("another entry's place stands there")]
+    OtherPlace,
+    /// The entry isn't legal, or tables can't judge it. They can judge each entry of a run.
+    #[error("the entry isn't legal")]
+    Illegal,
+    #[error("out of memory")]
+    NoMemory,
+}
+
+impl From<AllocError> for Wrong {
+    ghost from_gives = { λ _ e. e ≡ NoMemory };
+
+    fn from(_e: AllocError) -> Wrong {
+        Wrong::NoMemory
+    }
+}
 
 /// Reads and judges entries, line by line. It keeps tables of rights, locks and clients, and no entry.
 pub struct Audit {
@@ -100,5 +122,49 @@ impl Audit {
             StandsAfter result.now edition owner (acts_after [] entries) }
     {
         self.judge.replay()
+    }
+}
+
+/// A time may be up to this many milliseconds before the time of the entry above: the loops of a server
+/// share the stamp of their lines, and one loop may overtake another.
+const SLACK: u64 = 1_000;
+
+/// The time of the last entry, and the first entry whose time runs backwards.
+#[derive(Clone, Copy)]
+pub struct Times {
+    /// The time of the last entry, in milliseconds since 1970.
+    last: u64,
+    /// The place of the first entry whose time is more than a second before that of the entry above.
+    back: Option<u64>,
+}
+
+impl Times {
+    /// Before the first entry.
+    pub fn new() -> Times
+        ensures { result ≡ no_times }
+    {
+        Times {
+            last: 0,
+            back: None,
+        }
+    }
+
+    /// After the time of the next entry, which has this place.
+    pub fn after(self, place: u64, ms: u64) -> Times
+        ensures { result ≡ time_after self place ms }
+    {
+        let back = match self.back {
+            Some(first) => Some(first),
+            None if self.last.saturating_sub(ms) > SLACK => Some(place),
+            None => None,
+        };
+        Times { last: ms, back }
+    }
+
+    /// The place of the first entry whose time is more than a second before that of the entry above.
+    pub fn back(&self) -> Option<u64>
+        ensures { result ≡ self.now.back }
+    {
+        self.back
     }
 }

@@ -4,7 +4,7 @@ ghost use Rattle.std.specs.Prelude.{◌≡◌, ◌++◌, OnOk};
 ghost use Rattle.trail_lines.specs.Unreadable.{Gives};
 ghost use Rattle.trail_lines.specs.Heading.{cause_text, cause_in, end_text, end_fields, read_end};
 
-use crate::unread::UnreadLine;
+use crate::UnreadLine;
 use line_fields::{cut, u64_at};
 use session::push_decimal;
 use std::alloc::{AllocError, Global};

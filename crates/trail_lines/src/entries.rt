@@ -8,9 +8,9 @@ ghost use Rattle.trail_lines.specs.Entries.{checked_text, done_text, tail_text, 
 ghost use Rattle.trail_lines.specs.Entries.{noting, notes_of, tail_in, said_in, if_spelled, read_line, noted, said};
 ghost use Rattle.trail_lines.specs.Unreadable.{Gives};
 
+use crate::UnreadLine;
 use crate::events::{event_at, push_count, push_event};
 use crate::replies::{push_reply, read_reply};
-use crate::unread::UnreadLine;
 use acl::Act;
 use hub::{Ending, KeptReply, TrailEntry};
 use line_fields::acts::{push_act, read_act};

@@ -8,7 +8,7 @@ ghost use Rattle.trail_lines.specs.Events.{text_field, text_in, text_at, title_i
 ghost use Rattle.trail_lines.specs.Events.{window_text, window_in, window_at, event_then, event_in, event_at};
 ghost use Rattle.trail_lines.specs.Unreadable.{Gives};
 
-use crate::unread::UnreadLine;
+use crate::UnreadLine;
 use acl::UserId;
 use hub::Kept;
 use line_fields::parts::{push_name, user_at};

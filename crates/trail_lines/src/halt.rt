@@ -5,13 +5,39 @@ ghost use Rattle.acl.specs.declared.edition.Edition.{Edition};
 ghost use Rattle.acl.specs.declared.user_id.UserId.{UserId};
 ghost use Rattle.trail_lines.specs.Reading.{HasRead};
 ghost use Rattle.trail_lines.specs.Halting.{IsEnd, IsRead, NextIs};
-ghost use Rattle.trail_lines.specs.Lines.{OfKnown};
+ghost use Rattle.trail_lines.specs.Lines.{OfKnown, ComesAs};
 
-use crate::audit::Audit;
-use crate::fault::Wrong;
-use crate::lines::{NextLine, next_line};
+use crate::audit::{Audit, Wrong};
 use std::alloc::AllocError;
 use std::io::{self, BufRead};
+
+/// How a line was read.
+#[derive(Clone, Copy)]
+pub enum NextLine {
+    /// With its line feed.
+    Whole,
+    /// Without its line feed: the file ends in the line.
+    Torn,
+    /// Not at all: the file has ended.
+    Nothing,
+}
+
+/// Reads a line into `line`, without its line feed, in place of what `line` had.
+pub fn next_line<R: BufRead>(reader: &mut R, line: &mut Vec<u8>) -> io::Result<NextLine>
+    ensures { IfOk result (λ came. OfKnown (R.remaining reader.old) (R.remaining reader.new)
+        (ComesAs came line.new.items)) }
+{
+    line.clear();
+    reader.read_until(b'\n', line)?;
+    match line.pop() {
+        Some(b'\n') => Ok(NextLine::Whole),
+        Some(byte) => {
+            line.push(byte)?;
+            Ok(NextLine::Torn)
+        }
+        None => Ok(NextLine::Nothing),
+    }
+}
 
 /// Why the reading of a file's entries halts.
 #[derive(Clone, Copy)]

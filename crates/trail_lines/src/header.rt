@@ -4,7 +4,7 @@ ghost use Rattle.std.specs.Prelude.{◌≡◌, ◌++◌, OnOk};
 ghost use Rattle.trail_lines.specs.Unreadable.{Gives};
 ghost use Rattle.trail_lines.specs.Heading.{edition_in, form_text, header_text, header_fields, read_header};
 
-use crate::unread::UnreadLine;
+use crate::UnreadLine;
 use acl::{Edition, UserId};
 use line_fields::parts::user_at;
 use line_fields::{cut, read_u64};

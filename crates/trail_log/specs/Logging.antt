@@ -4,7 +4,7 @@ use Rattle.acl.specs.declared.edition.Edition.{Edition}
 use Rattle.acl.specs.declared.user_id.UserId.{UserId}
 use Rattle.hub.specs.Trails.{Entry}
 use Rattle.trail_lines.specs.Entries.{Said, read_line}
-use Rattle.trail_lines.specs.declared.fault.Wrong.{Wrong}
+use Rattle.trail_lines.specs.declared.audit.Wrong.{Wrong}
 use Rattle.trail_lines.specs.Reading.{HasRead, IsWrong}
 use Rattle.trail_log.specs.declared.choice.Choice.{Choice}
 use Rattle.trail_log.specs.declared.logging.LogWriter.{LogWriter}

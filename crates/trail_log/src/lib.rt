@@ -6,7 +6,6 @@ mod checks;
 mod choice;
 mod deeds;
 mod joining;
-mod lines;
 mod log_line;
 mod logging;
 mod names;
@@ -14,7 +13,7 @@ mod pressed;
 mod titles;
 
 pub use choice::{Choice, Wanted, giver};
-pub use lines::push_end;
+pub use log_line::push_end;
 pub use logging::LogWriter;
 pub use names::Names;
 pub use titles::{Titled, title_in};

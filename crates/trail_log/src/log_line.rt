@@ -1,13 +1,13 @@
-//! A line of a log, before it is printed.
+//! A line of a log, before it is printed, and the line of a trail's end.
 
 ghost use Rattle.std.specs.Prelude.{◌≡◌, ◌++◌, ◌∷◌, [], IfOk, OnOk};
 ghost use Rattle.trail_lines.specs.Entries.{said};
 ghost use Rattle.trail_log.specs.Joining.{bytes_text, deed_line, line_of, line_text, plain_text, typed_head};
 ghost use Rattle.trail_log.specs.Joining.{typed_in, typed_line};
+ghost use Rattle.trail_log.specs.Lines.{end_line, end_text};
 
 use crate::checks::window_in;
 use crate::deeds::{push_client, push_deed};
-use crate::lines::push_text;
 use crate::names::Names;
 use crate::pressed::{push_count, push_typed_rest, typed_verb};
 use client_words::put_visible;
@@ -15,7 +15,7 @@ use hub::{Ending, Kept, failed, from_command};
 use line_fields::push_clock;
 use session::{Bytes, Verdict};
 use std::alloc::{AllocError, Global};
-use trail_lines::EntryLine;
+use trail_lines::{Ended, EntryLine};
 
 /// A line of the log. If it is about typed bytes, their number is between the head and the tail.
 #[derive(Drop)]
@@ -144,5 +144,29 @@ pub fn push_line(line: &LogLine, out: &mut Vec<u8>) -> Result<(), AllocError>
     let mut plain = Vec::new(*out.allocator());
     push_plain(line, &mut plain)?;
     put_visible(plain.as_slice(), out)?;
+    out.extend_from_slice(b"\n")
+}
+
+/// Appends bytes.
+pub fn push_text(text: &[u8], out: &mut Vec<u8>) -> Result<(), AllocError>
+    ensures { OnOk result (out.new.items ≡ out.old.items ++ text.now) }
+{
+    out.extend_from_slice(text)
+}
+
+/// Appends why a trail ended.
+fn push_why(ended: &Ended, out: &mut Vec<u8>) -> Result<(), AllocError>
+    ensures { OnOk result (out.new.items ≡ out.old.items ++ end_text ended.now) }
+{
+    out.extend_from_slice(b" the session ended: ")?;
+    out.extend_from_slice(ended.cause.word())
+}
+
+/// Appends the line of a trail's end: when it ended, and why.
+pub fn push_end(ended: &Ended, out: &mut Vec<u8>) -> Result<(), AllocError>
+    ensures { OnOk result (out.new.items ≡ out.old.items ++ end_line ended.now) }
+{
+    push_clock(ended.ms, out)?;
+    push_why(ended, out)?;
     out.extend_from_slice(b"\n")
 }

@@ -11,7 +11,7 @@ use Rattle.acl.specs.declared.user_id.UserId.{UserId}
 use Rattle.acl.specs.History.{History, decided, decision, greeting, has, there, is_open, is_known, mask, decides_open}
 use Rattle.acl.specs.History.{decides_known}
 use Rattle.acl.specs.Same.{same_user, same_bit, same_object}
-use Rattle.trail_rights.specs.declared.mark.Mark.{Mark}
+use Rattle.trail_rights.specs.declared.acts.Mark.{Mark}
 use Rattle.trail_rights.specs.declared.decider.Decider.{Decider}
 use Rattle.trail_rights.specs.Marks.{Marked, acts_in}
 use Rattle.trail_rights.specs.Deciding.{deciding, decides, there_after, decider_after, HasDecided, IsDecided}

@@ -12,10 +12,10 @@ use Rattle.acl.specs.declared.bits.Bit.{Bit}
 use Rattle.acl.specs.declared.user_id.UserId.{UserId}
 use Rattle.acl.specs.History.{decides_known, latest, there}
 use Rattle.acl.specs.Same.{same_bit, same_object, same_user, index_of_command, place_of_bit}
-use Rattle.trail_rights.specs.declared.asked.AskedBits.{AskedBits}
-use Rattle.trail_rights.specs.declared.asked.AskedBits.TheVariants as asked
+use Rattle.trail_rights.specs.declared.acts.AskedBits.{AskedBits}
+use Rattle.trail_rights.specs.declared.acts.AskedBits.TheVariants as asked
 use Rattle.trail_rights.specs.declared.decider.Decider.{Decider}
-use Rattle.trail_rights.specs.declared.mark.Mark.{Mark}
+use Rattle.trail_rights.specs.declared.acts.Mark.{Mark}
 use Rattle.trail_rights.specs.declared.settler.RightsSetting.{RightsSetting}
 use Rattle.trail_rights.specs.declared.settler.RightsSetting.TheVariants as setting
 use Rattle.trail_rights.specs.declared.settler.Settler.{Settler}

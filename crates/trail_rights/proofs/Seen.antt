@@ -8,7 +8,7 @@ use Rattle.acl.specs.History.{followed_by}
 use Rattle.writelock.specs.Holding.{clients_of}
 use Rattle.hub.specs.Legal.{acts_after}
 use Rattle.trail_lines.specs.Entries.{Said}
-use Rattle.trail_rights.specs.declared.mark.Mark.{Mark}
+use Rattle.trail_rights.specs.declared.acts.Mark.{Mark}
 use Rattle.trail_rights.specs.declared.decider.Decider.{Decider}
 use Rattle.trail_rights.specs.Marks.{Marked, acts_in, mark_among, marked_after, marked_by, marked_on, marked_with}
 use Rattle.trail_rights.specs.Marks.{entries_in, entry_in}

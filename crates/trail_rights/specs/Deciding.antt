@@ -9,7 +9,7 @@ use Rattle.acl.specs.declared.bits.Bit.{Bit}
 use Rattle.acl.specs.declared.user_id.UserId.{UserId}
 use Rattle.acl.specs.History.{decision, has, there, latest, decides_known, decides_open}
 use Rattle.acl.specs.Same.{same_user, same_bit, same_object}
-use Rattle.trail_rights.specs.declared.mark.Mark.{Mark}
+use Rattle.trail_rights.specs.declared.acts.Mark.{Mark}
 use Rattle.trail_rights.specs.declared.decider.Decider.{Decider}
 use Rattle.trail_rights.specs.Marks.{Marked, acts_in}
 

@@ -8,10 +8,10 @@ use Rattle.acl.specs.declared.bits.Bit.{Bit}
 use Rattle.acl.specs.Same.{same_bit, same_object}
 use Rattle.writelock.specs.Holding.{clients_of}
 use Rattle.trail_rights.specs.declared.acts.MarkedActs.{MarkedActs}
-use Rattle.trail_rights.specs.declared.asked.AskedBits.{AskedBits}
-use Rattle.trail_rights.specs.declared.asked.AskedBits.TheVariants as asked
+use Rattle.trail_rights.specs.declared.acts.AskedBits.{AskedBits}
+use Rattle.trail_rights.specs.declared.acts.AskedBits.TheVariants as asked
 use Rattle.trail_rights.specs.declared.decider.Decider.{Decider}
-use Rattle.trail_rights.specs.declared.mark.Mark.{Mark}
+use Rattle.trail_rights.specs.declared.acts.Mark.{Mark}
 use Rattle.trail_rights.specs.Marks.{Marked, acts_in, marked_on}
 
 -- whether the bit on the object is asked about

@@ -10,7 +10,7 @@ use Rattle.hub.specs.kept.Kept.{Kept}
 use Rattle.hub.specs.kept.Kept.TheVariants as kept
 use Rattle.hub.specs.Trails.{Entry}
 use Rattle.trail_lines.specs.Entries.{Said}
-use Rattle.trail_rights.specs.declared.mark.Mark.{Mark}
+use Rattle.trail_rights.specs.declared.acts.Mark.{Mark}
 
 -- the user who gives an event, when these clients are attached
 abbrev pub giver_among : List (ℕ × UserId) → Kept → Option UserId

@@ -5,7 +5,7 @@ use Rattle.std.specs.List.{AllByRecursion}
 use Rattle.acl.specs.declared.act.Act.{Act}
 use Rattle.acl.specs.History.{History, latest, decides_known, decides_mask, decides_preset}
 use Rattle.acl.specs.Same.{same_user, same_bit, same_preset}
-use Rattle.trail_rights.specs.declared.mark.Mark.{Mark}
+use Rattle.trail_rights.specs.declared.acts.Mark.{Mark}
 use Rattle.trail_rights.specs.declared.settler.RightsSetting.{RightsSetting}
 use Rattle.trail_rights.specs.declared.settler.RightsSetting.TheVariants as setting
 use Rattle.trail_rights.specs.declared.settler.Settler.{Settler}

@@ -9,7 +9,7 @@ use Rattle.acl.specs.declared.edition.Edition.{Edition}
 use Rattle.acl.specs.declared.user_id.UserId.{UserId}
 use Rattle.trail_lines.specs.declared.entries.EntryLine.{EntryLine}
 use Rattle.trail_lines.specs.Entries.{Said, read_line, said}
-use Rattle.trail_lines.specs.declared.fault.Wrong.{Wrong}
+use Rattle.trail_lines.specs.declared.audit.Wrong.{Wrong}
 use Rattle.trail_lines.specs.declared.halt.Halt.{Halt}
 use Rattle.trail_lines.specs.declared.halt.Halt.TheVariants as halt
 use Rattle.trail_lines.specs.Lines.{OfKnown}

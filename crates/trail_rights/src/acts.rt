@@ -1,16 +1,100 @@
-//! Keeps the acts of entries that tell something of what is asked about.
+//! The bits that are asked about, and the acts of entries that tell something of them, with their marks.
 
 ghost use Rattle.std.specs.Prelude.{◌≡◌, ◌∷◌, ◌++◌, if◌then◌else◌, OnOk, []};
 ghost use Rattle.trail_lines.specs.Entries.{said};
-ghost use Rattle.trail_rights.specs.Marks.{marked_by, marked_with};
-ghost use Rattle.trail_rights.specs.Keeping.{HasKept, Keeps, tells};
+ghost use Rattle.trail_rights.specs.Marks.{marked_by, marked_with, giver_among, mark_among};
+ghost use Rattle.trail_rights.specs.Keeping.{HasKept, Keeps, tells, asks};
 
-use crate::asked::AskedBits;
-use crate::mark::{Mark, mark_among};
-use acl::{Act, UserId};
-use hub::follow_clients;
+use crate::decider::is_same;
+use acl::{Act, Bit, Object, UserId};
+use hub::{Kept, follow_clients, user_of_client};
 use std::alloc::{AllocError, Global};
 use trail_lines::EntryLine;
+
+/// The place of an entry, its time in milliseconds since 1970, and the user who gave its event: nobody
+/// if a window's program ended.
+#[derive(Clone, Copy)]
+pub struct Mark {
+    pub place: u64,
+    pub ms: u64,
+    pub giver: Option<UserId>,
+}
+
+/// The user who gives an event, when these clients are attached.
+fn giver_among(clients: &[(u32, UserId)], event: &Kept) -> Option<UserId>
+    ensures { result ≡ giver_among clients.now event.now }
+{
+    match event {
+        Kept::Attach { user, .. } => Some(*user),
+        Kept::Command { user, .. } => Some(*user),
+        Kept::Open { user, .. } => Some(*user),
+        Kept::Detach { client } => user_of_client(clients, *client),
+        Kept::Keys { client } => user_of_client(clients, *client),
+        Kept::Closed { .. } => None,
+    }
+}
+
+/// The mark of an entry's acts, when these clients are attached.
+pub fn mark_among(clients: &[(u32, UserId)], line: &EntryLine) -> Mark
+    ensures { result ≡ mark_among clients.now (said line.now) }
+{
+    Mark {
+        place: line.place,
+        ms: line.ms,
+        giver: giver_among(clients, line.entry.event()),
+    }
+}
+
+/// The bits that are asked about after the last entry, by what decides them.
+#[derive(Clone, Copy)]
+pub enum AskedBits {
+    /// None: only settings are asked about, and what the tables of rights say.
+    Nothing,
+    /// A bit on an object.
+    On { bit: Bit, object: Object },
+    /// A bit on every window.
+    Windows { bit: Bit },
+    /// A bit on every command.
+    Commands { bit: Bit },
+}
+
+impl AskedBits {
+    /// Whether the bit on the object is asked about.
+    pub fn asks(self, bit: Bit, object: Object) -> bool
+        ensures { result ≡ asks self bit object }
+    {
+        match (self, object) {
+            (AskedBits::Nothing, _) => false,
+            (
+                AskedBits::On {
+                    bit: asked,
+                    object: place,
+                },
+                _,
+            ) => bit == asked && is_same(object, place),
+            (AskedBits::Windows { bit: asked }, Object::Window(_)) => bit == asked,
+            (AskedBits::Windows { .. }, Object::Command(_)) => false,
+            (AskedBits::Commands { bit: asked }, Object::Command(_)) => bit == asked,
+            (AskedBits::Commands { .. }, Object::Window(_)) => false,
+        }
+    }
+
+    /// Whether an act may open or close a window, give a setting its value, or decide an asked bit.
+    pub fn tells(self, act: &Act) -> bool
+        ensures { result ≡ tells self act.now }
+    {
+        match *act {
+            Act::Set { bit, object, .. } => self.asks(bit, object),
+            Act::Known { .. } => true,
+            Act::Gone { .. } => true,
+            Act::Masked { .. } => true,
+            Act::Preset { .. } => true,
+            Act::Opened { .. } => true,
+            Act::Closed { .. } => true,
+            _ => false,
+        }
+    }
+}
 
 /// The acts of entries that tell something, in their order, with their marks, and the clients after all acts.
 #[derive(Drop)]

@@ -8,8 +8,7 @@ ghost use Rattle.trail_rights.specs.Deciding.{HasDecided, decides, decider_after
 ghost use Rattle.trail_rights.specs.Deciding.{there_after};
 ghost use Rattle.trail_rights.specs.Keeping.{is_asked};
 
-use crate::asked::AskedBits;
-use crate::mark::Mark;
+use crate::acts::{AskedBits, Mark};
 use acl::{Act, Bit, Object, UserId};
 
 /// Looks for the latest act that decides a user's bit on an object.

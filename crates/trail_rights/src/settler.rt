@@ -5,8 +5,8 @@ ghost use Rattle.acl.specs.Same.{same_user, same_bit, same_preset};
 ghost use Rattle.acl.specs.History.{decided, decides_mask, decides_preset};
 ghost use Rattle.trail_rights.specs.Settling.{HasSettled, same_setting, settler_after, settler_in, settles};
 
+use crate::acts::Mark;
 use crate::decider::decides_known;
-use crate::mark::Mark;
 use acl::{Act, Bit, PresetKind, UserId};
 
 /// What acts set. Its value is the one that the latest act gives.

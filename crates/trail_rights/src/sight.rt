@@ -9,8 +9,8 @@ ghost use Rattle.trail_rights.specs.Settling.{HasSettled, setting_by};
 ghost use Rattle.trail_rights.specs.Windows.{windows_after, without_window};
 ghost use Rattle.trail_rights.specs.Seeing.{HasSeen, Sees, sought};
 
+use crate::acts::Mark;
 use crate::decider::Decider;
-use crate::mark::Mark;
 use crate::settler::{Settler, settle_all};
 use acl::Act;
 use std::alloc::AllocError;

@@ -14,8 +14,7 @@ ghost use Rattle.trail_rights.specs.Settling.{HasSettled, setting_by};
 ghost use Rattle.trail_rights.specs.Seeing.{HasSeen, sought};
 ghost use Rattle.trail_rights.specs.Watching.{AreFollowed, HasWatched, IsWatched, TellsNext};
 
-use crate::acts::MarkedActs;
-use crate::asked::AskedBits;
+use crate::acts::{AskedBits, MarkedActs};
 use crate::decider::{Decider, are_asked};
 use crate::settler::Settler;
 use crate::sight::Sight;

@@ -10,15 +10,31 @@
 //! session has that takes these lines. Not proved: what entries say of the mode.
 #![tactic(auto)]
 
+ghost use Rattle.trail_setup.specs.Closing.{BornClosed};
+ghost use Rattle.trail_setup.specs.Keeping.{StatesKeep, StatesStand};
+
 mod commands;
 mod entries;
-mod laws;
 mod lines;
 mod masks;
 mod mode;
 mod setup;
 mod state;
 
-pub use laws::{born_closed, states_keep, states_stand};
 pub use setup::push_setup;
 pub use state::SetupState;
+
+/// Under closed masks a window that is born gives a user no bit that they lacked on one of the old windows.
+pub fn born_closed()
+    ensures { BornClosed }
+{}
+
+/// A state that stands for a history stands, after the acts that it follows, for the history followed by these.
+pub fn states_stand()
+    ensures { StatesStand }
+{}
+
+/// Masks, presets and the default lock of a state are, after the acts that it follows, those of the history.
+pub fn states_keep()
+    ensures { StatesKeep }
+{}

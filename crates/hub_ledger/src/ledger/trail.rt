@@ -1,7 +1,7 @@
 //! The trail of a session, and the check of a trail by itself.
 
 ghost use Rattle.std.specs.Prelude.{◌≡◌, ◌<◌, [], ℕ, suc, length, slice_get, take, Some, Err, Ok};
-ghost use Rattle.hub_check.specs.declared.fault.CheckFault.TheVariants.{BadEntry};
+ghost use Rattle.hub_check.specs.declared.CheckFault.TheVariants.{BadEntry};
 ghost use Rattle.hub_trail.specs.Judging.{AreGood, AreJudgeable, IsBadAt, IsIllegalAt};
 ghost use Rattle.hub_trail.specs.Legal.{AreLegal};
 ghost use Rattle.hub_record.specs.Growing.{trail_in};

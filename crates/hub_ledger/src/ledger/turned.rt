@@ -6,7 +6,7 @@ ghost use Rattle.acl.specs.declared.edition.Edition.TheVariants.{Second};
 ghost use Rattle.acl.specs.History.{History};
 ghost use Rattle.hub_trail.specs.Judging.{is_on_there};
 
-use crate::begun::Begun;
+use crate::Begun;
 use crate::ledger::{Ledger, Trail, check_trail};
 use crate::waiting::SeatEffects;
 use acl::UserId;

@@ -1,5 +1,5 @@
 use Rattle.std.proofs.Common.{subst}
-use Rattle.trail_lines.specs.declared.lines.NextLine.{NextLine}
+use Rattle.trail_lines.specs.declared.halt.NextLine.{NextLine}
 use Rattle.trail_lines.specs.Lines.{ComesAs, OfKnown}
 use Rattle.server_trail.proofs.Files.{cut}
 use Rattle.server_trail.proofs.reading.has_line.Goals as goal

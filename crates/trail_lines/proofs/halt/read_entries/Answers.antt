@@ -7,7 +7,7 @@ use Rattle.trail_lines.specs.Entries.{read_line, said}
 use Rattle.trail_lines.specs.declared.audit.Audit.{Audit}
 use Rattle.trail_lines.specs.declared.halt.Halt.{Halt}
 use Rattle.trail_lines.specs.declared.halt.Halt.TheVariants as halt
-use Rattle.trail_lines.specs.declared.times.Times.{Times}
+use Rattle.trail_lines.specs.declared.audit.Times.{Times}
 use Rattle.trail_lines.specs.Lines.{OfKnown}
 use Rattle.trail_lines.specs.Times.{time_after}
 use Rattle.trail_lines.specs.Reading.{HasRead, IsWrong, entries_in}

@@ -7,8 +7,8 @@ use Rattle.acl.proofs.InPlace.{drop-next}
 use Rattle.hub_trail.specs.Trails.{Entry}
 use Rattle.hub_trail.specs.Judging.{AreGood, IsBadAt}
 use Rattle.hub_check.specs.Judges.{HasJudged}
-use Rattle.hub_check.specs.declared.fault.CheckFault.{CheckFault}
-use Rattle.hub_check.specs.declared.fault.CheckFault.TheVariants.{BadEntry, NoMemory}
+use Rattle.hub_check.specs.declared.CheckFault.{CheckFault}
+use Rattle.hub_check.specs.declared.CheckFault.TheVariants.{BadEntry, NoMemory}
 use Rattle.hub_ledger.proofs.ledger.trail.check_entries.Goals as goal
 
 abbrev place_in : Result (Unit {0}) CheckFault → ℕ

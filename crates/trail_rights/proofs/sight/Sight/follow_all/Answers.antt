@@ -2,7 +2,7 @@ use Rattle.std.proofs.Common.{◌∙◌, ◌∷◌, [], None, refl, ap, sym, sub
 use Rattle.acl.specs.declared.act.Act.{Act}
 use Rattle.acl.specs.declared.act.Act.TheVariants.{Known}
 use Rattle.acl.proofs.InPlace.{drop-next, drop-past}
-use Rattle.trail_rights.specs.declared.mark.Mark.{Mark}
+use Rattle.trail_rights.specs.declared.acts.Mark.{Mark}
 use Rattle.trail_rights.specs.Marks.{marked_on}
 use Rattle.trail_rights.specs.Seeing.{HasSeen}
 use Rattle.trail_rights.proofs.sight.Sight.follow_all.Goals as goal

@@ -1,5 +1,0 @@
-use Rattle.hub_trail.proofs.Steps.{judged_filed}
-use Rattle.hub_trail.proofs.laws.entries_are_judgeable.Goals as goal
-
-pub returns : goal.returns
-returns c = judged_filed

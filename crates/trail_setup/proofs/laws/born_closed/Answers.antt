@@ -1,5 +1,0 @@
-use Rattle.trail_setup.proofs.Born.{born_closed}
-use Rattle.trail_setup.proofs.laws.born_closed.Goals as goal
-
-pub returns : goal.returns
-returns c = born_closed
