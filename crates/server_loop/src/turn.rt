@@ -1,11 +1,11 @@
 //! How a loop's connections have their turn.
 
-ghost use Rattle.std.specs.Prelude.{◌≡◌};
+ghost use Rattle.std.specs.Prelude.{◌≡◌, nat_le, nat_lt};
 ghost use Rattle.slab.specs.Slab.{get};
 ghost use Rattle.server_steps.specs.Asking.{is_due_at};
 ghost use Rattle.server_steps.specs.Meaning.{role_at};
-ghost use Rattle.server_loop.specs.Serving.{Obeys, ObeysNext, ObeysSome, Serves, ServesAfter};
-ghost use Rattle.server_loop.specs.Serving.{ServesOnce, ServesOther, ServesWindow, Steps};
+ghost use Rattle.server_loop.specs.Serving.{Obeys, ObeysNext, ObeysSome, ReadsAll, Serves, ServesAfter};
+ghost use Rattle.server_loop.specs.Serving.{ServesAll, ServesOnce, ServesOther, ServesWindow, Steps};
 ghost use Rattle.server_loop.specs.Submitting.{state_of};
 ghost use Rattle.server_loop.specs.Turning.{EndsTurn};
 ghost use Rattle.server_loop.specs.Typing.{millis_of};
@@ -172,19 +172,40 @@ impl<S: Read + Write + Drop, G: Gate + Drop, J: SessionSeat + Drop> Loop<S, G, J
     }
 
     // All connections have their turn, keys before output. Windows take turns, and wait while a crowd is drawn.
-    fn serve_all(&mut self, rt: &impl Wait) {
-        each_awake(self, |own, key| own.serve_other(rt, key));
+    fn serve_all(&mut self, rt: &impl Wait)
+        ensures { ServesAll J.SessionSeat S.remaining (state_of self.old) (state_of self.new) }
+    {
+        each_awake(
+            self,
+            |own, key|
+                ensures { ServesOther J.SessionSeat S.remaining key (state_of own.old) (state_of own.new) }
+            { own.serve_other(rt, key) },
+        );
         if self.draws.from.is_some() {
             return;
         }
         self.reading.output_left = OUTPUT;
         let first = self.reading.next;
-        each_awake(self, |own, key| own.serve_window(rt, key, first <= key));
-        each_awake(self, |own, key| own.serve_window(rt, key, key < first));
+        each_awake(
+            self,
+            |own, key|
+                ensures { ServesWindow J.SessionSeat S.remaining (nat_le first key) key
+                    (state_of own.old) (state_of own.new) }
+            { own.serve_window(rt, key, first <= key) },
+        );
+        each_awake(
+            self,
+            |own, key|
+                ensures { ServesWindow J.SessionSeat S.remaining (nat_lt key first) key
+                    (state_of own.old) (state_of own.new) }
+            { own.serve_window(rt, key, key < first) },
+        );
     }
 
     /// Reads what is there to be read and does it, so much of each connection that the others have their turn.
-    pub fn read_all(&mut self, rt: &impl Wait) -> Reads {
+    pub fn read_all(&mut self, rt: &impl Wait) -> Reads
+        ensures { ReadsAll J.SessionSeat S.remaining (state_of self.old) result (state_of self.new) }
+    {
         self.reading.has_typed = false;
         self.reading.has_much = false;
         self.serve_all(rt);
