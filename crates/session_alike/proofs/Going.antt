@@ -15,7 +15,7 @@ use Rattle.session_alike.specs.Histories.{HistoriesAlike}
 use Rattle.acl.specs.History.{History}
 use Rattle.session_alike.specs.Steps.{AllEffectsAlike, AllHaveSerials, AllStepsAlike, DrawsAlike, EffectsAlike}
 use Rattle.session_alike.specs.Steps.{HasSerials, IsSameEvent, RepliesAlike, StepsAlike}
-use Rattle.session_alike.proofs.Changing.{put_client_alike}
+use Rattle.session_alike.proofs.Changing.{clients_as, put_client_alike, tables_as}
 use Rattle.session_alike.proofs.Events.{outcome_alike}
 use Rattle.session_alike.proofs.Finding.{client_alike}
 use Rattle.session_alike.proofs.Outcomes.{OutcomesAlike}
@@ -30,32 +30,14 @@ module _ (n : Renaming) where
   drawn_this : (fs : List Effect) (x : View) (c d : Client) → ClientsAlike n c d
       → ClientsAlike n (with_drawn fs x c) d
   drawn_this [] x c d r = r
-  drawn_this (f ∷ fs) x c d r = record {
-    serial = r.serial;
-    user = r.user;
-    rows = r.rows;
-    columns = r.columns;
-    keys = r.keys;
-    layout = r.layout;
-    last = r.last;
-    former = r.former;
-    message = r.message;
-  }
+  drawn_this (f ∷ fs) x c d r =
+      clients_as r.serial r.user r.rows r.columns r.keys r.layout r.last r.former r.message
 
   drawn_other : (gs : List Effect) (x : View) (c d : Client) → ClientsAlike n c d
       → ClientsAlike n c (with_drawn gs x d)
   drawn_other [] x c d r = r
-  drawn_other (g ∷ gs) x c d r = record {
-    serial = r.serial;
-    user = r.user;
-    rows = r.rows;
-    columns = r.columns;
-    keys = r.keys;
-    layout = r.layout;
-    last = r.last;
-    former = r.former;
-    message = r.message;
-  }
+  drawn_other (g ∷ gs) x c d r =
+      clients_as r.serial r.user r.rows r.columns r.keys r.layout r.last r.former r.message
 
   drawn_on_alike : (t u : Tables) → TablesAlike n t u → (fs gs : List Effect) (o p : Option Client)
       → BothOrNone (ClientsAlike n) o p → TablesAlike n (drawn_on o fs t) (drawn_on p gs u)
@@ -142,13 +124,6 @@ module _ (n : Renaming) where
       → ((i : ℕ) → n.window i ≡ u.next_window + i) → ((i : ℕ) → n.client i ≡ u.next_client + i)
       → HistoriesAlike n u.edition u.owner h u.acts
       → TablesAlike n (record (fresh u.edition u.owner) { acts = h; is_multiuser = u.is_multiuser }) u
-  begins_alike h u no_windows no_clients windows clients acts = record {
-    owner = refl;
-    edition = refl;
-    is_multiuser = refl;
-    acts = acts;
-    windows = subst (Matched (WindowsAlike n) []) (sym no_windows) tt;
-    clients = subst (Matched (ClientsAlike n) []) (sym no_clients) tt;
-    next_windows = λ i. ap n.window (from_nothing i) ∙ windows i;
-    next_clients = λ i. ap n.client (from_nothing i) ∙ clients i;
-  }
+  begins_alike h u no_windows no_clients windows clients acts = tables_as refl refl refl acts
+      (subst (Matched (WindowsAlike n) []) (sym no_windows) tt) (subst (Matched (ClientsAlike n) []) (sym no_clients) tt)
+      (λ i. ap n.window (from_nothing i) ∙ windows i) (λ i. ap n.client (from_nothing i) ∙ clients i)

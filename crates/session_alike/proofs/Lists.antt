@@ -62,17 +62,14 @@ module _ (n : Renaming) (t u : Tables) (a : TablesAlike n t u) where
 
   pub change_fault_alike : (names : List (Option UserId))
       → change_fault u.owner (known_users u) names ≡ change_fault t.owner (known_users t) names
-  change_fault_alike names = ap (λ (x : UserId). change_fault x (known_users u) names) a.owner
-      ∙ ap (λ us. change_fault t.owner us names) (users_alike n t u a)
+  change_fault_alike names = cc (a.owner, users_alike n t u a)
 
   pub known_fault_alike : (word : List ℕ) → known_fault u word ≡ known_fault t word
-  known_fault_alike word = ap (λ (x : UserId). known_name_fault x (known_users u) (named_by word)) a.owner
-      ∙ ap (λ us. known_name_fault t.owner us (named_by word)) (users_alike n t u a)
+  known_fault_alike word = cc (a.owner, users_alike n t u a)
 
   pub mask_fault_alike : (es : List MaskEntry)
       → mask_fault u.owner (known_users u) es ≡ mask_fault t.owner (known_users t) es
-  mask_fault_alike es = ap (λ (x : UserId). mask_fault x (known_users u) es) a.owner
-      ∙ ap (λ us. mask_fault t.owner us es) (users_alike n t u a)
+  mask_fault_alike es = cc (a.owner, users_alike n t u a)
 
   pub group_fault_alike : (name : Option UserId) (leader : NewLeader)
       → group_fault_in u name leader ≡ group_fault_in t name leader
@@ -123,18 +120,12 @@ module _ (n : Renaming) (t u : Tables) (a : TablesAlike n t u) where
 
   pub adding : (names others : List (Option UserId)) → others ≡ names → (all : List Object)
       → add_acts_in u others (map (object_as n) all) ≡ map (act_as n) (add_acts_in t names all)
-  adding names others same all =
-      ap (λ us. add_acts us others (map (object_as n) all)) (users_alike n t u a)
-      ∙ ap (λ ns. add_acts (known_users t) ns (map (object_as n) all)) same
-      ∙ add_acts_as n (known_users t) names all
+  adding names others same all = cc (users_alike n t u a, same, add_acts_as n (known_users t) names all)
 
   pub setting : (names others : List (Option UserId)) → others ≡ names
       → (bits : List Rattle.acl.specs.declared.bits.BitChange.BitChange) (all : List Object)
       → changing_bits u others bits (map (object_as n) all) ≡ map (act_as n) (changing_bits t names bits all)
-  setting names others same bits all =
-      ap (λ us. change_acts us others bits (map (object_as n) all)) (users_alike n t u a)
-      ∙ ap (λ ns. change_acts (known_users t) ns bits (map (object_as n) all)) same
-      ∙ change_acts_as n (known_users t) names bits all
+  setting names others same bits all = cc (users_alike n t u a, same, change_acts_as n (known_users t) names bits all)
 
   pub removes_alike : (o : Option UserId) → D (removes o t) (removes o u)
   removes_alike None = acting_alike n t u a [] [] refl

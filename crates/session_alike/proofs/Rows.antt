@@ -40,7 +40,8 @@ use Rattle.session_alike.specs.Alike.{ClientsAlike, ListsAlike, TablesAlike, Win
 use Rattle.session_alike.specs.Steps.{EffectsAlike}
 use Rattle.session_alike.proofs.Answering.{given_alike, refused_alike, same_one, unless_alike}
 use Rattle.session_alike.proofs.Arranging as arrangement
-use Rattle.session_alike.proofs.Changing.{AnswersAlike, DeedsAlike, acting_alike, arranged_alike, closes_alike, done}
+use Rattle.session_alike.proofs.Changing.{AnswersAlike, DeedsAlike, acting_alike, arranged_alike, closes_alike, deed_as}
+use Rattle.session_alike.proofs.Changing.{done}
 use Rattle.session_alike.proofs.Changing.{enters_alike, input_as, listing_alike, mode_alike, parts_alike}
 use Rattle.session_alike.proofs.Changing.{put_client_alike, put_window_alike, tells_alike, writes_alike}
 use Rattle.session_alike.proofs.Checking.{CallersAlike, serial_as}
@@ -70,13 +71,8 @@ module _ (n : Renaming) (t u : Tables) (a : TablesAlike n t u) where
 
   module _ (c d : Client) (r : ClientsAlike n c d) where
     arranges_alike : (l m : Arrangement) → m ≡ layout_as n l → D (arranges t c l) (arranges u d m)
-    arranges_alike l m same = record {
-      acts = refl;
-      tables = put_client_alike n t u a (with_layout l c) (with_layout m d) (arranged_alike n c d r l m same);
-      effects = tt;
-      kept = refl;
-      kept_too = refl;
-    }
+    arranges_alike l m same = deed_as refl
+        (put_client_alike n t u a (with_layout l c) (with_layout m d) (arranged_alike n c d r l m same)) tt
 
     showing_as : (s x : Shown) → x ≡ shown_as n s → showing d x ≡ layout_as n (showing c s)
     showing_as s x same =
@@ -107,29 +103,18 @@ module _ (n : Renaming) (t u : Tables) (a : TablesAlike n t u) where
 
     split_alike : (way : Way) → split_fault way d.layout d.rows d.columns ≡ split_fault way c.layout c.rows c.columns
     split_alike way =
-        ap (λ (l : Arrangement). split_fault way l d.rows d.columns) r.layout
-        ∙ arrangement.fault_as n way c.layout d.rows d.columns
-        ∙ ap (λ rows. split_fault way c.layout rows d.columns) r.rows
-        ∙ ap (split_fault way c.layout c.rows) r.columns
+        cc (r.layout, arrangement.fault_as n way c.layout d.rows d.columns, r.rows, r.columns)
 
     box_alike : focused_box d ≡ focused_box c
-    box_alike =
-        ap (λ (l : Arrangement). slice_get (boxes l.shape (box_of d.rows d.columns)) l.focus) r.layout
-        ∙ ap (λ rows. slice_get (boxes c.layout.shape (box_of rows d.columns)) c.layout.focus) r.rows
-        ∙ ap (λ columns. slice_get (boxes c.layout.shape (box_of c.rows columns)) c.layout.focus) r.columns
+    box_alike = cc (r.layout, r.rows, r.columns)
 
   fits_alike : (w v : Window) → WindowsAlike n w v → (box : Rect) → A (fits t w box) (fits u v box)
   fits_alike w v r box =
       let d : D (Rattle.session_model.specs.Deeds.writes t w (written.Size (box.rows - 1) box.columns))
       (Rattle.session_model.specs.Deeds.writes u v (written.Size (box.rows - 1) box.columns)) =
       writes_alike n t u a w v r (written.Size (box.rows - 1) box.columns) in
-      refused_alike n Same t.acts u.acts (nat_lt (box.rows - 1) 2) _ refl (Regions TooSmall) _ _ (done (record {
-        acts = refl;
-        tables = d.tables;
-        effects = (ap (λ s. Size s (box.rows - 1) box.columns) r.serial, tt);
-        kept = refl;
-        kept_too = refl;
-      }) tt)
+      refused_alike n Same t.acts u.acts (nat_lt (box.rows - 1) 2) _ refl (Regions TooSmall) _ _
+      (done (deed_as refl d.tables (ap (λ s. Size s (box.rows - 1) box.columns) r.serial, tt)) tt)
 
   -- ---- the rows
   module _ (k l : Caller) (r : CallersAlike n k l) where
@@ -167,27 +152,19 @@ module _ (n : Renaming) (t u : Tables) (a : TablesAlike n t u) where
           on (Some client) = serial_as n k.window l.window r.window
 
     windows_listed : windows_text u l.user (focus_of l) ≡ windows_text t k.user (focus_of k)
-    windows_listed =
-        ap (λ (v : UserId). windows_text u v (focus_of l)) r.user ∙ ap (windows_text u k.user) focus_in
-        ∙ windows_text_alike n t u a k.user (focus_of k)
+    windows_listed = cc (r.user, focus_in, windows_text_alike n t u a k.user (focus_of k))
 
     typed_in : (bytes : List ℕ) (w v : Window) → WindowsAlike n w v
         → D (record (changing t) { effects = input_of w.serial bytes })
         (record (changing u) { effects = input_of v.serial bytes })
-    typed_in bytes w v s = record {
-      acts = refl;
-      tables = a;
-      effects = subst (λ x. Matched (EffectsAlike n) (input_of w.serial bytes) (input_of x bytes)) (sym s.serial)
-          (input_as n w.serial bytes);
-      kept = refl;
-      kept_too = refl;
-    }
+    typed_in bytes w v s = deed_as refl a
+        (subst (λ x. Matched (EffectsAlike n) (input_of w.serial bytes) (input_of x bytes)) (sym s.serial)
+        (input_as n w.serial bytes))
 
     put_alike : (x y : Window) → WindowsAlike n x y
         → D (changing (Rattle.session_model.specs.Tables.with_window t x))
         (changing (Rattle.session_model.specs.Tables.with_window u y))
-    put_alike x y s =
-        record { acts = refl; tables = put_window_alike n t u a x y s; effects = tt; kept = refl; kept_too = refl }
+    put_alike x y s = deed_as refl (put_window_alike n t u a x y s) tt
 
     -- a fault of a name or a group, or acts
     unless_so : (o p : Option AclFault) → p ≡ o → (d e : Deed) → A (Ok d) (Ok e) → A (unless Acl o d) (unless Acl p e)
@@ -219,7 +196,7 @@ module _ (n : Renaming) (t u : Tables) (a : TablesAlike n t u) where
         (done (acting_alike n t u a _ _ (ap (λ (v : UserId). mask_acts v (mask_entries u masks)) r.user
         ∙ ap (mask_acts k.user) (masks_alike n t u a masks) ∙ mask_acts_as n k.user (mask_entries t masks))) tt)
     does_alike (command.Multiuser true) =
-        done (record { acts = refl; tables = mode_alike n t u a true; effects = tt; kept = refl; kept_too = refl }) tt
+        done (deed_as refl (mode_alike n t u a true) tt) tt
     does_alike (command.Multiuser false) =
         done (parts_alike n (record t { is_multiuser = false }) (record u { is_multiuser = false })
         (mode_alike n t u a false) (λ c. not (is_of t.owner c)) (λ c. not (is_of u.owner c)) reason.SingleUser

@@ -35,17 +35,7 @@ module _ (n : Renaming) (t u : Tables) (a : TablesAlike n t u) where
       → part_of_window u user back p ≡ part_of_window t user back o
   window_part user back None None m = refl
   window_part user back (Some w) (Some v) r =
-      ap (λ s. if may_in u user Read (object.Window s)
-      then view.read (window_read v back (terminal_of v).screen) else view.unread v.number) r.serial
-      ∙ ap (λ b. if b then view.read (window_read v back (terminal_of v).screen) else view.unread v.number)
-      (may_alike n t u a user Read (object.Window w.serial))
-      ∙ ap (λ x. if may_in t user Read (object.Window w.serial)
-      then view.read (window_read (record v { number = x }) back (terminal_of v).screen) else view.unread x) r.number
-      ∙ ap (λ x. if may_in t user Read (object.Window w.serial)
-      then view.read (window_read (record v { number = w.number; title = x }) back (terminal_of v).screen)
-      else view.unread w.number) r.title
-      ∙ ap (λ (x : Screen). if may_in t user Read (object.Window w.serial)
-      then view.read (window_read w back x) else view.unread w.number) (screen_alike w v r)
+      cc (r.serial, may_alike n t u a user Read (object.Window w.serial), r.number, r.title, screen_alike w v r)
   window_part user back o p m = absurd m
 
   part_alike : (user : UserId) (s : Shown) → part_shown u user (shown_as n s) ≡ part_shown t user s
