@@ -1,17 +1,11 @@
 -- Arrangements under other serials.
-use Rattle.std.proofs.Common.{◌≡◌, ℕ, zero, suc, ◌+◌, List, [], ◌∷◌, Option, Some, None, refl, ap}
-use Rattle.std.proofs.Common.{◌∙◌, sym, map, length, take, drop}
-use Rattle.std.proofs.lemmas.List.{map-set}
-use Rattle.std.specs.Prelude.{if◌then◌else◌, ◌==◌, slice_get, slice_set, unwrap_or}
-use Rattle.std.specs.List.{insert, remove}
-use Rattle.std.specs.Option.{option_map}
-use Rattle.regions.specs.declared.shown.Shown.{Shown}
-use Rattle.regions.specs.declared.way.Way.{Way}
-use Rattle.regions.specs.Layouts.{Arrangement, empty, kept_alone, next_focus, one_region, remove_focused, split_fault}
-use Rattle.regions.specs.Layouts.{split_focused}
-use Rattle.session_alike.specs.Renaming.{Renaming, layout_as, shown_as}
+use Rattle.session_alike.proofs.Vocabulary.{◌≡◌, ℕ, zero, suc, ◌+◌, List, [], ◌∷◌, Option, Some, None, refl, ap, ◌∙◌}
+use Rattle.session_alike.proofs.Vocabulary.{sym, map, length, take, drop, if◌then◌else◌, ◌==◌, slice_get, slice_set}
+use Rattle.session_alike.proofs.Vocabulary.{unwrap_or, insert, remove, option_map, Shown, Way, Arrangement, empty}
+use Rattle.session_alike.proofs.Vocabulary.{kept_alone, next_focus, one_region, remove_focused, split_fault}
+use Rattle.session_alike.proofs.Vocabulary.{split_focused, Renaming, layout_as, shown_as, map_append}
 use Rattle.session_alike.proofs.Finding.{get_shown_as}
-use Rattle.session_alike.proofs.Matching.{map_append}
+use Rattle.std.proofs.lemmas.List.{map-set}
 
 length_as : {A B : Type 0} (f : A → B) (xs : List A) → length (map f xs) ≡ length xs
 length_as f [] = refl

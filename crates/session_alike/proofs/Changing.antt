@@ -1,39 +1,22 @@
 -- Deeds in sessions that are alike leave them alike.
-use Rattle.std.proofs.Common.{◌≡◌, ℕ, ◌+◌, Bool, true, false, not, List, [], ◌∷◌, ◌++◌, Option, Some, None, Ok, Err}
-use Rattle.std.proofs.Common.{refl, inl, length, ap, sym, ◌∙◌, subst, map, filter}
-use Rattle.std.specs.Prelude.{if◌then◌else◌, ◌==◌}
-use Rattle.std.specs.Option.{option_map}
-use Rattle.acl.specs.declared.act.Act.{Act}
+use Rattle.session_alike.proofs.Vocabulary.{◌≡◌, ℕ, ◌+◌, Bool, not, List, [], ◌∷◌, ◌++◌, Option, Some, None, Ok, Err}
+use Rattle.session_alike.proofs.Vocabulary.{refl, inl, length, ap, sym, ◌∙◌, subst, map, filter, ◌==◌, option_map, Act}
+use Rattle.session_alike.proofs.Vocabulary.{UserId, History, Shown, Arrangement, emptied, Terminal, Writing, writes_one}
+use Rattle.session_alike.proofs.Vocabulary.{writes_all, ready, BothOrNone, Matched, Gone, Say, Refusal, StatusMessage}
+use Rattle.session_alike.proofs.Vocabulary.{Answer, Deed, acting, closes, enters, entering, hearing, input_of, listing}
+use Rattle.session_alike.proofs.Vocabulary.{parts, tells, without_window, without_windows, writes, Client, Tables}
+use Rattle.session_alike.proofs.Vocabulary.{Window, focused, former_after, is_window, last_after, with_client}
+use Rattle.session_alike.proofs.Vocabulary.{with_layout, with_window, terminal_of, Renaming, act_as, layout_as}
+use Rattle.session_alike.proofs.Vocabulary.{refusal_as, shown_as, ClientsAlike, TablesAlike, TerminalsAlike}
+use Rattle.session_alike.proofs.Vocabulary.{WindowsAlike, HistoriesAlike, items, EffectsAlike, filter_both, if_as}
+use Rattle.session_alike.proofs.Vocabulary.{made_both, map_both, pick, put_both}
 use Rattle.acl.specs.declared.act.Act.TheVariants as act
-use Rattle.acl.specs.declared.user_id.UserId.{UserId}
-use Rattle.acl.specs.History.{History}
-use Rattle.regions.specs.declared.shown.Shown.{Shown}
-use Rattle.regions.specs.Layouts.{Arrangement, emptied}
-use Rattle.terminal_model.specs.Reading.{Terminal}
-use Rattle.terminal_model.specs.Writing.{Writing, writes as writes_one, writes_all}
-use Rattle.terminal_model.specs.Screen.{starting}
-use Rattle.terminal_model.specs.Reading.{ready}
-use Rattle.windows_model.specs.Matched.{BothOrNone, Matched}
-use Rattle.session_model.specs.declared.event.Effect.TheVariants.{Gone, Input, Say}
 use Rattle.session_model.specs.declared.event.Peer.TheVariants as peer
-use Rattle.session_model.specs.declared.event.Reason.{Reason}
-use Rattle.session_model.specs.declared.refusal.Refusal.{Refusal}
-use Rattle.session_model.specs.declared.message.StatusMessage.{StatusMessage}
 use Rattle.session_model.specs.declared.message.StatusMessage.TheVariants as message
-use Rattle.session_model.specs.Deeds.{Answer, Deed, acting, closes, enters, entering, hearing, input_of}
-use Rattle.session_model.specs.Deeds.{listing, parts, tells, without_window, without_windows, writes}
-use Rattle.session_model.specs.Tables.{Client, Tables, Window, focused, former_after, is_window, last_after}
-use Rattle.session_model.specs.Tables.{with_client}
-use Rattle.session_model.specs.Tables.{with_layout, with_window}
-use Rattle.session_model.specs.Terminals.{terminal_of}
-use Rattle.session_alike.specs.Renaming.{Renaming, act_as, layout_as, refusal_as, shown_as}
-use Rattle.session_alike.specs.Alike.{ClientsAlike, TablesAlike, TerminalsAlike, WindowsAlike}
-use Rattle.session_alike.specs.Histories.{HistoriesAlike}
-use Rattle.keys.specs.Grammar.{items}
-use Rattle.session_alike.specs.Steps.{EffectsAlike}
 use Rattle.session_alike.proofs.Finding.{client_serials, focused_as, is_window_as, window_serials}
 use Rattle.session_alike.proofs.Histories.{window_test}
-use Rattle.session_alike.proofs.Matching.{filter_both, if_as, made_both, map_both, pick, put_both}
+use Rattle.terminal_model.specs.Screen.{starting}
+use Rattle.session_model.specs.declared.event.Reason.{Reason}
 
 -- A deed does the same in both sessions, after these histories.
 pub record DeedsAlike (n : Renaming) (h g : History) (d e : Deed) : Type 0 where
@@ -126,7 +109,8 @@ module _ (n : Renaming) where
       → former_after (option_map n.window f) (option_map n.window last) (option_map n.window former)
       ≡ option_map n.window (former_after f last former)
   former_as None last former = refl
-  former_as (Some w) last former = cc (is_window_as n w last, if_as (option_map n.window) (is_window w last) former last)
+  former_as (Some w) last former =
+      cc (is_window_as n w last, if_as (option_map n.window) (is_window w last) former last)
 
   module _ (c d : Client) (r : ClientsAlike n c d) (l m : Arrangement) (same : m ≡ layout_as n l) where
     focus_as : focused (record d { layout = m }) ≡ option_map n.window (focused (record c { layout = l }))
@@ -149,8 +133,10 @@ module _ (n : Renaming) where
             → emptied (n.window w) (shown_as n (record s { window = o })) ≡ shown_as n
             (emptied w (record s { window = o }))
         one None = refl
-        one (Some v) = cc (window_test n v w, if_as (shown_as n) (v == w) (record { window = None; back = s.back })
-            (record { window = Some v; back = s.back }))
+        one (Some v) =
+            let closed : Shown = record { window = None; back = s.back } in
+            let kept = if_as (shown_as n) (v == w) closed (record { window = Some v; back = s.back }) in
+            cc (window_test n v w, kept)
 
   without_alike : (w v : Window) → WindowsAlike n w v → (c d : Client) → ClientsAlike n c d
       → ClientsAlike n (without_window w.serial c) (without_window v.serial d)
@@ -220,14 +206,11 @@ module _ (n : Renaming) where
     parts_alike p q why same =
         let gone : Matched (ClientsAlike n) (filter p t.clients) (filter q u.clients) =
         filter_both (ClientsAlike n) p q same t.clients u.clients a.clients in deed_as
-        (made_both (ClientsAlike n) (act_as n) (λ (c : Client). act.Parted c.serial)
-        (λ (c : Client). act.Parted c.serial) _ _ (λ c d r. ap act.Parted r.serial) gone)
+        (made_both (ClientsAlike n) (act_as n) _ _ _ _ (λ c d r. ap act.Parted r.serial) gone)
         (rows_alike t.windows u.windows _ _ a.windows
         (filter_both (ClientsAlike n) (λ c. not (p c)) (λ d. not (q d)) (λ c d r. ap not (same c d r))
         t.clients u.clients a.clients))
-        (map_both (ClientsAlike n) (EffectsAlike n) (λ (c : Client). Gone (peer.Client c.serial) why)
-        (λ (c : Client). Gone (peer.Client c.serial) why) _ _
-        (λ c d r. ap (λ s. Gone (peer.Client s) why) r.serial) gone)
+        (map_both (ClientsAlike n) (EffectsAlike n) _ _ _ _ (λ c d r. ap (λ s. Gone (peer.Client s) why) r.serial) gone)
 
     pub closes_alike : (p q : Window → Bool) (why : Reason)
         → ((w v : Window) → WindowsAlike n w v → q v ≡ p w)
@@ -235,15 +218,12 @@ module _ (n : Renaming) where
     closes_alike p q why same =
         let gone : Matched (WindowsAlike n) (filter p t.windows) (filter q u.windows) =
         filter_both (WindowsAlike n) p q same t.windows u.windows a.windows in deed_as
-        (made_both (WindowsAlike n) (act_as n) (λ (w : Window). act.Closed w.serial)
-        (λ (w : Window). act.Closed w.serial) _ _ (λ w v r. ap act.Closed r.serial) gone)
+        (made_both (WindowsAlike n) (act_as n) _ _ _ _ (λ w v r. ap act.Closed r.serial) gone)
         (rows_alike _ _ _ _
         (filter_both (WindowsAlike n) (λ w. not (p w)) (λ v. not (q v)) (λ w v r. ap not (same w v r))
         t.windows u.windows a.windows)
         (without_both (filter p t.windows) (filter q u.windows) t.clients u.clients gone a.clients))
-        (map_both (WindowsAlike n) (EffectsAlike n) (λ (w : Window). Gone (peer.Window w.serial) why)
-        (λ (w : Window). Gone (peer.Window w.serial) why) _ _
-        (λ w v r. ap (λ s. Gone (peer.Window s) why) r.serial) gone)
+        (map_both (WindowsAlike n) (EffectsAlike n) _ _ _ _ (λ w v r. ap (λ s. Gone (peer.Window s) why) r.serial) gone)
 
     pub writes_alike : (w v : Window) → WindowsAlike n w v → (what : Writing)
         → DeedsAlike n t.acts u.acts (writes t w what) (writes u v what)
@@ -257,8 +237,6 @@ module _ (n : Renaming) where
     pub tells_alike : (x : List ℕ) → DeedsAlike n t.acts u.acts (tells x t) (tells x u)
     tells_alike x = deed_as refl
         (rows_alike t.windows u.windows _ _ a.windows
-        (map_both (ClientsAlike n) (ClientsAlike n) (hearing (message.Text x)) (hearing (message.Text x)) t.clients
-        u.clients (heard_alike (message.Text x)) a.clients))
-        (map_both (ClientsAlike n) (EffectsAlike n) (λ (c : Client). Say c.serial x)
-        (λ (c : Client). Say c.serial x) t.clients u.clients
-        (λ c d r. (x, ap (λ s. Say s x) r.serial, inl refl)) a.clients)
+        (map_both (ClientsAlike n) (ClientsAlike n) _ _ _ _ (heard_alike (message.Text x)) a.clients))
+        (map_both (ClientsAlike n) (EffectsAlike n) _ _ _ _ (λ c d r. (x, ap (λ s. Say s x) r.serial, inl refl))
+        a.clients)

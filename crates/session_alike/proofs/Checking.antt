@@ -1,32 +1,19 @@
 -- Checks of sessions that are alike have the same verdicts, and fail for the same cause.
-use Rattle.std.proofs.Common.{◌≡◌, ℕ, Bool, true, false, List, [], ◌∷◌, ◌++◌, Option, Some, None, refl, ap, ◌∙◌, map}
-use Rattle.std.specs.Prelude.{if◌then◌else◌}
-use Rattle.std.specs.Option.{option_map, is_some}
-use Rattle.acl.specs.declared.act.Object.{Object}
+use Rattle.session_alike.proofs.Vocabulary.{◌≡◌, ℕ, Bool, true, false, List, [], ◌∷◌, ◌++◌, Option, Some, None, refl}
+use Rattle.session_alike.proofs.Vocabulary.{ap, ◌∙◌, map, if◌then◌else◌, option_map, is_some, Object, Execute, Write}
+use Rattle.session_alike.proofs.Vocabulary.{UserId, Order, BothOrNone, Check, must, right, unlocked, LockDenied}
+use Rattle.session_alike.proofs.Vocabulary.{NotMultiuser, NoWindow, checks, checks_by, first_fault, passes, refusal_of}
+use Rattle.session_alike.proofs.Vocabulary.{typing_checks, verdict, verdicts, where_needed, window_checks, denied_on}
+use Rattle.session_alike.proofs.Vocabulary.{lock_denial, Caller, holder_in, Tables, Window, Renaming, denied_as}
+use Rattle.session_alike.proofs.Vocabulary.{object_as, refusal_as, verdict_as, TablesAlike, WindowsAlike, if_as}
+use Rattle.session_alike.proofs.Vocabulary.{map_append, read_one}
 use Rattle.acl.specs.declared.act.Object.TheVariants as object
-use Rattle.acl.specs.declared.bits.Bit.TheVariants.{Execute, Write}
-use Rattle.acl.specs.declared.user_id.UserId.{UserId}
-use Rattle.command_lang.specs.declared.command.Command.{Command as Order}
+use Rattle.session_model.specs.declared.refusal.Denied.TheVariants as denied
+use Rattle.session_alike.proofs.Finding.{holder_alike, leaders_alike, may_alike, number_alike}
 use Rattle.command_lang.specs.declared.needs.Needs.{Needs}
-use Rattle.command_lang.specs.Names.{name_of}
 use Rattle.command_lang.specs.Needs.{needs}
 use Rattle.writelock.specs.LockTable.{stops_nobody_but}
-use Rattle.windows_model.specs.Matched.{BothOrNone}
-use Rattle.session_model.specs.declared.check.Check.{Check}
-use Rattle.session_model.specs.declared.check.Check.TheVariants.{Must as must, Right as right, Unlocked as unlocked}
-use Rattle.session_model.specs.declared.refusal.Denied.TheVariants as denied
-use Rattle.session_model.specs.declared.refusal.Refusal.TheVariants.{EntryDenied, LockDenied, NotMultiuser, NoWindow}
 use Rattle.session_model.specs.declared.verdict.Verdict.TheVariants.{Lock, Right}
-use Rattle.session_model.specs.Checks.{checks, checks_by, first_fault, passes, refusal_of, typing_checks, verdict}
-use Rattle.session_model.specs.Checks.{verdicts, where_needed, window_checks}
-use Rattle.session_model.specs.Denials.{denied_on, lock_denial}
-use Rattle.session_model.specs.Lines.{Caller}
-use Rattle.session_model.specs.Rights.{holder_in, leaders_in}
-use Rattle.session_model.specs.Tables.{Tables, Window}
-use Rattle.session_alike.specs.Renaming.{Renaming, denied_as, object_as, refusal_as, verdict_as}
-use Rattle.session_alike.specs.Alike.{TablesAlike, WindowsAlike}
-use Rattle.session_alike.proofs.Finding.{holder_alike, leaders_alike, may_alike, number_alike}
-use Rattle.session_alike.proofs.Matching.{if_as, map_append, read_one}
 
 abbrev pub check_as : Renaming → Check → Check
 check_as n (right user bit o) = right user bit (object_as n o)
@@ -109,8 +96,8 @@ module _ (n : Renaming) where
         → first_fault u (map (check_as n) cs) ≡ option_map (refusal_as n) (first_fault t cs)
     fault_alike [] = refl
     fault_alike (c ∷ cs) =
-        cc (passes_alike c, fault_alike cs, refusal_alike c,
-        if_as (option_map (refusal_as n)) (passes t c) (first_fault t cs) (Some (refusal_of t c)))
+        let fault = if_as (option_map (refusal_as n)) (passes t c) (first_fault t cs) (Some (refusal_of t c)) in
+        cc (passes_alike c, fault_alike cs, refusal_alike c, fault)
 
     -- ---- the checks of a command
 
@@ -125,7 +112,8 @@ module _ (n : Renaming) where
           (ap (λ b. must b NotMultiuser ∷ []) a.is_multiuser))
           (map_append (check_as n) (where_needed d.client (must (is_some k.client) NoWindow ∷ []))
           (where_needed d.window (window_checks k.user d (option_map (λ (w : Window). w.serial) k.window))) _ _
-          (needed_as (check_as n) d.client (must (is_some k.client) NoWindow ∷ []) (must (is_some l.client) NoWindow ∷ [])
+          (needed_as (check_as n) d.client (must (is_some k.client) NoWindow ∷ [])
+          (must (is_some l.client) NoWindow ∷ [])
           (ap (λ b. must b NoWindow ∷ []) (ap is_some r.client ∙ is_some_as n.client k.client)))
           (needed_as (check_as n) d.window (window_checks k.user d (option_map (λ (w : Window). w.serial) k.window))
           (window_checks l.user d (option_map (λ (w : Window). w.serial) l.window))

@@ -1,47 +1,21 @@
 -- Each event does the same in sessions that are alike.
-use Rattle.std.proofs.Common.{◌≡◌, ℕ, ◌+◌, ◌<◌, Bool, true, false, List, [], ◌∷◌, Option, Some, None, Ok, Err}
-use Rattle.std.proofs.Common.{Result, refl, ap, sym, ◌∙◌, subst, map, length, arith}
-use Rattle.std.specs.Prelude.{if◌then◌else◌, ◌==◌, ◌&&◌, ◌||◌, nat_lt, unwrap_or}
-use Rattle.std.specs.Option.{is_some, option_map}
-use Rattle.std.proofs.lemmas.Bool.Decides.{nat_tests}
+use Rattle.session_alike.proofs.Vocabulary.{◌≡◌, ℕ, ◌+◌, ◌<◌, true, List, [], ◌∷◌, Option, Some, None, Ok, Err, Result}
+use Rattle.session_alike.proofs.Vocabulary.{refl, ap, sym, ◌∙◌, subst, map, arith, if◌then◌else◌, ◌==◌, nat_lt}
+use Rattle.session_alike.proofs.Vocabulary.{unwrap_or, option_map, nat_tests, UserId, Order, ParseFault, Arrangement}
+use Rattle.session_alike.proofs.Vocabulary.{kept_alone, one_region, reads, writes_all, BothOrNone, Matched, must}
+use Rattle.session_alike.proofs.Vocabulary.{BadSize, Line, NoWindow, UnknownUser, Verdict, answered, commanded}
+use Rattle.session_alike.proofs.Vocabulary.{line_ruling, ruling, Answer, changing, input_of, outcome, with_client_of}
+use Rattle.session_alike.proofs.Vocabulary.{with_window_of, Caller, line_caller, read_line, lowest, Outcome, said_done}
+use Rattle.session_alike.proofs.Vocabulary.{reply_of, Client, Tables, Window, client_at, focused, is_known, window_at}
+use Rattle.session_alike.proofs.Vocabulary.{with_client, terminal_of, Attach, Closed, Command, Detach, Draw, EventValue}
+use Rattle.session_alike.proofs.Vocabulary.{Keys, Open, Output, Resize, Renaming, event_as, layout_as, ClientsAlike}
+use Rattle.session_alike.proofs.Vocabulary.{TablesAlike, TextsAlike, WindowsAlike, EffectsAlike, HasSerials}
+use Rattle.session_alike.proofs.Vocabulary.{RepliesAlike, made_as, append_both, cases_both, if_as, length_both, pick}
 use Rattle.acl.specs.declared.act.Act.TheVariants as act
 use Rattle.acl.specs.declared.act.Object.TheVariants as object
-use Rattle.acl.specs.declared.bits.Bit.TheVariants.{Execute}
-use Rattle.acl.specs.declared.command_name.CommandName.TheVariants.{Screen}
-use Rattle.acl.specs.declared.user_id.UserId.{UserId}
-use Rattle.acl.specs.limits.TheConstants.{WINDOWS}
-use Rattle.acl.specs.Same.{same_user}
-use Rattle.command_lang.specs.declared.command.Command.{Command as Order}
-use Rattle.command_lang.specs.declared.fault.ParseFault.{ParseFault}
-use Rattle.regions.specs.Layouts.{Arrangement, kept_alone, one_region}
-use Rattle.regions.specs.Pages.{has_room}
-use Rattle.terminal_model.specs.Reading.{reads}
-unfoldable use Rattle.terminal_model.specs.Writing.{writes_all}
 use Rattle.terminal_model.specs.Writing as written
-use Rattle.windows_model.specs.Matched.{BothOrNone, Matched}
-use Rattle.session_model.specs.declared.check.Check.TheVariants.{Must as must, Right as right}
 use Rattle.session_model.specs.declared.event.Reason.TheVariants as reason
-use Rattle.session_model.specs.declared.limits.TheConstants.{CLIENTS, SERIALS}
 use Rattle.session_model.specs.declared.message.StatusMessage.TheVariants as message
-use Rattle.session_model.specs.declared.refusal.Refusal.TheVariants.{BadSize, Line, NotMultiuser, NoWindow}
-use Rattle.session_model.specs.declared.refusal.Refusal.TheVariants.{TooManyClients, UnknownUser, Windows}
-use Rattle.session_model.specs.declared.verdict.Verdict.{Verdict}
-use Rattle.session_model.specs.windows_fault.WindowsFault.TheVariants.{BadTitle, Full}
-use Rattle.session_model.specs.Answering.{answered, commanded, line_ruling}
-use Rattle.session_model.specs.Comings.{attach_checks, attached, attaches, has_place, is_client_size, is_let_in}
-use Rattle.session_model.specs.Comings.{is_window_size, new_client, new_window, open_checks, opens, outputs, resized}
-use Rattle.session_model.specs.Commands.{ruling}
-use Rattle.session_model.specs.Deeds.{Answer, changing, entering, input_of}
-use Rattle.session_model.specs.Events.{outcome, with_client_of, with_window_of}
-use Rattle.session_model.specs.Lines.{Caller, line_caller, read_line}
-use Rattle.session_model.specs.Naming.{free_number, is_title, lowest}
-use Rattle.session_model.specs.Outcomes.{Outcome, done as said_done, refused, reply_of}
-use Rattle.session_model.specs.Tables.{Client, Tables, Window, client_at, focused, is_known, window_at, with_client}
-use Rattle.session_model.specs.Terminals.{terminal_of}
-use Rattle.session_model.specs.Trace.{Attach, Closed, Command, Detach, Draw, EventValue, Keys, Open, Output, Resize}
-use Rattle.session_alike.specs.Renaming.{Renaming, event_as, layout_as}
-use Rattle.session_alike.specs.Alike.{ClientsAlike, TablesAlike, TextsAlike, WindowsAlike}
-use Rattle.session_alike.specs.Steps.{EffectsAlike, HasSerials, RepliesAlike, made_as}
 use Rattle.session_alike.proofs.Arranging.{alone_as}
 use Rattle.session_alike.proofs.Changing.{AnswersAlike, DeedsAlike, arranged_alike, clients_as, closes_alike, declined}
 use Rattle.session_alike.proofs.Changing.{deed_as, done, entering_as, input_as, parts_alike, put_client_alike}
@@ -49,11 +23,14 @@ use Rattle.session_alike.proofs.Changing.{tables_as, writes_alike}
 use Rattle.session_alike.proofs.Checking.{CallersAlike, check_as, serial_as}
 use Rattle.session_alike.proofs.Finding.{client_alike, client_serials, focused_as, known_alike, window_alike}
 use Rattle.session_alike.proofs.Finding.{window_serials}
-use Rattle.session_alike.proofs.Matching.{append_both, cases_both, if_as, length_both, pick}
 use Rattle.session_alike.proofs.Naming.{free_both, given_number_both, lowest_both}
 use Rattle.session_alike.proofs.Outcomes.{OutcomesAlike, finished_alike, passed_alike, refused_alike}
 use Rattle.session_alike.proofs.Rows.{ListedBy}
 use Rattle.session_alike.proofs.Typing.{keys_alike, listed_text, ruling_alike}
+use Rattle.regions.specs.Pages.{has_room}
+use Rattle.session_model.specs.declared.limits.TheConstants.{SERIALS}
+use Rattle.session_model.specs.Comings.{attach_checks, attached, attaches, has_place, is_client_size, is_let_in}
+use Rattle.session_model.specs.Comings.{new_client, new_window, open_checks, opens, outputs, resized}
 
 no_more : (m : ℕ) → m + 0 ≡ m
 no_more m = omega arith
@@ -98,8 +75,10 @@ module _ (n : Renaming) (t u : Tables) (a : TablesAlike n t u) where
 
   attach_checks_as : (user : UserId) (rows columns : ℕ) → t.next_client < SERIALS → u.next_client < SERIALS
       → attach_checks u user rows columns ≡ map (check_as n) (attach_checks t user rows columns)
-  attach_checks_as user rows columns below also = cc (known_alike n t u a user, let_in_alike user,
-      length_both (ClientsAlike n) t.clients u.clients a.clients, serials_left t.next_client u.next_client below also)
+  attach_checks_as user rows columns below also =
+      let as_many = length_both (ClientsAlike n) t.clients u.clients a.clients in
+      let left = serials_left t.next_client u.next_client below also in
+      cc (known_alike n t u a user, let_in_alike user, as_many, left)
 
   -- a client before its page
   abbrev coming : ℕ → UserId → ℕ → ℕ → Option ℕ → Client
@@ -142,13 +121,16 @@ module _ (n : Renaming) (t u : Tables) (a : TablesAlike n t u) where
   -- ---- opening
 
   place_alike : has_place u.windows ≡ has_place t.windows
-  place_alike = cc (length_both (WindowsAlike n) t.windows u.windows a.windows, free_both n t.windows u.windows a.windows)
+  place_alike =
+      let as_many = length_both (WindowsAlike n) t.windows u.windows a.windows in
+      cc (as_many, free_both n t.windows u.windows a.windows)
 
   open_checks_as : (user : UserId) (rows columns keep : ℕ) (title : List ℕ) → t.next_window < SERIALS
       → u.next_window < SERIALS
       → open_checks u user rows columns keep title ≡ map (check_as n) (open_checks t user rows columns keep title)
-  open_checks_as user rows columns keep title below also = cc (known_alike n t u a user, let_in_alike user,
-      place_alike, serials_left t.next_window u.next_window below also)
+  open_checks_as user rows columns keep title below also =
+      let left = serials_left t.next_window u.next_window below also in
+      cc (known_alike n t u a user, let_in_alike user, place_alike, left)
 
   new_window_alike : (rows columns keep : ℕ) (title : List ℕ)
       → WindowsAlike n (new_window t rows columns keep title) (new_window u rows columns keep title)

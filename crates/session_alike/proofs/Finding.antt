@@ -1,27 +1,13 @@
 -- What sessions that are alike answer of rights, windows and clients.
-use Rattle.std.proofs.Common.{◌≡◌, ℕ, zero, suc, not, List, [], ◌∷◌, Option, Some, None, refl, ap, sym}
-use Rattle.std.proofs.Common.{◌∙◌, subst, map, filter}
-use Rattle.std.specs.Prelude.{◌==◌, ◌&&◌, slice_get}
-use Rattle.std.specs.Option.{option_and_then, option_map, option_map_or}
-use Rattle.acl.specs.declared.act.Object.{Object}
-use Rattle.acl.specs.declared.bits.Bit.{Bit}
-use Rattle.acl.specs.declared.edition.Edition.{Edition}
-use Rattle.acl.specs.declared.user_id.UserId.{UserId}
-use Rattle.acl.specs.History.{is_known as is_known_after, leaders_of, may, users_of}
-use Rattle.acl.specs.Same.{same_user}
-use Rattle.regions.specs.declared.shown.Shown.{Shown}
-use Rattle.regions.specs.Layouts.{Arrangement}
-use Rattle.writelock.specs.Holding.{holder}
-use Rattle.windows_model.specs.Matched.{BothOrNone, Matched}
-use Rattle.session_model.specs.Denials.{number_of}
-use Rattle.session_model.specs.Rights.{holder_in, leaders_in, may_in}
-use Rattle.session_model.specs.Tables.{Client, Tables, Window, client_at, focused, focused_window, is_in_focus}
-use Rattle.session_model.specs.Tables.{is_known}
-use Rattle.session_model.specs.Tables.{is_window, known_users, others, shows, window_at}
-use Rattle.session_alike.specs.Renaming.{Renaming, layout_as, object_as, shown_as}
-use Rattle.session_alike.specs.Alike.{ClientsAlike, TablesAlike, WindowsAlike}
+use Rattle.session_alike.proofs.Vocabulary.{◌≡◌, ℕ, zero, suc, not, List, [], ◌∷◌, Option, Some, None, refl, ap, sym}
+use Rattle.session_alike.proofs.Vocabulary.{◌∙◌, subst, map, filter, ◌==◌, slice_get, option_and_then, option_map}
+use Rattle.session_alike.proofs.Vocabulary.{Object, Bit, UserId, same_user, Shown, Arrangement, BothOrNone, Matched}
+use Rattle.session_alike.proofs.Vocabulary.{number_of, holder_in, leaders_in, may_in, Client, Tables, Window, client_at}
+use Rattle.session_alike.proofs.Vocabulary.{focused, focused_window, is_in_focus, is_known, is_window, known_users}
+use Rattle.session_alike.proofs.Vocabulary.{others, shows, window_at, Renaming, layout_as, object_as, shown_as}
+use Rattle.session_alike.proofs.Vocabulary.{ClientsAlike, TablesAlike, WindowsAlike, any_both, read_or, row_both}
+use Rattle.session_alike.proofs.Vocabulary.{then_both}
 use Rattle.session_alike.proofs.Histories.{client_test, may_as, window_test}
-use Rattle.session_alike.proofs.Matching.{any_both, read_or, row_both, then_both}
 
 get_as : {A B : Type 0} (f : A → B) (xs : List A) (i : ℕ) → slice_get (map f xs) i ≡ option_map f (slice_get xs i)
 get_as f [] zero = refl

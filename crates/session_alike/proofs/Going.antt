@@ -1,25 +1,17 @@
 -- Sessions that are alike stay so, step by step.
-use Rattle.std.proofs.Common.{◌≡◌, ℕ, ◌+◌, arith, refl, List, [], ◌∷◌, Option, Some, None, ap, sym, ◌∙◌, subst}
-use Rattle.std.specs.Prelude.{◌⊎◌}
-use Rattle.terminal_model.specs.Shows.{View}
-use Rattle.windows_model.specs.Matched.{BothOrNone, Matched}
-use Rattle.session_model.specs.declared.event.Effect.{Effect}
-use Rattle.session_model.specs.Events.{outcome}
-use Rattle.session_model.specs.Granted.{granted_view}
-use Rattle.session_model.specs.Run.{HasEffects, IsRunFrom, IsStep, after, drawn, drawn_on, tables_from, with_drawn}
-use Rattle.session_model.specs.Tables.{Client, Tables, client_at, fresh}
-use Rattle.session_model.specs.Trace.{Draw, Entry, EventValue}
-use Rattle.session_alike.specs.Renaming.{Renaming, act_as, event_as, verdict_as}
-use Rattle.session_alike.specs.Alike.{ClientsAlike, TablesAlike, WindowsAlike}
-use Rattle.session_alike.specs.Histories.{HistoriesAlike}
-use Rattle.acl.specs.History.{History}
-use Rattle.session_alike.specs.Steps.{AllEffectsAlike, AllHaveSerials, AllStepsAlike, DrawsAlike, EffectsAlike}
-use Rattle.session_alike.specs.Steps.{HasSerials, IsSameEvent, RepliesAlike, StepsAlike}
+use Rattle.session_alike.proofs.Vocabulary.{◌≡◌, ℕ, ◌+◌, arith, refl, List, [], ◌∷◌, Option, Some, None, ap, sym, ◌∙◌}
+use Rattle.session_alike.proofs.Vocabulary.{subst, ◌⊎◌, BothOrNone, Matched, Effect, outcome, granted_view, Client}
+use Rattle.session_alike.proofs.Vocabulary.{Tables, client_at, fresh, Draw, Entry, EventValue, Renaming, act_as}
+use Rattle.session_alike.proofs.Vocabulary.{event_as, verdict_as, ClientsAlike, TablesAlike, WindowsAlike}
+use Rattle.session_alike.proofs.Vocabulary.{HistoriesAlike, History, AllEffectsAlike, AllHaveSerials, AllStepsAlike}
+use Rattle.session_alike.proofs.Vocabulary.{DrawsAlike, EffectsAlike, HasSerials, IsSameEvent, RepliesAlike, StepsAlike}
 use Rattle.session_alike.proofs.Changing.{clients_as, put_client_alike, tables_as}
 use Rattle.session_alike.proofs.Events.{outcome_alike}
 use Rattle.session_alike.proofs.Finding.{client_alike}
 use Rattle.session_alike.proofs.Outcomes.{OutcomesAlike}
 use Rattle.session_alike.proofs.Seeing.{view_alike}
+use Rattle.terminal_model.specs.Shows.{View}
+use Rattle.session_model.specs.Run.{HasEffects, IsRunFrom, IsStep, after, drawn, drawn_on, tables_from, with_drawn}
 
 from_nothing : (i : ℕ) → 0 + i ≡ i
 from_nothing i = omega arith
@@ -125,5 +117,6 @@ module _ (n : Renaming) where
       → HistoriesAlike n u.edition u.owner h u.acts
       → TablesAlike n (record (fresh u.edition u.owner) { acts = h; is_multiuser = u.is_multiuser }) u
   begins_alike h u no_windows no_clients windows clients acts = tables_as refl refl refl acts
-      (subst (Matched (WindowsAlike n) []) (sym no_windows) tt) (subst (Matched (ClientsAlike n) []) (sym no_clients) tt)
+      (subst (Matched (WindowsAlike n) []) (sym no_windows) tt)
+      (subst (Matched (ClientsAlike n) []) (sym no_clients) tt)
       (λ i. ap n.window (from_nothing i) ∙ windows i) (λ i. ap n.client (from_nothing i) ∙ clients i)

@@ -1,29 +1,19 @@
 -- Histories that answer alike do so after the same act.
-use Rattle.std.proofs.Common.{◌≡◌, ℕ, Bool, true, false, not, List, [], ◌∷◌, Option, Some, None, refl, ap, sym, ◌∙◌}
-use Rattle.std.proofs.Common.{map, filter, arith}
-use Rattle.std.specs.Prelude.{if◌then◌else◌, ◌==◌, ◌&&◌, ◌||◌, unwrap_or, is_none}
-use Rattle.std.specs.List.{list_any}
-use Rattle.std.proofs.lemmas.Bool.Decides.{nat_tests}
-use Rattle.acl.specs.declared.act.Act.{Act}
+use Rattle.session_alike.proofs.Vocabulary.{◌≡◌, ℕ, Bool, true, false, not, List, [], ◌∷◌, Option, Some, None, refl, ap}
+use Rattle.session_alike.proofs.Vocabulary.{sym, ◌∙◌, map, filter, arith, if◌then◌else◌, ◌==◌, ◌&&◌, ◌||◌, unwrap_or}
+use Rattle.session_alike.proofs.Vocabulary.{list_any, nat_tests, Act, Object, Bit, Write, Edition, UserId, History}
+use Rattle.session_alike.proofs.Vocabulary.{followed_by, decided, decides_known, decides_mask, decides_open}
+use Rattle.session_alike.proofs.Vocabulary.{decides_preset, decision, greeting, has, latest, leaders_after, leaders_of}
+use Rattle.session_alike.proofs.Vocabulary.{mask, may, opening, users_after, users_of, same_bit, same_object, same_user}
+use Rattle.session_alike.proofs.Vocabulary.{Renaming, act_as, object_as, HistoriesAlike, client_as, if_as}
 use Rattle.acl.specs.declared.act.Act.TheVariants as act
-use Rattle.acl.specs.declared.act.LockMode.{LockMode}
-use Rattle.acl.specs.declared.act.Object.{Object}
 use Rattle.acl.specs.declared.act.Object.TheVariants as object
-use Rattle.acl.specs.declared.act.PresetKind.{PresetKind}
 use Rattle.acl.specs.declared.act.PresetKind.TheVariants as preset
-use Rattle.acl.specs.declared.bits.Bit.{Bit}
-use Rattle.acl.specs.declared.bits.Bit.TheVariants.{Write}
-use Rattle.acl.specs.declared.edition.Edition.{Edition}
-use Rattle.acl.specs.declared.user_id.UserId.{UserId}
-use Rattle.acl.specs.History.{History, followed_by, decided, decides_known, decides_mask, decides_open}
-use Rattle.acl.specs.History.{decides_preset, decision, greeting, has, is_known, is_open, latest, leaders_after}
-use Rattle.acl.specs.History.{leaders_of, mask, may, opening, preset_of, users_after, users_of}
-use Rattle.acl.specs.Same.{same_bit, same_object, same_user}
-use Rattle.writelock.specs.Holding.{clients_after, clients_of, decides_default, default_of, ends, given, has_client}
-use Rattle.writelock.specs.Holding.{holder, is_auto, is_off, is_on, kept, loses_last, mode_after, mode_of, or_else}
-use Rattle.session_alike.specs.Renaming.{Renaming, act_as, object_as}
-use Rattle.session_alike.specs.Histories.{HistoriesAlike, client_as}
-use Rattle.session_alike.proofs.Matching.{if_as}
+use Rattle.acl.specs.declared.act.LockMode.{LockMode}
+use Rattle.acl.specs.declared.act.PresetKind.{PresetKind}
+use Rattle.acl.specs.History.{is_known}
+use Rattle.writelock.specs.Holding.{clients_after, clients_of, decides_default, ends, given, holder, is_off, kept}
+use Rattle.writelock.specs.Holding.{loses_last, mode_after, mode_of}
 
 -- ---- serials
 
@@ -113,8 +103,10 @@ module _ (n : Renaming) (edition : Edition) (owner : UserId) where
         → filter (λ (c : ℕ × UserId). not (c.0 == n.client client)) (map (client_as n) cs) ≡ map (client_as n)
         (filter (λ (c : ℕ × UserId). not (c.0 == client)) cs)
     left [] = refl
-    left (c ∷ cs) = cc (client_test n c.0 client, left cs, if_as (map (client_as n)) (not (c.0 == client))
-        (c ∷ filter (λ (d : ℕ × UserId). not (d.0 == client)) cs) (filter (λ (d : ℕ × UserId). not (d.0 == client)) cs))
+    left (c ∷ cs) =
+        let others = filter (λ (d : ℕ × UserId). not (d.0 == client)) cs in
+        let here = if_as (map (client_as n)) (not (c.0 == client)) (c ∷ others) others in
+        cc (client_test n c.0 client, left cs, here)
   clients_as (act.Known v) cs = refl
   clients_as _ cs = refl
 
@@ -122,9 +114,10 @@ module _ (n : Renaming) (edition : Edition) (owner : UserId) where
       → ((u : UserId) (bit : Bit) (o : Object) → has owner g u bit (object_as n o) ≡ has owner h u bit o)
       → (u : UserId) (bit : Bit) (o : Object)
       → may edition owner g u bit (object_as n o) ≡ may edition owner h u bit o
-  may_by h g leaders entries u bit o = cc (entries u bit o, leaders u,
-      any_as (λ leader. has owner h leader bit o) (λ leader. has owner g leader bit (object_as n o))
-      (leaders_of edition h u) (λ leader. entries leader bit o))
+  may_by h g leaders entries u bit o =
+      let led = any_as (λ leader. has owner h leader bit o) (λ leader. has owner g leader bit (object_as n o))
+      (leaders_of edition h u) (λ leader. entries leader bit o) in
+      cc (entries u bit o, leaders u, led)
 
   -- ---- what it says after histories that answer alike
   module _ (h g : History) (s : HistoriesAlike n edition owner h g) where
@@ -167,8 +160,9 @@ module _ (n : Renaming) (edition : Edition) (owner : UserId) where
     has_client_as u cs = same_any (client_as n) (λ c. same_user c.1 u) (λ c. same_user c.1 u) cs (λ c. refl)
 
     loses_as : (client : ℕ) (u : UserId) → loses_last g (n.client client) u ≡ loses_last h client u
-    loses_as client u = cc (s.clients, has_client_as u (clients_of h), clients_as (act.Parted client) (clients_of h),
-        has_client_as u (clients_after (act.Parted client) (clients_of h)))
+    loses_as client u =
+        let after = has_client_as u (clients_after (act.Parted client) (clients_of h)) in
+        cc (s.clients, has_client_as u (clients_of h), clients_as (act.Parted client) (clients_of h), after)
 
     ends_as : (a : Act) (u : UserId) (w : ℕ) → ends (act_as n a) g u (n.window w) ≡ ends a h u w
     ends_as (act.Mode by v mode) u w = ap (λ b. b && is_off mode) (window_test n v w)
@@ -216,9 +210,10 @@ module _ (n : Renaming) (edition : Edition) (owner : UserId) where
       opened = λ w. cc (open_as w a, s.opened w);
       default = cc (default_as a, s.default);
       modes = λ w. cc (mode_as a w (mode_of g (n.window w)), s.modes w);
-      holders = λ w. cc (s.holders w, given_as a w (holder edition owner h w),
-          kept_as a w (holder edition owner h w)
-          (λ u. may_by (a ∷ h) (act_as n a ∷ g) (led_after a) (rights_after a) u Write (object.Window w)));
+      holders = λ w.
+          let kept = kept_as a w (holder edition owner h w)
+          (λ u. may_by (a ∷ h) (act_as n a ∷ g) (led_after a) (rights_after a) u Write (object.Window w)) in
+          cc (s.holders w, given_as a w (holder edition owner h w), kept);
       clients = ap (clients_after (act_as n a)) s.clients ∙ clients_as a (clients_of h);
     }
 

@@ -1,11 +1,8 @@
 -- The same keys give the same after keys at whose end the same is open.
-use Rattle.std.proofs.Common.{◌≡◌, ℕ, ◌+◌, List, [], ◌∷◌, ◌++◌, refl, ap, sym, ◌∙◌, append_assoc, drop, length, take}
-use Rattle.std.specs.Prelude.{unwrap_or}
-use Rattle.std.specs.List.{list_any, range_with_len}
-use Rattle.keys.specs.Grammar.{Item, Rest, items, nothing, rest_step, with_front}
-unfoldable use Rattle.keys.specs.Grammar.{items_from}
-use Rattle.session_model.specs.Keying.{completes, is_command, items_behind, taken}
-use Rattle.session_alike.proofs.Matching.{find_same}
+use Rattle.session_alike.proofs.Vocabulary.{◌≡◌, ℕ, ◌+◌, List, [], ◌∷◌, ◌++◌, refl, ap, sym, ◌∙◌, append_assoc, drop}
+use Rattle.session_alike.proofs.Vocabulary.{length, take, unwrap_or, list_any, range_with_len, Item, Rest, items}
+use Rattle.session_alike.proofs.Vocabulary.{nothing, rest_step, with_front, items_from, completes, is_command}
+use Rattle.session_alike.proofs.Vocabulary.{items_behind, taken, find_same}
 
 from_both : (r : Rest) (xs ys : List ℕ)
     → items_from r (xs ++ ys) ≡ with_front (items_from r xs).0 (items_from (items_from r xs).1 ys)

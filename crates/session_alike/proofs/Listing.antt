@@ -1,25 +1,17 @@
 -- Texts of sessions that are alike say the same, but for the serials of clients.
-use Rattle.std.proofs.Common.{◌≡◌, ℕ, Bool, List, [], ◌∷◌, ◌++◌, Option, Some, None, refl, ap, ◌∙◌, map}
-use Rattle.std.specs.Prelude.{if◌then◌else◌, codes, decimal}
-use Rattle.std.specs.Option.{option_map}
-use Rattle.acl.specs.Names.{name_of}
+use Rattle.session_alike.proofs.Vocabulary.{◌≡◌, ℕ, Bool, List, [], ◌∷◌, ◌++◌, Option, Some, None, refl, ap, ◌∙◌, map}
+use Rattle.session_alike.proofs.Vocabulary.{if◌then◌else◌, codes, decimal, option_map, name_of, Read, UserId, Refusal}
+use Rattle.session_alike.proofs.Vocabulary.{Client, Tables, Window, focused, window_at, client_item, clients_text}
+use Rattle.session_alike.proofs.Vocabulary.{denied_text, focus_text, in_order, letter, missing_text, separated, text_of}
+use Rattle.session_alike.proofs.Vocabulary.{window_item, windows_text, Renaming, denied_as, refusal_as, ClientsAlike}
+use Rattle.session_alike.proofs.Vocabulary.{ListsAlike, TablesAlike, WindowsAlike, item_as, line_of, cases_both}
+use Rattle.session_alike.proofs.Vocabulary.{made_both, read_both}
 use Rattle.acl.specs.declared.act.Object.TheVariants as object
-use Rattle.acl.specs.declared.bits.Bit.TheVariants.{Read}
-use Rattle.acl.specs.declared.user_id.UserId.{UserId}
-use Rattle.windows_model.specs.Matched.{BothOrNone}
-use Rattle.session_model.specs.declared.refusal.Denied.{Denied}
 use Rattle.session_model.specs.declared.refusal.Denied.TheVariants as denied
-use Rattle.session_model.specs.declared.refusal.Refusal.{Refusal}
 use Rattle.session_model.specs.declared.refusal.Refusal.TheVariants as refusal
-use Rattle.session_model.specs.Rights.{may_in}
-use Rattle.session_model.specs.Tables.{Client, Tables, Window, focused, is_window, window_at}
-use Rattle.session_model.specs.Texts.{client_item, clients_text, denied_text, focus_text, in_order, letter}
-use Rattle.session_model.specs.Texts.{missing_text, number_text, separated, text_of, window_item, windows_text}
-use Rattle.session_alike.specs.Renaming.{Renaming, denied_as, refusal_as}
-use Rattle.session_alike.specs.Alike.{ClientsAlike, ListsAlike, TablesAlike, WindowsAlike, item_as, line_of}
 use Rattle.session_alike.proofs.Finding.{focused_as, is_window_as, may_alike, window_alike}
-use Rattle.session_alike.proofs.Matching.{cases_both, made_both, read_both}
 use Rattle.session_alike.proofs.Naming.{order_both}
+use Rattle.session_model.specs.declared.refusal.Denied.{Denied}
 
 abbrev window_line : ℕ → Bool → Bool → List ℕ → List ℕ
 window_line number is_focus is_read title =
@@ -56,7 +48,8 @@ module _ (n : Renaming) where
     line_alike : (user : UserId) (focus : Option ℕ) (w v : Window) → WindowsAlike n w v
         → window_item u user (option_map n.window focus) v ≡ window_item t user focus w
     line_alike user focus w v r =
-        cc (r.number, r.serial, is_window_as n w.serial focus, may_alike n t u a user Read (object.Window w.serial), r.title)
+        let read = may_alike n t u a user Read (object.Window w.serial) in
+        cc (r.number, r.serial, is_window_as n w.serial focus, read, r.title)
 
     pub windows_text_alike : (user : UserId) (focus : Option ℕ)
         → windows_text u user (option_map n.window focus) ≡ windows_text t user focus

@@ -1,40 +1,26 @@
 -- The same words name the same windows, users and objects in sessions that are alike.
-use Rattle.std.proofs.Common.{◌≡◌, ℕ, Bool, true, false, not, List, [], ◌∷◌, ◌++◌, Option, Some, None, refl, ap, sym}
-use Rattle.std.proofs.Common.{◌∙◌}
-use Rattle.std.proofs.Common.{subst, map, filter}
-use Rattle.std.specs.Prelude.{if◌then◌else◌, ◌==◌, nat_eq, nat_lt}
-use Rattle.std.specs.List.{flat_map, list_any, range_with_len}
-use Rattle.std.specs.Option.{option_and_then, option_map, option_or}
-use Rattle.std.specs.Str.{bytes_eq}
-use Prim.Native.Char.{code}
-use Rattle.acl.specs.declared.act.Object.{Object}
+use Rattle.session_alike.proofs.Vocabulary.{◌≡◌, ℕ, false, not, List, [], ◌∷◌, ◌++◌, Option, Some, None, refl, ap, ◌∙◌}
+use Rattle.session_alike.proofs.Vocabulary.{map, filter, if◌then◌else◌, ◌==◌, nat_eq, nat_lt, flat_map, list_any}
+use Rattle.session_alike.proofs.Vocabulary.{range_with_len, option_and_then, option_map, option_or, bytes_eq, Object}
+use Rattle.session_alike.proofs.Vocabulary.{MaskEntry, MaskScope, BitChange, UserId, BothOrNone, Matched, is_taken}
+use Rattle.session_alike.proofs.Vocabulary.{mask_entries, entries_of, every_command, every_window, free_number}
+use Rattle.session_alike.proofs.Vocabulary.{has_number, higher, highest, is_wide, item_objects, lower, lowest, names_of}
+use Rattle.session_alike.proofs.Vocabulary.{objects_of, scopes_of, spelled, wide_objects, window_after, window_before}
+use Rattle.session_alike.proofs.Vocabulary.{window_named, with_number, Tables, Window, by_number, in_order, Renaming}
+use Rattle.session_alike.proofs.Vocabulary.{object_as, TablesAlike, WindowsAlike, any_both, filter_both, find_both}
+use Rattle.session_alike.proofs.Vocabulary.{find_same, made_both, map_append, or_both, pick, read_one, read_or}
 use Rattle.acl.specs.declared.act.Object.TheVariants as object
-use Rattle.acl.specs.declared.command_name.CommandName.{CommandName}
-use Rattle.acl.specs.declared.entries.MaskEntry.{MaskEntry}
-use Rattle.acl.specs.declared.entries.MaskScope.{MaskScope}
 use Rattle.acl.specs.declared.entries.MaskScope.TheVariants as scope
-use Rattle.acl.specs.declared.bits.BitChange.{BitChange}
-use Rattle.acl.specs.declared.user_id.UserId.{UserId}
-use Rattle.command_lang.specs.declared.command.Mask.{Mask}
-use Rattle.command_lang.specs.declared.command.Users.{Users}
 use Rattle.command_lang.specs.declared.command.Users.TheVariants as users
-use Rattle.command_lang.specs.Names.{all_names, command_named}
-use Rattle.windows_model.specs.declared.limits.TheConstants.{WINDOWS}
-use Rattle.windows_model.specs.Matched.{BothOrNone, Matched}
-use Rattle.session_model.specs.Commands.{is_taken, mask_entries}
-use Rattle.session_model.specs.Naming.{entries_of, every_command, every_window, free_number, has_number, higher}
-use Rattle.session_model.specs.Naming.{highest}
-use Rattle.session_model.specs.Naming.{is_wide, item_objects, lower, lowest, names_of, objects_of, scopes_of, spelled}
-use Rattle.session_model.specs.Naming.{wide_objects, window_after, window_before, window_named, with_number}
-use Rattle.session_model.specs.Tables.{Tables, Window}
-use Rattle.session_model.specs.Texts.{by_number, in_order}
-use Rattle.session_alike.specs.Renaming.{Renaming, object_as}
-use Rattle.session_alike.specs.Alike.{TablesAlike, WindowsAlike}
 use Rattle.session_alike.proofs.Checking.{needed_as}
 use Rattle.session_alike.proofs.Finding.{others_alike}
 use Rattle.session_alike.proofs.Histories.{window_test}
-use Rattle.session_alike.proofs.Matching.{any_both, filter_both, find_both, find_same, made_both, map_append}
-use Rattle.session_alike.proofs.Matching.{or_both, pick, read_one, read_or}
+use Prim.Native.Char.{code}
+use Rattle.acl.specs.declared.command_name.CommandName.{CommandName}
+use Rattle.command_lang.specs.declared.command.Mask.{Mask}
+use Rattle.command_lang.specs.declared.command.Users.{Users}
+use Rattle.command_lang.specs.Names.{all_names, command_named}
+use Rattle.windows_model.specs.declared.limits.TheConstants.{WINDOWS}
 
 abbrev scoped : Mask → List MaskScope → List MaskEntry
 scoped m ss = flat_map (λ s. map (λ (b : BitChange). record { scope = s; bit = b.bit; value = b.value }) m.bits) ss
@@ -180,7 +166,8 @@ module _ (n : Renaming) where
         map_append (object_as n) (if list_any (nat_eq (code "#")) item then every_window t else [])
         (if list_any (nat_eq (code "?")) item then every_command else []) _ _
         (needed_as (object_as n) (list_any (nat_eq (code "#")) item) (every_window t) (every_window u) windows_alike)
-        (needed_as (object_as n) (list_any (nat_eq (code "?")) item) every_command every_command (commands_as all_names))
+        (needed_as (object_as n) (list_any (nat_eq (code "?")) item) every_command every_command
+        (commands_as all_names))
 
     item_alike : (item : List ℕ) → item_objects u item ≡ option_map (map (object_as n)) (item_objects t item)
     item_alike item = pick (λ o p. p ≡ option_map (map (object_as n)) o) (is_wide item) (is_wide item) refl

@@ -1,30 +1,16 @@
 -- A deed that is done, and the leaving that it causes, leave sessions alike.
-use Rattle.std.proofs.Common.{◌≡◌, ℕ, Bool, true, false, List, [], ◌∷◌, ◌++◌, Option, Some, None, refl, ap}
-use Rattle.std.proofs.Common.{sym, ◌∙◌, subst, map}
-use Rattle.std.specs.Prelude.{if◌then◌else◌, ◌||◌}
-use Rattle.std.specs.Option.{option_map}
-use Rattle.acl.specs.declared.act.Act.{Act}
+use Rattle.session_alike.proofs.Vocabulary.{◌≡◌, ℕ, List, [], ◌∷◌, ◌++◌, Option, Some, None, refl, ap, sym, ◌∙◌, subst}
+use Rattle.session_alike.proofs.Vocabulary.{map, ◌||◌, option_map, Act, History, followed_by, Matched, Check, Refusal}
+use Rattle.session_alike.proofs.Vocabulary.{Verdict, first_fault, verdicts, Deed, Outcome, finished, left_acts}
+use Rattle.session_alike.proofs.Vocabulary.{left_acts_of, refused, where_passed, Client, Tables, focused, is_in_focus}
+use Rattle.session_alike.proofs.Vocabulary.{EventValue, Reply, Renaming, act_as, refusal_as, verdict_as, ClientsAlike}
+use Rattle.session_alike.proofs.Vocabulary.{TablesAlike, HistoriesAlike, EffectsAlike, RepliesAlike, cases_as, if_as}
+use Rattle.session_alike.proofs.Vocabulary.{map_append}
 use Rattle.acl.specs.declared.act.Act.TheVariants as act
-use Rattle.acl.specs.declared.user_id.UserId.{UserId}
-use Rattle.acl.specs.History.{History, followed_by}
-use Rattle.windows_model.specs.Matched.{Matched}
-use Rattle.session_model.specs.declared.check.Check.{Check}
-use Rattle.session_model.specs.declared.refusal.Refusal.{Refusal}
-use Rattle.session_model.specs.declared.verdict.Verdict.{Verdict}
-use Rattle.session_model.specs.Checks.{first_fault, verdicts}
-use Rattle.session_model.specs.Deeds.{Deed}
-use Rattle.session_model.specs.Outcomes.{Outcome, finished, left_acts, left_acts_of, refused, where_passed}
-use Rattle.session_model.specs.Tables.{Client, Tables, focused, is_in_focus}
-use Rattle.session_model.specs.Trace.{EventValue, Reply}
-use Rattle.session_alike.specs.Renaming.{Renaming, act_as, refusal_as, verdict_as}
-use Rattle.session_alike.specs.Alike.{ClientsAlike, TablesAlike}
-use Rattle.session_alike.specs.Histories.{HistoriesAlike}
-use Rattle.session_alike.specs.Steps.{EffectsAlike, RepliesAlike}
 use Rattle.session_alike.proofs.Changing.{DeedsAlike, tables_as}
 use Rattle.session_alike.proofs.Checking.{check_as, fault_alike, verdicts_alike}
 use Rattle.session_alike.proofs.Finding.{focused_as, in_focus_as}
 use Rattle.session_alike.proofs.Histories.{all_alike}
-use Rattle.session_alike.proofs.Matching.{cases_as, if_as, map_append}
 
 pub record OutcomesAlike (n : Renaming) (event : EventValue) (o p : Outcome) : Type 0 where
   pub reply : RepliesAlike n event o.reply p.reply
@@ -43,8 +29,10 @@ module _ (n : Renaming) where
     where
       on : (o : Option ℕ) → left_acts_of d (option_map n.window o) ds ys ≡ map (act_as n) (left_acts_of c o cs xs)
       on None = refl
-      on (Some w) = cc (r.user, in_focus_as n cs ds m c.user w, in_focus_as n xs ys k c.user w,
-          if_as (map (act_as n)) (is_in_focus cs c.user w || is_in_focus xs c.user w) [] (act.Left c.user w ∷ []))
+      on (Some w) =
+          let stays = is_in_focus cs c.user w || is_in_focus xs c.user w in
+          let goes = if_as (map (act_as n)) stays [] (act.Left c.user w ∷ []) in
+          cc (r.user, in_focus_as n cs ds m c.user w, in_focus_as n xs ys k c.user w, goes)
 
   left_alike : (cs ds xs ys : List Client) → Matched (ClientsAlike n) cs ds → Matched (ClientsAlike n) xs ys
       → left_acts ds ys ≡ map (act_as n) (left_acts cs xs)

@@ -1,33 +1,19 @@
 -- Keys do the same in sessions that are alike.
-use Rattle.std.proofs.Common.{◌≡◌, ℕ, List, [], ◌∷◌, ◌++◌, Option, Some, None, Ok, Err, Result, inl, inr, refl, ap}
-use Rattle.std.proofs.Common.{sym, ◌∙◌}
-use Rattle.std.proofs.Common.{subst, map, length, take}
-use Rattle.std.specs.Option.{option_map}
-use Rattle.acl.specs.declared.user_id.UserId.{UserId}
-use Rattle.command_lang.specs.declared.command.Command.{Command as Order}
+use Rattle.session_alike.proofs.Vocabulary.{◌≡◌, ℕ, List, [], ◌∷◌, ◌++◌, Option, Some, None, Ok, Err, Result, inl, inr}
+use Rattle.session_alike.proofs.Vocabulary.{refl, ap, sym, ◌∙◌, subst, map, length, take, option_map, UserId, Order}
+use Rattle.session_alike.proofs.Vocabulary.{ParseFault, Item, bound, line, BothOrNone, Matched, Input, Say}
+use Rattle.session_alike.proofs.Vocabulary.{StatusMessage, Refusal, Ordered, by_line, by_ruling, input_in, keyed}
+use Rattle.session_alike.proofs.Vocabulary.{keys_outcome, message_of, ordered, reading, says, says_why, told, types}
+use Rattle.session_alike.proofs.Vocabulary.{typing_verdicts, line_ruling, unsaid, with_listed, checks, first_fault}
+use Rattle.session_alike.proofs.Vocabulary.{typing_checks, verdicts, Ruling, ruling, Answer, Deed, changing, hearing}
+use Rattle.session_alike.proofs.Vocabulary.{command_item, items_behind, taken, typed_bytes, Caller, caller_of}
+use Rattle.session_alike.proofs.Vocabulary.{read_line, Outcome, finished, reply_of, Client, Tables, Window, client_at}
+use Rattle.session_alike.proofs.Vocabulary.{focused_window, with_client, text_of, EventValue, Renaming, refusal_as}
+use Rattle.session_alike.proofs.Vocabulary.{verdict_as, ClientsAlike, TablesAlike, TextsAlike, WindowsAlike}
+use Rattle.session_alike.proofs.Vocabulary.{EffectsAlike, made_as, append_both, cases_as, cases_both, map_append}
+use Rattle.session_alike.proofs.Vocabulary.{weaken_both}
 use Rattle.command_lang.specs.declared.command.Command.TheVariants as command
-use Rattle.command_lang.specs.declared.fault.ParseFault.{ParseFault}
-use Rattle.keys.specs.Grammar.{Item, bound, line}
-use Rattle.windows_model.specs.Matched.{BothOrNone, Matched}
-use Rattle.session_model.specs.declared.event.Effect.TheVariants.{Input, Say}
-use Rattle.session_model.specs.declared.message.StatusMessage.{StatusMessage}
 use Rattle.session_model.specs.declared.message.StatusMessage.TheVariants as message
-use Rattle.session_model.specs.declared.refusal.Refusal.{Refusal}
-use Rattle.session_model.specs.Answering.{Ordered, by_line, by_ruling, input_in, keyed, keys_outcome}
-use Rattle.session_model.specs.Answering.{message_of, ordered, reading, says, says_why, told, types, typing_verdicts}
-use Rattle.session_model.specs.Answering.{line_ruling, unsaid, with_listed}
-use Rattle.session_model.specs.Checks.{checks, first_fault, typing_checks, verdicts}
-use Rattle.session_model.specs.Commands.{Ruling, does, ruling}
-use Rattle.session_model.specs.Deeds.{Answer, Deed, changing, hearing}
-use Rattle.session_model.specs.Keying.{command_item, items_behind, taken, typed_bytes}
-use Rattle.session_model.specs.Lines.{Caller, caller_of, read_line}
-use Rattle.session_model.specs.Outcomes.{Outcome, finished, reply_of}
-use Rattle.session_model.specs.Tables.{Client, Tables, Window, client_at, focused_window, with_client}
-use Rattle.session_model.specs.Texts.{text_of}
-use Rattle.session_model.specs.Trace.{EventValue}
-use Rattle.session_alike.specs.Renaming.{Renaming, refusal_as, verdict_as}
-use Rattle.session_alike.specs.Alike.{ClientsAlike, TablesAlike, TextsAlike, WindowsAlike}
-use Rattle.session_alike.specs.Steps.{EffectsAlike, made_as}
 use Rattle.session_alike.proofs.Changing.{AnswersAlike, DeedsAlike, clients_as, declined, deed_as, done, heard_alike}
 use Rattle.session_alike.proofs.Changing.{put_client_alike}
 use Rattle.session_alike.proofs.Checking.{CallersAlike, check_as, checks_alike, fault_alike, typing_as, verdicts_alike}
@@ -35,7 +21,6 @@ use Rattle.session_alike.proofs.Finding.{client_alike, focus_alike}
 use Rattle.session_alike.proofs.Keying.{behind_same, rest_same, taken_same}
 use Rattle.session_alike.proofs.Listing.{text_same}
 use Rattle.session_alike.proofs.Lists.{Same}
-use Rattle.session_alike.proofs.Matching.{append_both, cases_as, cases_both, map_append, weaken_both}
 use Rattle.session_alike.proofs.Outcomes.{OutcomesAlike, finished_alike}
 use Rattle.session_alike.proofs.Rows.{ListedBy, does_alike}
 use Rattle.session_alike.proofs.Saying.{TypedAlike, typed_alike, unsaid_both}
@@ -144,7 +129,8 @@ module _ (n : Renaming) where
           let inputs : Matched (TypedAlike n) (input_in (focused_window t c) (b ∷ bytes))
           (input_in (focused_window u d) (b ∷ bytes)) =
           input_both (focused_window t c) (focused_window u d) (b ∷ bytes) (focus_alike n t u a c d r) in
-          cases_as TypingAlike (refusal_as n) _ (first_fault t (typing_checks c.user (focused_window t c))) _ typing_fault
+          cases_as TypingAlike (refusal_as n) _ (first_fault t (typing_checks c.user (focused_window t c))) _
+          typing_fault
           (record {
             deed = deed_as refl a (weaken_both (TypedAlike n) (EffectsAlike n) _ _ (typed_alike n) inputs);
             said = inputs;
@@ -221,8 +207,8 @@ module _ (n : Renaming) where
 
   pub reading_alike : (bytes : List ℕ) (c d : Client) → ClientsAlike n c d
       → ClientsAlike n (reading bytes c) (reading bytes d)
-  reading_alike bytes c d r = clients_as r.serial r.user r.rows r.columns (rest_same c.keys d.keys r.keys bytes) r.layout
-      r.last r.former refl
+  reading_alike bytes c d r = clients_as r.serial r.user r.rows r.columns
+      (rest_same c.keys d.keys r.keys bytes) r.layout r.last r.former refl
 
   -- what is done with keys that complete these items
   abbrev done_with : Tables → Client → List ℕ → List Item → Outcome
