@@ -12,7 +12,6 @@ use Rattle.session_alike.proofs.Vocabulary.{Keys, Open, Output, Resize, Renaming
 use Rattle.session_alike.proofs.Vocabulary.{TablesAlike, TextsAlike, WindowsAlike, EffectsAlike, HasSerials}
 use Rattle.session_alike.proofs.Vocabulary.{RepliesAlike, made_as, append_both, cases_both, if_as, length_both, pick}
 use Rattle.acl.specs.declared.act.Act.TheVariants as act
-use Rattle.acl.specs.declared.act.Object.TheVariants as object
 use Rattle.terminal_model.specs.Writing as written
 use Rattle.session_model.specs.declared.event.Reason.TheVariants as reason
 use Rattle.session_model.specs.declared.message.StatusMessage.TheVariants as message
