@@ -7,7 +7,7 @@ use crate::disk::{Disk, DiskWatch, StopCause, WatchedDisk, last_cause};
 use crate::file::{TrailFile, begin, header_of};
 use crate::reading::is_trail;
 use crate::recorder::Recorder;
-use crate::writing::Written;
+use crate::waiting::Written;
 use acl::{Edition, UserId};
 use hub::EntryList;
 use session::Bytes;

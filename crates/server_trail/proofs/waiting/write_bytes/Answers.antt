@@ -1,7 +1,7 @@
 use Rattle.std.proofs.Common.{◌++◌, take, ap, ◌∙◌, arith}
 use Rattle.std.proofs.lemmas.List.{take_rest}
 use Rattle.server_trail.proofs.Files.{both, two_parts}
-use Rattle.server_trail.proofs.recorder.Recorder.push.Goals as goal
+use Rattle.server_trail.proofs.waiting.write_bytes.Goals as goal
 
 pub writes-preserved : goal.writes-preserved
 writes-preserved g c =

@@ -1,8 +1,7 @@
 //! The file of the owner's first commands, and its faults.
 
-use crate::fault::{ServeFault, SystemError};
-use crate::Host;
 use program_words::{RefusedLine, SetupFault, SetupLine, read_setup};
+use server_system::{Host, ServeFault, SystemError};
 use std::alloc::Global;
 use std::{fs, str};
 
