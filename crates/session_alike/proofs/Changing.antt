@@ -8,7 +8,7 @@ use Rattle.session_alike.proofs.Vocabulary.{parts, tells, without_window, withou
 use Rattle.session_alike.proofs.Vocabulary.{Window, focused, former_after, is_window, last_after, with_client}
 use Rattle.session_alike.proofs.Vocabulary.{with_layout, with_window, terminal_of, Renaming, act_as, layout_as}
 use Rattle.session_alike.proofs.Vocabulary.{refusal_as, shown_as, ClientsAlike, TablesAlike, TerminalsAlike}
-use Rattle.session_alike.proofs.Vocabulary.{WindowsAlike, HistoriesAlike, items, EffectsAlike, filter_both, if_as}
+use Rattle.session_alike.proofs.Vocabulary.{WindowsAlike, HistoriesAlike, items, EffectsAlike, filter_match, if_as}
 use Rattle.session_alike.proofs.Vocabulary.{made_both, map_both, pick, put_both}
 use Rattle.acl.specs.declared.act.Act.TheVariants as act
 use Rattle.session_model.specs.declared.event.Peer.TheVariants as peer
@@ -205,10 +205,10 @@ module _ (n : Renaming) where
         → ((c d : Client) → ClientsAlike n c d → q d ≡ p c) → DeedsAlike n t.acts u.acts (parts p why t) (parts q why u)
     parts_alike p q why same =
         let gone : Matched (ClientsAlike n) (filter p t.clients) (filter q u.clients) =
-        filter_both (ClientsAlike n) p q same t.clients u.clients a.clients in deed_as
+        filter_match (ClientsAlike n) p q same t.clients u.clients a.clients in deed_as
         (made_both (ClientsAlike n) (act_as n) _ _ _ _ (λ c d r. ap act.Parted r.serial) gone)
         (rows_alike t.windows u.windows _ _ a.windows
-        (filter_both (ClientsAlike n) (λ c. not (p c)) (λ d. not (q d)) (λ c d r. ap not (same c d r))
+        (filter_match (ClientsAlike n) (λ c. not (p c)) (λ d. not (q d)) (λ c d r. ap not (same c d r))
         t.clients u.clients a.clients))
         (map_both (ClientsAlike n) (EffectsAlike n) _ _ _ _ (λ c d r. ap (λ s. Gone (peer.Client s) why) r.serial) gone)
 
@@ -217,10 +217,10 @@ module _ (n : Renaming) where
         → DeedsAlike n t.acts u.acts (closes p why t) (closes q why u)
     closes_alike p q why same =
         let gone : Matched (WindowsAlike n) (filter p t.windows) (filter q u.windows) =
-        filter_both (WindowsAlike n) p q same t.windows u.windows a.windows in deed_as
+        filter_match (WindowsAlike n) p q same t.windows u.windows a.windows in deed_as
         (made_both (WindowsAlike n) (act_as n) _ _ _ _ (λ w v r. ap act.Closed r.serial) gone)
         (rows_alike _ _ _ _
-        (filter_both (WindowsAlike n) (λ w. not (p w)) (λ v. not (q v)) (λ w v r. ap not (same w v r))
+        (filter_match (WindowsAlike n) (λ w. not (p w)) (λ v. not (q v)) (λ w v r. ap not (same w v r))
         t.windows u.windows a.windows)
         (without_both (filter p t.windows) (filter q u.windows) t.clients u.clients gone a.clients))
         (map_both (WindowsAlike n) (EffectsAlike n) _ _ _ _ (λ w v r. ap (λ s. Gone (peer.Window s) why) r.serial) gone)

@@ -10,7 +10,7 @@ use Rattle.session_alike.proofs.Vocabulary.{reply_of, Client, Tables, Window, cl
 use Rattle.session_alike.proofs.Vocabulary.{with_client, terminal_of, Attach, Closed, Command, Detach, Draw, EventValue}
 use Rattle.session_alike.proofs.Vocabulary.{Keys, Open, Output, Resize, Renaming, event_as, layout_as, ClientsAlike}
 use Rattle.session_alike.proofs.Vocabulary.{TablesAlike, TextsAlike, WindowsAlike, EffectsAlike, HasSerials}
-use Rattle.session_alike.proofs.Vocabulary.{RepliesAlike, made_as, append_both, cases_both, if_as, length_both, pick}
+use Rattle.session_alike.proofs.Vocabulary.{RepliesAlike, made_as, append_match, cases_both, if_as, length_match, pick}
 use Rattle.acl.specs.declared.act.Act.TheVariants as act
 use Rattle.terminal_model.specs.Writing as written
 use Rattle.session_model.specs.declared.event.Reason.TheVariants as reason
@@ -75,7 +75,7 @@ module _ (n : Renaming) (t u : Tables) (a : TablesAlike n t u) where
   attach_checks_as : (user : UserId) (rows columns : ℕ) → t.next_client < SERIALS → u.next_client < SERIALS
       → attach_checks u user rows columns ≡ map (check_as n) (attach_checks t user rows columns)
   attach_checks_as user rows columns below also =
-      let as_many = length_both (ClientsAlike n) t.clients u.clients a.clients in
+      let as_many = length_match (ClientsAlike n) t.clients u.clients a.clients in
       let left = serials_left t.next_client u.next_client below also in
       cc (known_alike n t u a user, let_in_alike user, as_many, left)
 
@@ -114,14 +114,14 @@ module _ (n : Renaming) (t u : Tables) (a : TablesAlike n t u) where
   attaches_alike c d r = deed_as
       (cc (r.serial, r.user, focused_as n c d r.layout, entering_as n c.user (focused c)))
       (tables_as a.owner a.edition a.is_multiuser a.acts a.windows
-      (append_both (ClientsAlike n) t.clients (c ∷ []) u.clients (d ∷ []) a.clients (r, tt)) a.next_windows
+      (append_match (ClientsAlike n) t.clients (c ∷ []) u.clients (d ∷ []) a.clients (r, tt)) a.next_windows
       (λ i. ap n.client (one_more t.next_client i) ∙ a.next_clients (1 + i) ∙ sym (one_more u.next_client i))) tt
 
   -- ---- opening
 
   place_alike : has_place u.windows ≡ has_place t.windows
   place_alike =
-      let as_many = length_both (WindowsAlike n) t.windows u.windows a.windows in
+      let as_many = length_match (WindowsAlike n) t.windows u.windows a.windows in
       cc (as_many, free_both n t.windows u.windows a.windows)
 
   open_checks_as : (user : UserId) (rows columns keep : ℕ) (title : List ℕ) → t.next_window < SERIALS
@@ -144,7 +144,7 @@ module _ (n : Renaming) (t u : Tables) (a : TablesAlike n t u) where
       → DeedsAlike n t.acts u.acts (opens t user w) (opens u user v)
   opens_alike user w v r = deed_as (ap (λ s. act.Opened user s ∷ []) r.serial)
       (tables_as a.owner a.edition a.is_multiuser a.acts
-      (append_both (WindowsAlike n) t.windows (w ∷ []) u.windows (v ∷ []) a.windows (r, tt)) a.clients
+      (append_match (WindowsAlike n) t.windows (w ∷ []) u.windows (v ∷ []) a.windows (r, tt)) a.clients
       (λ i. ap n.window (one_more t.next_window i) ∙ a.next_windows (1 + i) ∙ sym (one_more u.next_window i))
       a.next_clients) tt
 

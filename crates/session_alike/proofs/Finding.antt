@@ -1,19 +1,13 @@
 -- What sessions that are alike answer of rights, windows and clients.
-use Rattle.session_alike.proofs.Vocabulary.{◌≡◌, ℕ, zero, suc, not, List, [], ◌∷◌, Option, Some, None, refl, ap, sym}
-use Rattle.session_alike.proofs.Vocabulary.{◌∙◌, subst, map, filter, ◌==◌, slice_get, option_and_then, option_map}
-use Rattle.session_alike.proofs.Vocabulary.{Object, Bit, UserId, same_user, Shown, Arrangement, BothOrNone, Matched}
-use Rattle.session_alike.proofs.Vocabulary.{number_of, holder_in, leaders_in, may_in, Client, Tables, Window, client_at}
-use Rattle.session_alike.proofs.Vocabulary.{focused, focused_window, is_in_focus, is_known, is_window, known_users}
-use Rattle.session_alike.proofs.Vocabulary.{others, shows, window_at, Renaming, layout_as, object_as, shown_as}
-use Rattle.session_alike.proofs.Vocabulary.{ClientsAlike, TablesAlike, WindowsAlike, any_both, read_or, row_both}
-use Rattle.session_alike.proofs.Vocabulary.{then_both}
+use Rattle.session_alike.proofs.Vocabulary.{◌≡◌, ℕ, not, List, Option, Some, None, refl, ap, sym, ◌∙◌, subst, filter}
+use Rattle.session_alike.proofs.Vocabulary.{◌==◌, slice_get, option_and_then, option_map, Object, Bit, UserId}
+use Rattle.session_alike.proofs.Vocabulary.{same_user, Shown, Arrangement, BothOrNone, Matched, number_of, holder_in}
+use Rattle.session_alike.proofs.Vocabulary.{leaders_in, may_in, Client, Tables, Window, client_at, focused}
+use Rattle.session_alike.proofs.Vocabulary.{focused_window, is_in_focus, is_known, is_window, known_users, others}
+use Rattle.session_alike.proofs.Vocabulary.{shows, window_at, Renaming, layout_as, object_as, shown_as, ClientsAlike}
+use Rattle.session_alike.proofs.Vocabulary.{TablesAlike, WindowsAlike, any_both, read_or, row_both, then_both}
+use Rattle.session_alike.proofs.Vocabulary.{slice_get-map}
 use Rattle.session_alike.proofs.Histories.{client_test, may_as, window_test}
-
-get_as : {A B : Type 0} (f : A → B) (xs : List A) (i : ℕ) → slice_get (map f xs) i ≡ option_map f (slice_get xs i)
-get_as f [] zero = refl
-get_as f [] (suc i) = refl
-get_as f (x ∷ xs) zero = refl
-get_as f (x ∷ xs) (suc i) = get_as f xs i
 
 module _ (n : Renaming) where
   pub is_window_as : (w : ℕ) (o : Option ℕ) → is_window (n.window w) (option_map n.window o) ≡ is_window w o
@@ -28,10 +22,6 @@ module _ (n : Renaming) where
 
   -- ---- the window in focus
 
-  pub get_shown_as : (l : Arrangement) (i : ℕ)
-      → slice_get (map (shown_as n) l.shown) i ≡ option_map (shown_as n) (slice_get l.shown i)
-  get_shown_as l i = get_as (shown_as n) l.shown i
-
   window_shown : (o : Option Shown)
       → option_and_then (λ (s : Shown). s.window) (option_map (shown_as n) o) ≡ option_map n.window
       (option_and_then (λ (s : Shown). s.window) o)
@@ -41,7 +31,7 @@ module _ (n : Renaming) where
   pub focused_as : (c d : Client) → d.layout ≡ layout_as n c.layout → focused d ≡ option_map n.window (focused c)
   focused_as c d is =
       ap (λ (l : Arrangement). option_and_then (λ (s : Shown). s.window) (slice_get l.shown l.focus)) is
-      ∙ ap (option_and_then (λ (s : Shown). s.window)) (get_shown_as c.layout c.layout.focus)
+      ∙ ap (option_and_then (λ (s : Shown). s.window)) (slice_get-map (shown_as n) c.layout.shown c.layout.focus)
       ∙ window_shown (slice_get c.layout.shown c.layout.focus)
 
   shows_as : (user : UserId) (w : ℕ) (c d : Client) → ClientsAlike n c d → shows user (n.window w) d ≡ shows user w c

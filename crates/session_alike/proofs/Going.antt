@@ -1,10 +1,10 @@
 -- Sessions that are alike stay so, step by step.
 use Rattle.session_alike.proofs.Vocabulary.{◌≡◌, ℕ, ◌+◌, arith, refl, List, [], ◌∷◌, Option, Some, None, ap, sym, ◌∙◌}
-use Rattle.session_alike.proofs.Vocabulary.{subst, ◌⊎◌, BothOrNone, Matched, Effect, outcome, granted_view, Client}
-use Rattle.session_alike.proofs.Vocabulary.{Tables, client_at, fresh, Draw, Entry, EventValue, Renaming, act_as}
-use Rattle.session_alike.proofs.Vocabulary.{event_as, verdict_as, ClientsAlike, TablesAlike, WindowsAlike}
-use Rattle.session_alike.proofs.Vocabulary.{HistoriesAlike, History, AllEffectsAlike, AllHaveSerials, AllStepsAlike}
-use Rattle.session_alike.proofs.Vocabulary.{DrawsAlike, EffectsAlike, HasSerials, IsSameEvent, RepliesAlike, StepsAlike}
+use Rattle.session_alike.proofs.Vocabulary.{subst, BothOrNone, Matched, Effect, outcome, granted_view, Client, Tables}
+use Rattle.session_alike.proofs.Vocabulary.{client_at, fresh, Draw, Entry, EventValue, Renaming, act_as, event_as}
+use Rattle.session_alike.proofs.Vocabulary.{verdict_as, ClientsAlike, TablesAlike, WindowsAlike, HistoriesAlike}
+use Rattle.session_alike.proofs.Vocabulary.{History, AllEffectsAlike, AllHaveSerials, AllStepsAlike, DrawsAlike}
+use Rattle.session_alike.proofs.Vocabulary.{EffectsAlike, HasSerials, IsSameEvent, RepliesAlike, StepsAlike}
 use Rattle.session_alike.proofs.Changing.{clients_as, put_client_alike, tables_as}
 use Rattle.session_alike.proofs.Events.{outcome_alike}
 use Rattle.session_alike.proofs.Finding.{client_alike}
@@ -47,18 +47,9 @@ module _ (n : Renaming) where
   drawn_alike _ t u a fs gs = a
 
   draws_alike : (t u : Tables) → TablesAlike n t u → (client : ℕ) → DrawsAlike n t u client
-  draws_alike t u a client c d at there =
-      on (client_at t client) (client_at u (n.client client)) (client_alike n t u a client) at there where
-        on : (o p : Option Client) → BothOrNone (ClientsAlike n) o p → o ≡ Some c → p ≡ Some d
-            → (c.message ≡ Rattle.session_model.specs.declared.message.StatusMessage.TheVariants.AllClients) ⊎
-            (granted_view u d ≡ granted_view t c)
-        on None None r is was = absurd (cc (is))
-        on (Some x) (Some y) r is was =
-            let e : x ≡ c = cc (is) in
-            let f : y ≡ d = cc (was) in
-            view_alike n t u a c d
-            (subst (λ (z : Client). ClientsAlike n z d) e (subst (λ (z : Client). ClientsAlike n x z) f r))
-        on o p r is was = absurd r
+  draws_alike t u a client c d at there = view_alike n t u a c d
+      (subst (BothOrNone (ClientsAlike n) (Some c)) there
+      (subst (λ o. BothOrNone (ClientsAlike n) o (client_at u (n.client client))) at (client_alike n t u a client)))
 
   effects_alike : (t u : Tables) → TablesAlike n t u → (event : EventValue) (fs gs : List Effect)
       → HasEffects t event fs → HasEffects u (event_as n event) gs

@@ -5,7 +5,7 @@ use Rattle.session_alike.proofs.Vocabulary.{Client, Tables, Window, focused, win
 use Rattle.session_alike.proofs.Vocabulary.{denied_text, focus_text, in_order, letter, missing_text, separated, text_of}
 use Rattle.session_alike.proofs.Vocabulary.{window_item, windows_text, Renaming, denied_as, refusal_as, ClientsAlike}
 use Rattle.session_alike.proofs.Vocabulary.{ListsAlike, TablesAlike, WindowsAlike, item_as, line_of, cases_both}
-use Rattle.session_alike.proofs.Vocabulary.{made_both, read_both}
+use Rattle.session_alike.proofs.Vocabulary.{made_both, mapped_match}
 use Rattle.acl.specs.declared.act.Object.TheVariants as object
 use Rattle.session_model.specs.declared.refusal.Denied.TheVariants as denied
 use Rattle.session_model.specs.declared.refusal.Refusal.TheVariants as refusal
@@ -55,8 +55,8 @@ module _ (n : Renaming) where
         → windows_text u user (option_map n.window focus) ≡ windows_text t user focus
     windows_text_alike user focus =
         ap (separated (codes "  "))
-        (read_both (WindowsAlike n) (window_item t user focus) (window_item u user (option_map n.window focus))
-        (in_order t.windows) (in_order u.windows) (line_alike user focus)
+        (mapped_match (WindowsAlike n) (window_item t user focus) (window_item u user (option_map n.window focus))
+        (line_alike user focus) (in_order t.windows) (in_order u.windows)
         (order_both n t.windows u.windows a.windows))
 
     -- ---- clients

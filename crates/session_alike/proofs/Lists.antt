@@ -6,7 +6,7 @@ use Rattle.session_alike.proofs.Vocabulary.{mask_fault, among, leaders_with, nam
 use Rattle.session_alike.proofs.Vocabulary.{Windows, changing_bits, known_fault, leaders_named, Answer, Deed, both}
 use Rattle.session_alike.proofs.Vocabulary.{changes, closes, is_of, parts, removes, add_acts_in, group_fault_in}
 use Rattle.session_alike.proofs.Vocabulary.{leaders_in, Tables, known_users, group_text, Renaming, act_as, object_as}
-use Rattle.session_alike.proofs.Vocabulary.{TablesAlike, EffectsAlike, append_both, map_append, cases_both}
+use Rattle.session_alike.proofs.Vocabulary.{TablesAlike, EffectsAlike, append_match, map_append, cases_both}
 use Rattle.acl.specs.declared.act.Act.TheVariants as act
 use Rattle.session_model.specs.declared.event.Reason.TheVariants as reason
 use Rattle.session_model.specs.windows_fault.WindowsFault.TheVariants as fault
@@ -111,4 +111,4 @@ module _ (n : Renaming) (t u : Tables) (a : TablesAlike n t u) where
       parts_alike n (closes (λ w. true) reason.Quit t).tables (closes (λ w. true) reason.Quit u).tables d.tables
       (λ c. true) (λ c. true) reason.Quit (λ c d r. refl) in deed_as
       (map_append (act_as n) (closes (λ w. true) reason.Quit t).acts _ _ _ d.acts e.acts) e.tables
-      (append_both (EffectsAlike n) (closes (λ w. true) reason.Quit t).effects _ _ _ d.effects e.effects)
+      (append_match (EffectsAlike n) (closes (λ w. true) reason.Quit t).effects _ _ _ d.effects e.effects)

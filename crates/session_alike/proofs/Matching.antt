@@ -1,19 +1,16 @@
 -- Tables whose rows belong together in pairs, and what is found in them.
 use Rattle.std.proofs.Common.{◌≡◌, ℕ, Bool, true, false, List, [], ◌∷◌, ◌++◌, Option, Some, None, refl, ap, sym, ◌∙◌}
-use Rattle.std.proofs.Common.{subst, map, filter, length, suc}
+use Rattle.std.proofs.Common.{subst, map}
 use Rattle.std.specs.Prelude.{if◌then◌else◌, ◌==◌, ◌||◌, find}
 use Rattle.std.specs.List.{list_any}
+use Rattle.std.proofs.lemmas.List.{map-append}
 use Rattle.std.specs.Option.{option_and_then, option_map, option_map_or, option_or}
 use Rattle.windows_model.specs.Finding.{row_of, with_row}
 use Rattle.windows_model.specs.Matched.{BothOrNone, Matched}
 
-map_joined : {A B : Type 0} (f : A → B) (xs ys : List A) → map f xs ++ map f ys ≡ map f (xs ++ ys)
-map_joined f [] ys = refl
-map_joined f (x ∷ xs) ys = ap (λ zs. f x ∷ zs) (map_joined f xs ys)
-
 pub map_append : {A B : Type 0} (f : A → B) (xs ys : List A) (xs' ys' : List B) → xs' ≡ map f xs → ys' ≡ map f ys
     → xs' ++ ys' ≡ map f (xs ++ ys)
-map_append f xs ys xs' ys' p q = ap (λ zs. zs ++ ys') p ∙ ap (λ zs. map f xs ++ zs) q ∙ map_joined f xs ys
+map_append f xs ys xs' ys' p q = ap (λ zs. zs ++ ys') p ∙ ap (λ zs. map f xs ++ zs) q ∙ sym (map-append f xs ys)
 
 pub find_same : {A : Type 0} (p q : A → Bool) (xs : List A) → ((x : A) → q x ≡ p x) → find q xs ≡ find p xs
 find_same p q [] same = refl
@@ -37,22 +34,11 @@ module _ {A B : Type 0} (R : A → B → Type 0) where
   abbrev One : Option A → Option B → Type 0
   One o p = BothOrNone R o p
 
-  pub append_both : (xs zs : List A) (ys ws : List B) → Both xs ys → Both zs ws → Both (xs ++ zs) (ys ++ ws)
-  append_both [] zs [] ws m k = k
-  append_both (x ∷ xs) zs (y ∷ ys) ws m k = (m.0, append_both xs zs ys ws m.1 k)
-  append_both xs zs ys ws m k = absurd m
-
   pub map_both : {C D : Type 0} (S : C → D → Type 0) (f : A → C) (g : B → D) (xs : List A) (ys : List B)
       → ((x : A) (y : B) → R x y → S (f x) (g y)) → Both xs ys → Matched S (map f xs) (map g ys)
   map_both S f g [] [] same m = tt
   map_both S f g (x ∷ xs) (y ∷ ys) same m = (same x y m.0, map_both S f g xs ys same m.1)
   map_both S f g xs ys same m = absurd m
-
-  pub weaken_both : (S : A → B → Type 0) (xs : List A) (ys : List B) → ((x : A) (y : B) → R x y → S x y) → Both xs ys
-      → Matched S xs ys
-  weaken_both S [] [] on m = tt
-  weaken_both S (x ∷ xs) (y ∷ ys) on m = (on x y m.0, weaken_both S xs ys on m.1)
-  weaken_both S xs ys on m = absurd m
 
   -- what is made of each row
   pub made_both : {C D : Type 0} (h : C → D) (f : A → C) (g : B → D) (xs : List A) (ys : List B)
@@ -62,18 +48,6 @@ module _ {A B : Type 0} (R : A → B → Type 0) where
       ∙ ap (λ zs. h (f x) ∷ zs) (made_both h f g xs ys same m.1)
   made_both h f g xs ys same m = absurd m
 
-  pub read_both : {C : Type 0} (f : A → C) (g : B → C) (xs : List A) (ys : List B)
-      → ((x : A) (y : B) → R x y → g y ≡ f x) → Both xs ys → map g ys ≡ map f xs
-  read_both f g [] [] same m = refl
-  read_both f g (x ∷ xs) (y ∷ ys) same m = ap (λ z. z ∷ map g ys) (same x y m.0)
-      ∙ ap (λ zs. f x ∷ zs) (read_both f g xs ys same m.1)
-  read_both f g xs ys same m = absurd m
-
-  pub length_both : (xs : List A) (ys : List B) → Both xs ys → length ys ≡ length xs
-  length_both [] [] m = refl
-  length_both (x ∷ xs) (y ∷ ys) m = ap suc (length_both xs ys m.1)
-  length_both xs ys m = absurd m
-
   -- a test that says the same of both
   module _ (p : A → Bool) (q : B → Bool) (same : (x : A) (y : B) → R x y → q y ≡ p x) where
     pub any_both : (xs : List A) (ys : List B) → Both xs ys → list_any q ys ≡ list_any p xs
@@ -81,17 +55,6 @@ module _ {A B : Type 0} (R : A → B → Type 0) where
     any_both (x ∷ xs) (y ∷ ys) m = ap (λ b. b || list_any q ys) (same x y m.0)
         ∙ ap (λ b. p x || b) (any_both xs ys m.1)
     any_both xs ys m = absurd m
-
-    pub filter_both : (xs : List A) (ys : List B) → Both xs ys → Both (filter p xs) (filter q ys)
-    filter_both [] [] m = tt
-    filter_both (x ∷ xs) (y ∷ ys) m =
-        pick (Matched R) (p x) (q y) (same x y m.0) (m.0, filter_both xs ys m.1) (filter_both xs ys m.1)
-    filter_both xs ys m = absurd m
-
-    pub find_both : (xs : List A) (ys : List B) → Both xs ys → One (find p xs) (find q ys)
-    find_both [] [] m = tt
-    find_both (x ∷ xs) (y ∷ ys) m = pick (BothOrNone R) (p x) (q y) (same x y m.0) m.0 (find_both xs ys m.1)
-    find_both xs ys m = absurd m
 
   -- rows by their serials
   module _ (k : A → ℕ) (l : B → ℕ) (s r : ℕ) (same : (x : A) (y : B) → R x y → (l y == r) ≡ (k x == s)) where

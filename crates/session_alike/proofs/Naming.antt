@@ -7,7 +7,7 @@ use Rattle.session_alike.proofs.Vocabulary.{mask_entries, entries_of, every_comm
 use Rattle.session_alike.proofs.Vocabulary.{has_number, higher, highest, is_wide, item_objects, lower, lowest, names_of}
 use Rattle.session_alike.proofs.Vocabulary.{objects_of, scopes_of, spelled, wide_objects, window_after, window_before}
 use Rattle.session_alike.proofs.Vocabulary.{window_named, with_number, Tables, Window, by_number, in_order, Renaming}
-use Rattle.session_alike.proofs.Vocabulary.{object_as, TablesAlike, WindowsAlike, any_both, filter_both, find_both}
+use Rattle.session_alike.proofs.Vocabulary.{object_as, TablesAlike, WindowsAlike, any_both, filter_match, find_match}
 use Rattle.session_alike.proofs.Vocabulary.{find_same, made_both, map_append, or_both, pick, read_one, read_or}
 use Rattle.acl.specs.declared.act.Object.TheVariants as object
 use Rattle.acl.specs.declared.entries.MaskScope.TheVariants as scope
@@ -42,7 +42,7 @@ module _ (n : Renaming) where
   below w v r x y s = cc (r.number, s.number)
 
   numbered_both : (ws vs : List Window) → All ws vs → (m : ℕ) → One (with_number ws m) (with_number vs m)
-  numbered_both ws vs m k = find_both (WindowsAlike n) (has_number k) (has_number k) (number_test k) ws vs m
+  numbered_both ws vs m k = find_match (WindowsAlike n) (has_number k) (has_number k) (number_test k) ws vs m
 
   pub given_number_both : (ws vs : List Window) → All ws vs → (o : Option ℕ)
       → One (option_and_then (with_number ws) o) (option_and_then (with_number vs) o)
@@ -82,7 +82,7 @@ module _ (n : Renaming) where
   titled_both : (word : List ℕ) (ws vs : List Window) → All ws vs
       → All (filter (λ (w : Window). bytes_eq w.title word) ws) (filter (λ (w : Window). bytes_eq w.title word) vs)
   titled_both word ws vs m =
-      filter_both (WindowsAlike n) (λ (w : Window). bytes_eq w.title word) (λ (w : Window). bytes_eq w.title word)
+      filter_match (WindowsAlike n) (λ (w : Window). bytes_eq w.title word) (λ (w : Window). bytes_eq w.title word)
       (λ w v r. ap (λ title. bytes_eq title word) r.title) ws vs m
 
   pub named_both : (ws vs : List Window) → All ws vs → (word : List ℕ)
@@ -101,7 +101,7 @@ module _ (n : Renaming) where
       or_both (WindowsAlike n) (lowest (filter (λ (x : Window). nat_lt w.number x.number) ws)) (lowest ws)
       (lowest (filter (λ (x : Window). nat_lt v.number x.number) vs)) (lowest vs)
       (lowest_both _ _
-      (filter_both (WindowsAlike n) (λ (x : Window). nat_lt w.number x.number)
+      (filter_match (WindowsAlike n) (λ (x : Window). nat_lt w.number x.number)
       (λ (x : Window). nat_lt v.number x.number) (λ x y s. below w v r x y s) ws vs m))
       (lowest_both ws vs m)
   after_both ws vs m o p r = absurd r
@@ -113,7 +113,7 @@ module _ (n : Renaming) where
       or_both (WindowsAlike n) (highest (filter (λ (x : Window). nat_lt x.number w.number) ws)) (highest ws)
       (highest (filter (λ (x : Window). nat_lt x.number v.number) vs)) (highest vs)
       (highest_both _ _
-      (filter_both (WindowsAlike n) (λ (x : Window). nat_lt x.number w.number)
+      (filter_match (WindowsAlike n) (λ (x : Window). nat_lt x.number w.number)
       (λ (x : Window). nat_lt x.number v.number) (λ x y s. below x y s w v r) ws vs m))
       (highest_both ws vs m)
   before_both ws vs m o p r = absurd r

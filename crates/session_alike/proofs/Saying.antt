@@ -3,7 +3,7 @@ use Rattle.session_alike.proofs.Vocabulary.{◌≡◌, ℕ, ◌+◌, ◌/◌, �
 use Rattle.session_alike.proofs.Vocabulary.{◌∷◌, ◌++◌, refl, ap, ◌∙◌, inl, inr, map, arith, if◌then◌else◌, ◌==◌, codes}
 use Rattle.session_alike.proofs.Vocabulary.{decimal, nat_lt, list_any, bytes_eq, nat_tests, Matched, Effect, Say}
 use Rattle.session_alike.proofs.Vocabulary.{Refusal, says_same, unsaid, behind, text_of, Renaming, effect_as}
-use Rattle.session_alike.proofs.Vocabulary.{TextsAlike, item_as, line_of, listed, EffectsAlike, any_both, filter_both}
+use Rattle.session_alike.proofs.Vocabulary.{TextsAlike, item_as, line_of, listed, EffectsAlike, any_both, filter_match}
 use Rattle.session_model.specs.declared.refusal.Refusal.TheVariants as refusal
 use Rattle.session_alike.proofs.Histories.{client_test}
 use Rattle.std.specs.Fmt.{digit_glyph, digits_onto}
@@ -95,5 +95,5 @@ module _ (n : Renaming) where
   pub unsaid_both : (said other : List Effect) → Matched (TypedAlike n) said other → (es fs : List Effect)
       → Matched (EffectsAlike n) es fs → Matched (EffectsAlike n) (unsaid said es) (unsaid other fs)
   unsaid_both said other m es fs k =
-      filter_both (EffectsAlike n) (λ e. not (list_any (says_same e) said)) (λ e. not (list_any (says_same e) other))
+      filter_match (EffectsAlike n) (λ e. not (list_any (says_same e) said)) (λ e. not (list_any (says_same e) other))
       (λ e f r. ap not (any_both (TypedAlike n) (says_same e) (says_same f) (said_same e f r) said other m)) es fs k

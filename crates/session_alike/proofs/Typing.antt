@@ -10,8 +10,8 @@ use Rattle.session_alike.proofs.Vocabulary.{command_item, items_behind, taken, t
 use Rattle.session_alike.proofs.Vocabulary.{read_line, Outcome, finished, reply_of, Client, Tables, Window, client_at}
 use Rattle.session_alike.proofs.Vocabulary.{focused_window, with_client, text_of, EventValue, Renaming, refusal_as}
 use Rattle.session_alike.proofs.Vocabulary.{verdict_as, ClientsAlike, TablesAlike, TextsAlike, WindowsAlike}
-use Rattle.session_alike.proofs.Vocabulary.{EffectsAlike, made_as, append_both, cases_as, cases_both, map_append}
-use Rattle.session_alike.proofs.Vocabulary.{weaken_both}
+use Rattle.session_alike.proofs.Vocabulary.{EffectsAlike, made_as, append_match, cases_as, cases_both, map_append}
+use Rattle.session_alike.proofs.Vocabulary.{weaker_match}
 use Rattle.command_lang.specs.declared.command.Command.TheVariants as command
 use Rattle.session_model.specs.declared.message.StatusMessage.TheVariants as message
 use Rattle.session_alike.proofs.Changing.{AnswersAlike, DeedsAlike, clients_as, declined, deed_as, done, heard_alike}
@@ -132,7 +132,7 @@ module _ (n : Renaming) where
           cases_as TypingAlike (refusal_as n) _ (first_fault t (typing_checks c.user (focused_window t c))) _
           typing_fault
           (record {
-            deed = deed_as refl a (weaken_both (TypedAlike n) (EffectsAlike n) _ _ (typed_alike n) inputs);
+            deed = deed_as refl a (weaker_match (TypedAlike n) (EffectsAlike n) (typed_alike n) _ _ inputs);
             said = inputs;
           }) refused_typing
 
@@ -155,7 +155,7 @@ module _ (n : Renaming) where
       (says_alike d.tables e.tables alike.tables client (m x) x y (texts x y ls)) in record {
         acts = alike.acts;
         tables = s.tables;
-        effects = append_both (EffectsAlike n) d.effects _ e.effects _ alike.effects s.effects;
+        effects = append_match (EffectsAlike n) d.effects _ e.effects _ alike.effects s.effects;
         kept = s.kept ∙ alike.kept;
         kept_too = s.kept_too ∙ alike.kept_too;
       }
@@ -246,7 +246,7 @@ module _ (n : Renaming) where
         (record { taken = refl; made = sym made; number = refl; text = tt }) (record {
           acts = order.deed.acts;
           tables = order.deed.tables;
-          effects = append_both (EffectsAlike n) x.effects _ y.effects _ typing.deed.effects
+          effects = append_match (EffectsAlike n) x.effects _ y.effects _ typing.deed.effects
               (unsaid_both n x.effects y.effects typing.said o.deed.effects p.deed.effects order.deed.effects);
           kept = order.deed.kept ∙ typing.deed.kept;
           kept_too = order.deed.kept_too ∙ typing.deed.kept_too;

@@ -25,10 +25,8 @@ pub use Rattle.regions.specs.Layouts.{Arrangement, emptied, empty, kept_alone, n
 pub use Rattle.regions.specs.Layouts.{split_fault, split_focused}
 pub use Rattle.regions.specs.declared.shown.Shown.{Shown}
 pub use Rattle.regions.specs.declared.way.Way.{Way}
-pub use Rattle.session_alike.proofs.Matching.{any_both, append_both, cases_as, cases_both, filter_both, find_both}
-pub use Rattle.session_alike.proofs.Matching.{find_same, if_as, length_both, made_both, map_append, map_both, or_both}
-pub use Rattle.session_alike.proofs.Matching.{pick, put_both, read_both, read_one, read_or, row_both, then_both}
-pub use Rattle.session_alike.proofs.Matching.{weaken_both}
+pub use Rattle.session_alike.proofs.Matching.{any_both, cases_as, cases_both, find_same, if_as, made_both, map_append}
+pub use Rattle.session_alike.proofs.Matching.{map_both, or_both, pick, put_both, read_one, read_or, row_both, then_both}
 pub use Rattle.session_alike.specs.Alike.{ClientsAlike, ListsAlike, TablesAlike, TerminalsAlike, TextsAlike}
 pub use Rattle.session_alike.specs.Alike.{WindowsAlike, item_as, line_of, listed}
 pub use Rattle.session_alike.specs.Histories.{HistoriesAlike, client_as}
@@ -84,6 +82,7 @@ pub use Rattle.std.proofs.Common.{Bool, Err, List, None, Ok, Option, Result, Som
 pub use Rattle.std.proofs.Common.{false, filter, inl, inr, length, map, not, refl, subst, suc, sym, take, true, zero, ℕ}
 pub use Rattle.std.proofs.Common.{◌%◌, ◌++◌, ◌+◌, ◌-◌, ◌/◌, ◌<◌, ◌∙◌, ◌∷◌, ◌≡◌}
 pub use Rattle.std.proofs.lemmas.Bool.Decides.{nat_tests}
+pub use Rattle.std.proofs.lemmas.Option.{slice_get-map}
 pub use Rattle.std.specs.List.{flat_map, insert, list_any, range_with_len, remove}
 pub use Rattle.std.specs.Option.{is_some, option_and_then, option_map, option_map_or, option_or}
 pub use Rattle.std.specs.Prelude.{codes, decimal, if◌then◌else◌, nat_eq, nat_le, nat_lt, slice_get, slice_set}
@@ -92,4 +91,6 @@ pub use Rattle.std.specs.Str.{bytes_eq}
 pub use Rattle.terminal_model.specs.Reading.{Terminal, reads, ready}
 pub use Rattle.terminal_model.specs.Writing.{Writing, writes as writes_one}
 unfoldable pub use Rattle.terminal_model.specs.Writing.{writes_all}
+pub use Rattle.windows_model.proofs.Matching.{append_match, filter_match, find_match, length_match, mapped_match}
+pub use Rattle.windows_model.proofs.Matching.{weaker_match}
 pub use Rattle.windows_model.specs.Matched.{BothOrNone, Matched}
