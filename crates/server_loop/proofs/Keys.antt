@@ -3,7 +3,7 @@ use Rattle.std.proofs.Common.{◌≡◌, ◌||◌, ℕ, Bool, true, false, not, 
 use Rattle.std.proofs.Common.{if◌then◌else◌}
 use Rattle.std.proofs.lemmas.Bool.{false≢true}
 use Rattle.std.specs.Prelude.{MatchOption}
-use Rattle.acl.specs.declared.user_id.UserId.{UserId}
+use Rattle.server_seat.specs.declared.seat.SessionSeat.{Ghosts as Calls}
 use Rattle.server_steps.specs.Typing.{freed_keys, held_keys, target_at}
 use Rattle.server_steps.specs.declared.typing.Target.{Target}
 use Rattle.server_loop.specs.Leaving.{IfBool}
@@ -26,33 +26,33 @@ pub not_true : (b : Bool) → not b ≡ true → b ≡ false
 not_true false is = refl
 not_true true is = absurd (false≢true is)
 
-module _ {S J : Type 0} (finds_full : J → ℕ → Bool → Type 0) (lets_type : J → UserId → ℕ → Bool → Type 0)
+module _ {S J : Type 0} (calls : Calls J)
     (key : ℕ) (target : Target) (is_full : Bool) (old : State S J)
   where
     pub waiting : (waits : Bool) (new : State S J) → target_at (peer_at key old) ≡ Some target
-        → Stops finds_full target old.seat is_full → WaitsFor finds_full lets_type key target is_full old waits new
-        → MustWait finds_full lets_type key old waits new
+        → Stops calls target old.seat is_full → WaitsFor calls key target is_full old waits new
+        → MustWait calls key old waits new
     waiting waits new some stops waits_for = match_some (target_at (peer_at key old)) target
         ((waits ≡ false) × (new ≡ old))
-        (λ t. (full : Bool) × Stops finds_full t old.seat full
-        × WaitsFor finds_full lets_type key t full old waits new) some (is_full, stops, waits_for)
+        (λ t. (full : Bool) × Stops calls t old.seat full
+        × WaitsFor calls key t full old waits new) some (is_full, stops, waits_for)
 
     abbrev Asked : Bool → State S J → Type 0
-    Asked waits new = (may : Bool) × lets_type old.seat target.user.user target.window may
+    Asked waits new = (may : Bool) × calls.lets_type old.seat target.user.user target.window may
         × IfBool may ((waits ≡ is_full) × (new ≡ (if is_full then with_peer held_keys key old else old)))
         ((waits ≡ false) × (new ≡ with_peer freed_keys key old))
 
-    pub unasked : (is_full || target.is_held) ≡ false → WaitsFor finds_full lets_type key target is_full old false old
+    pub unasked : (is_full || target.is_held) ≡ false → WaitsFor calls key target is_full old false old
     unasked isnt = if_false (is_full || target.is_held) (Asked false old) ((false ≡ false) × (old ≡ old)) isnt
         (refl, refl)
 
-    pub forbidden : (is_full || target.is_held) ≡ true → lets_type old.seat target.user.user target.window false
-        → WaitsFor finds_full lets_type key target is_full old false (with_peer freed_keys key old)
+    pub forbidden : (is_full || target.is_held) ≡ true → calls.lets_type old.seat target.user.user target.window false
+        → WaitsFor calls key target is_full old false (with_peer freed_keys key old)
     forbidden is lets = if_true (is_full || target.is_held) (Asked false (with_peer freed_keys key old))
         ((false ≡ false) × (with_peer freed_keys key old ≡ old)) is (false, lets, (refl, refl))
 
-    pub held_on : (is_full || target.is_held) ≡ true → lets_type old.seat target.user.user target.window true
-        → is_full ≡ true → WaitsFor finds_full lets_type key target is_full old is_full (with_peer held_keys key old)
+    pub held_on : (is_full || target.is_held) ≡ true → calls.lets_type old.seat target.user.user target.window true
+        → is_full ≡ true → WaitsFor calls key target is_full old is_full (with_peer held_keys key old)
     held_on is lets full = if_true (is_full || target.is_held) (Asked is_full (with_peer held_keys key old))
         ((is_full ≡ false) × (with_peer held_keys key old ≡ old)) is (
           true,
@@ -65,8 +65,8 @@ module _ {S J : Type 0} (finds_full : J → ℕ → Bool → Type 0) (lets_type 
           ),
         )
 
-    pub goes_on : (is_full || target.is_held) ≡ true → lets_type old.seat target.user.user target.window true
-        → is_full ≡ false → WaitsFor finds_full lets_type key target is_full old is_full old
+    pub goes_on : (is_full || target.is_held) ≡ true → calls.lets_type old.seat target.user.user target.window true
+        → is_full ≡ false → WaitsFor calls key target is_full old is_full old
     goes_on is lets not_full = if_true (is_full || target.is_held) (Asked is_full old)
         ((is_full ≡ false) × (old ≡ old)) is (
           true,

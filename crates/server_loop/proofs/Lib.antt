@@ -1,4 +1,5 @@
 mod Begun
+mod Counting
 mod Drawn
 mod Dropping
 mod Keys

@@ -1,6 +1,6 @@
 -- What becomes of a connection by its first message.
 use Rattle.std.specs.Prelude.{◌≡◌, ◌⊎◌, ℕ, Bool, List, Option, Some, None, Result, Ok, Err, Contains}
-use Rattle.std.specs.Prelude.{◌↔◌, IsTrue, codes, if◌then◌else◌, unwrap_or}
+use Rattle.std.specs.Prelude.{◌↔◌, ◌++◌, IsTrue, codes, decimal, if◌then◌else◌, unwrap_or}
 use Rattle.acl.specs.Names.{name_of}
 use Rattle.acl.specs.declared.user_id.UserId.{UserId}
 use Rattle.attach_proto.specs.declared.message.Message.{Message}
@@ -16,40 +16,38 @@ use Rattle.server_seat.specs.declared.seat.GuestKind.{GuestKind}
 use Rattle.server_seat.specs.declared.seat.ServerEnd.TheVariants as cause
 use Rattle.server_seat.specs.declared.seat.SeatAnswer.{SeatAnswer}
 use Rattle.server_seat.specs.declared.seat.SeatFault.{SeatFault}
+use Rattle.server_seat.specs.declared.seat.SessionSeat.{Ghosts as Calls}
 use Rattle.server_sending.specs.Frames.{PutsMessage}
-use Rattle.server_steps.specs.Meaning.{event_of, guest_of, is_extra_at, joined, kind_of, may_judge, role_of, shown_in}
+use Rattle.server_steps.specs.Meaning.{event_of, guest_of, is_extra_at, joined, kind_of, many_of, may_judge, role_of}
+use Rattle.server_steps.specs.Meaning.{shown_in}
 use Rattle.server_steps.specs.Submitted.{IsQuit}
 use Rattle.server_steps.specs.declared.progress.Progress.{Progress}
 use Rattle.server_steps.specs.declared.progress.Progress.TheVariants as progress
 use Rattle.server_users.specs.Entries.{Entry}
 use Rattle.server_users.specs.declared.user.Shown.{Shown}
-use Rattle.server_loop.specs.Handing.{Faults, SendsTo, Sent}
+use Rattle.server_loop.specs.Handing.{Faults, SendsTo}
 use Rattle.server_loop.specs.Leaving.{IfBool}
-use Rattle.server_loop.specs.Submitting.{Answer, State, Submits, peer_at, with_peer}
-use Rattle.server_loop.specs.declared.own.Loop.{Loop}
-
--- what a loop knows of the users' file: who may connect, and the number of the look that found them, if somebody looks
-pub record Known : Type 0 where
-  pub users : List Entry
-  pub looked : Option ℕ
-
-abbrev pub known_of : {S G J : Type 0} → (J → List Entry) → Loop S G J → Known
-known_of known own = record { users = unwrap_or own.users (known own.seat); looked = own.looked }
+use Rattle.server_loop.specs.Submitting.{State, peer_at, with_peer}
+use Rattle.server_loop.specs.Trying.{HasToWait, IsTried}
 
 -- this user is the one whose name and token these are
 pub record IsShown (users : List Entry) (entry : Entry) (shown : Shown) : Type 0 where
   pub named : name_of shown.user ≡ entry.name
   pub listed : Contains users entry
 
+-- what a user is told who has as many clients or windows as a user may have
+abbrev pub too_many : GuestKind → UserId → ℕ → List ℕ
+too_many kind user most = many_of kind ++ (name_of user ++ (codes ": at most " ++ decimal most))
+
 module _ {S J : Type 0} where
   -- it was told to go, if it wasn't before
   abbrev pub Dismisses : Why → ℕ → State S J → State S J → Type 0
   Dismisses cause key old new = new ≡ with_peer (told_to_go cause) key old
 
-module _ {S J : Type 0} (submits : J → EventValue → Answer → J → Type 0) where
+module _ {S J : Type 0} (calls : Calls J) where
   -- it was sent a message
   abbrev pub Tells : Message → ℕ → State S J → State S J → Type 0
-  Tells m key old new = SendsTo submits key (PutsMessage m) (λ was now. now ≡ was) old new
+  Tells m key old new = SendsTo calls key (PutsMessage m) (λ was now. now ≡ was) old new
 
   -- it was told a text, and to go
   abbrev pub TurnsAway : List ℕ → ℕ → State S J → State S J → Type 0
@@ -85,80 +83,76 @@ module _ {S J : Type 0} (submits : J → EventValue → Answer → J → Type 0)
   Answers quits reply key old new =
       (mid : State S J) × Tells (message.Welcome 0) key old mid × Ends quits reply key mid new
 
-  -- An event was tried: one step was made and answered; or its user has to wait, and nothing was submitted; or its step
-  -- has no answer, and its connection was told why it goes.
-  abbrev pub Attempts : EventValue → ℕ → State S J → Result SeatAnswer Progress → State S J → Type 0
-  Attempts event key old (Ok answer) new =
-      Submits submits event (record old { rations = new.rations }) (Ok answer) new
-  Attempts event key old (Err progress.Held) new = new ≡ record old { rations = new.rations }
-  Attempts event key old (Err progress.Done) new = (fault : SeatFault) × (mid : State S J)
-      × Submits submits event (record old { rations = mid.rations }) (Err fault) mid
-      × Dismisses (why_of_fault fault) key mid new
-  Attempts event key old (Err progress.Part) new = ⊥
+  -- An event was tried for a user: one step was made and answered; or the user has to wait, and nothing was submitted;
+  -- or its step has no answer, and its connection was told why it goes.
+  abbrev pub Attempts : UserId → EventValue → ℕ → State S J → Result SeatAnswer Progress → State S J → Type 0
+  Attempts user event key old (Ok answer) new = IsTried calls user event old (Ok answer) new
+  Attempts user event key old (Err progress.Held) new = HasToWait calls user event old new
+  Attempts user event key old (Err progress.Done) new = (fault : SeatFault) × (mid : State S J)
+      × IsTried calls user event old (Err fault) mid × Dismisses (why_of_fault fault) key mid new
+  Attempts user event key old (Err progress.Part) new = ⊥
 
   -- Without memory to look whether a command is `quit`, it was told to go. Else its event was tried, and it was told the
   -- answer.
-  abbrev pub Commands : EventValue → ℕ → State S J → Progress → State S J → Type 0
-  Commands event key old far new = ((far ≡ progress.Done) × Dismisses why.Fault key old new)
-      ⊎ (Attempts event key old (Err far) new
+  abbrev pub Commands : UserId → EventValue → ℕ → State S J → Progress → State S J → Type 0
+  Commands user event key old far new = ((far ≡ progress.Done) × Dismisses why.Fault key old new)
+      ⊎ (Attempts user event key old (Err far) new
       ⊎ ((far ≡ progress.Done) × (quits : Bool) × (IsTrue quits ↔ IsQuit event) × (answer : SeatAnswer)
-      × (mid : State S J) × Attempts event key old (Ok answer) mid × Answers quits answer.reply key mid new))
+      × (mid : State S J) × Attempts user event key old (Ok answer) mid × Answers quits answer.reply key mid new))
 
-module _ {S J : Type 0} (submits : J → EventValue → Answer → J → Type 0)
-    (counts : J → UserId → GuestKind → Option ℕ → Type 0) (uncounts : J → UserId → GuestKind → Type 0)
-  where
-    -- what came of it by the answer to its event: it was let in; or it was told why not, and isn't counted any more
-    abbrev pub Enters : Shown → GuestKind → Reply → ℕ → State S J → State S J → Type 0
-    Enters shown kind (Ok done) key old new = LetsIn submits shown kind done key old new
-    Enters shown kind (Err refusal) key old new =
-        SendsAway submits (text_of refusal) key old new × uncounts new.seat shown.user kind
+  -- what came of it by the answer to its event: it was let in; or it was told why not, and isn't counted any more
+  abbrev pub Enters : Shown → GuestKind → Reply → ℕ → State S J → State S J → Type 0
+  Enters shown kind (Ok done) key old new = LetsIn shown kind done key old new
+  Enters shown kind (Err refusal) key old new =
+      SendsAway (text_of refusal) key old new × calls.uncounts new.seat shown.user kind
 
-    -- its user has as many as a user may have, and it was told so
-    abbrev pub HasMost : Shown → GuestKind → ℕ → State S J → Progress → State S J → Type 0
-    HasMost shown kind key old far new = (most : ℕ) × counts old.seat shown.user kind (Some most)
-        × (far ≡ progress.Done) × (text : List ℕ) × SendsAway submits text key old new
+  -- its user has as many as a user may have, and it was told so
+  abbrev pub HasMost : Shown → GuestKind → ℕ → State S J → Progress → State S J → Type 0
+  HasMost shown kind key old far new = (most : ℕ) × calls.counts old.seat shown.user kind (Some most)
+      × (far ≡ progress.Done) × SendsAway (too_many kind shown.user most) key old new
 
-    -- it was counted, and its event was tried; if there was no answer, it isn't counted any more
-    abbrev pub IsCounted : Shown → GuestKind → EventValue → ℕ → State S J → Progress → State S J → Type 0
-    IsCounted shown kind event key old far new = counts old.seat shown.user kind None
-        × ((Attempts submits event key old (Err far) new × uncounts new.seat shown.user kind)
-        ⊎ ((far ≡ progress.Done) × (answer : SeatAnswer) × (mid : State S J)
-        × Attempts submits event key old (Ok answer) mid × Enters shown kind answer.reply key mid new))
+  -- it was counted, and its event was tried; if there was no answer, it isn't counted any more
+  abbrev pub IsCounted : Shown → GuestKind → EventValue → ℕ → State S J → Progress → State S J → Type 0
+  IsCounted shown kind event key old far new = calls.counts old.seat shown.user kind None
+      × ((Attempts shown.user event key old (Err far) new × calls.uncounts new.seat shown.user kind)
+      ⊎ ((far ≡ progress.Done) × (answer : SeatAnswer) × (mid : State S J)
+      × Attempts shown.user event key old (Ok answer) mid × Enters shown kind answer.reply key mid new))
 
-    -- no more are to stay, and it was told so; or it is as above
-    abbrev pub Joins : Shown → GuestKind → EventValue → ℕ → State S J → Progress → State S J → Type 0
-    Joins shown kind event key old far new = IfBool (is_extra_at (peer_at key old))
-        ((far ≡ progress.Done) × TurnsAway submits (codes "the server has no room for more connections") key old new)
-        (HasMost shown kind key old far new ⊎ IsCounted shown kind event key old far new)
+  -- no more are to stay, and it was told so; or it is as above
+  abbrev pub Joins : Shown → GuestKind → EventValue → ℕ → State S J → Progress → State S J → Type 0
+  Joins shown kind event key old far new = IfBool (is_extra_at (peer_at key old))
+      ((far ≡ progress.Done) × TurnsAway (codes "the server has no room for more connections") key old new)
+      (HasMost shown kind key old far new ⊎ IsCounted shown kind event key old far new)
 
-    -- what it asks for was tried, for the user who showed their token
-    abbrev pub BeginsBy : Shown → Option GuestKind → Option EventValue → ℕ
-        → State S J → Progress → State S J → Type 0
-    BeginsBy shown kind None key old far new = (far ≡ progress.Done) × (new ≡ old)
-    BeginsBy shown None (Some event) key old far new = Commands submits event key old far new
-    BeginsBy shown (Some kind) (Some event) key old far new = Joins shown kind event key old far new
+  -- what it asks for was tried, for the user who showed their token
+  abbrev pub BeginsBy : Shown → Option GuestKind → Option EventValue → ℕ
+      → State S J → Progress → State S J → Type 0
+  BeginsBy shown kind None key old far new = (far ≡ progress.Done) × (new ≡ old)
+  BeginsBy shown None (Some event) key old far new = Commands shown.user event key old far new
+  BeginsBy shown (Some kind) (Some event) key old far new = Joins shown kind event key old far new
 
-    abbrev pub BeginsAs : Shown → Message → ℕ → State S J → Progress → State S J → Type 0
-    BeginsAs shown m = BeginsBy shown (kind_of m) (event_of shown m)
+  abbrev pub BeginsAs : Shown → Message → ℕ → State S J → Progress → State S J → Type 0
+  BeginsAs shown m = BeginsBy shown (kind_of m) (event_of shown m)
 
-    -- Nobody has this name and this token, and it was told so, without a step. Or somebody has, and is the user for whom
-    -- its event was tried.
-    abbrev pub Judges : List Entry → Entry → Message → ℕ → State S J → Progress → State S J → Type 0
-    Judges users entry m key old far new =
-        (¬ (Contains users entry) × (far ≡ progress.Done)
-        × TurnsAway submits (codes "unknown user or wrong token") key old new)
-        ⊎ ((shown : Shown) × IsShown users entry shown × BeginsAs shown m key old far new)
+  -- Nobody has this name and this token, and it was told so, without a step. Or somebody has, and is the user for whom
+  -- its event was tried.
+  abbrev pub Judges : List Entry → Entry → Message → ℕ → State S J → Progress → State S J → Type 0
+  Judges users entry m key old far new =
+      (¬ (Contains users entry) × (far ≡ progress.Done)
+      × TurnsAway (codes "unknown user or wrong token") key old new)
+      ⊎ ((shown : Shown) × IsShown users entry shown × BeginsAs shown m key old far new)
 
-    -- If it is no first message, it was told to go. Else it waits for a look at the users' file, or it was judged.
-    abbrev pub BeginsWith : (J → List Sent → Bool → J → Type 0) → Known → Option Entry → Message → ℕ
-        → State S J → Progress → State S J → Type 0
-    BeginsWith takes known None m key old far new = (far ≡ progress.Done) × Faults submits takes key old new
-    BeginsWith takes known (Some entry) m key old far new =
-        IfBool (may_judge known.looked (peer_at key old))
-        (Judges known.users entry m key old far new)
-        ((far ≡ progress.Held) × (new ≡ old))
+  -- the users who may connect, by the users' file as it was read last
+  abbrev pub known_of : State S J → List Entry
+  known_of s = unwrap_or s.users (calls.known s.seat)
 
-    -- what became of a connection by its first message
-    abbrev pub Begins : (J → List Sent → Bool → J → Type 0) → Known → Message → ℕ
-        → State S J → Progress → State S J → Type 0
-    Begins takes known m = BeginsWith takes known (shown_in m) m
+  -- If it is no first message, it was told to go. Else it waits for a look at the users' file, or it was judged.
+  abbrev pub BeginsWith : Option Entry → Message → ℕ → State S J → Progress → State S J → Type 0
+  BeginsWith None m key old far new = (far ≡ progress.Done) × Faults calls key old new
+  BeginsWith (Some entry) m key old far new = IfBool (may_judge old.looked (peer_at key old))
+      (Judges (known_of old) entry m key old far new)
+      ((far ≡ progress.Held) × (new ≡ old))
+
+  -- what became of a connection by its first message
+  abbrev pub Begins : Message → ℕ → State S J → Progress → State S J → Type 0
+  Begins m = BeginsWith (shown_in m) m

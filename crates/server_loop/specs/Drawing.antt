@@ -7,9 +7,10 @@ use Rattle.server_connections.specs.Changing.{drawn}
 use Rattle.server_connections.specs.Telling.{told_if_any}
 use Rattle.server_connections.specs.declared.connections.Connections.{Connections}
 use Rattle.server_seat.specs.declared.seat.SeatFault.TheVariants as fault
+use Rattle.server_seat.specs.declared.seat.SessionSeat.{Ghosts as Calls}
 use Rattle.server_steps.specs.Sending.{wanting}
 use Rattle.server_steps.specs.Turns.{drawn_from, next_from}
-use Rattle.server_loop.specs.Handing.{HandsOut, Sent}
+use Rattle.server_loop.specs.Handing.{HandsOut}
 use Rattle.server_loop.specs.Leaving.{IfBool}
 use Rattle.server_loop.specs.Submitting.{Answer, State, Submits, peer_at, with_peer}
 use Rattle.server_loop.specs.Walking.{VisitsAll}
@@ -27,12 +28,12 @@ module _ {S J : Type 0} where
   NotesDraw (Err fault.NoMemory) key old new = new ≡ record old { has_refused = true }
   NotesDraw (Err (fault.Over end)) key old new = new ≡ old
 
-module _ {S J : Type 0} (submits : J → EventValue → Answer → J → Type 0) where
+module _ {S J : Type 0} (calls : Calls J) where
   -- a client's draw was asked for, once
   pub record Draws (client key : ℕ) (old new : State S J) : Type 0 where
     pub answer : Answer
     pub mid : State S J
-    pub step : Submits submits (Draw client) old answer mid
+    pub step : Submits calls (Draw client) old answer mid
     pub noted : NotesDraw answer key mid new
 
   -- The client of a key is drawn if it wants that and if more may be. The answer is how many more may be after it; None
@@ -67,28 +68,26 @@ module _ {S J : Type 0} where
       × (new ≡ record old { connections = new.connections; draws = record old.draws { is_told = false } }))
       (new ≡ old)
 
-module _ {S J : Type 0} (submits : J → EventValue → Answer → J → Type 0) (takes : J → List Sent → Bool → J → Type 0)
-    (contents : S → Option (List ℕ))
-  where
-    -- what came of steps went to its connections, and was written
-    abbrev pub HandsOn : State S J → State S J → Type 0
-    HandsOn old new = IfBool old.is_behind
-        ((mid : State S J) × HandsOut submits takes old mid × VisitsAll (Writes submits contents) mid new)
-        (new ≡ old)
+module _ {S J : Type 0} (calls : Calls J) (contents : S → Option (List ℕ)) where
+  -- what came of steps went to its connections, and was written
+  abbrev pub HandsOn : State S J → State S J → Type 0
+  HandsOn old new = IfBool old.is_behind
+      ((mid : State S J) × HandsOut calls old mid × VisitsAll (Writes calls contents) mid new)
+      (new ≡ old)
 
-    -- Of the clients from a key on, those were drawn that want it, 16 at most, and were sent that. If some are left, it
-    -- is gone on with them in the next turn.
-    pub record DrawsRound (from : ℕ) (is_held : Bool) (old new : State S J) : Type 0 where
-      pub told : State S J
-      pub tells : TellsAll old told
-      pub next : Option ℕ
-      pub asked : State S J
-      pub draws : DrawsFrom submits (told.connections.peers.capacity - from) from 16 told next asked
-      pub handed : HandsOn (record asked {
-        draws = record asked.draws { from = next_from next from is_held };
-      }) new
+  -- Of the clients from a key on, those were drawn that want it, 16 at most, and were sent that. If some are left, it
+  -- is gone on with them in the next turn.
+  pub record DrawsRound (from : ℕ) (is_held : Bool) (old new : State S J) : Type 0 where
+    pub told : State S J
+    pub tells : TellsAll old told
+    pub next : Option ℕ
+    pub asked : State S J
+    pub draws : DrawsFrom calls (told.connections.peers.capacity - from) from 16 told next asked
+    pub handed : HandsOn (record asked {
+      draws = record asked.draws { from = next_from next from is_held };
+    }) new
 
-    -- so they were, unless draws are held; a round that was begun is gone on with
-    abbrev pub DrawsAll : Bool → State S J → State S J → Type 0
-    DrawsAll is_held old new = MatchOption (drawn_from old.draws.from is_held)
-        (new ≡ old) (λ from. DrawsRound from is_held old new)
+  -- so they were, unless draws are held; a round that was begun is gone on with
+  abbrev pub DrawsAll : Bool → State S J → State S J → Type 0
+  DrawsAll is_held old new = MatchOption (drawn_from old.draws.from is_held)
+      (new ≡ old) (λ from. DrawsRound from is_held old new)

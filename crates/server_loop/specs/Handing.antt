@@ -14,6 +14,7 @@ use Rattle.server_connections.specs.Putting.{IsPutAt, PutsFor}
 use Rattle.server_connections.specs.declared.connections.Connections.{Connections}
 use Rattle.server_connections.specs.declared.peer.Role.{Role}
 use Rattle.server_connections.specs.declared.peer.Role.TheVariants as role
+use Rattle.server_seat.specs.declared.seat.SessionSeat.{Ghosts as Calls}
 use Rattle.server_loop.specs.Leaving.{Expels, IfBool}
 use Rattle.server_loop.specs.Submitting.{Answer, State, peer_at}
 use Rattle.server_sending.specs.Causes.{told_of}
@@ -32,7 +33,7 @@ module _ {S J : Type 0} where
   Ends role reason old new = LetsGo old.connections role (told_of reason) new.connections
       × (new ≡ record old { connections = new.connections; end = end_after reason old.end })
 
-module _ {S J : Type 0} (submits : J → EventValue → Answer → J → Type 0) where
+module _ {S J : Type 0} (calls : Calls J) where
   -- Something was put for a role, into the first connection that has it and into no other. If only the front of it
   -- could be put, that connection was told to go.
   abbrev pub HandsFor : Role → (Waiting → Waiting → Type 0) → (Waiting → Waiting → Type 0)
@@ -40,7 +41,7 @@ module _ {S J : Type 0} (submits : J → EventValue → Answer → J → Type 0)
   HandsFor role puts front old new =
       (PutsFor old.connections role puts new.connections × (new ≡ record old { connections = new.connections }))
       ⊎ ((key : ℕ) × (mid : Connections S) × IsPutAt old.connections role front mid key
-      × Expels submits why.Fault key (record old { connections = mid }) new)
+      × Expels calls why.Fault key (record old { connections = mid }) new)
 
   -- Something was put for the connection of a key and for no other, if that is sent what the session says. If only the
   -- front of it could be put, the connection was told to go.
@@ -50,7 +51,7 @@ module _ {S J : Type 0} (submits : J → EventValue → Answer → J → Type 0)
       ((hears (peer_at key old) ≡ false) × (new ≡ old))
       ⊎ ((IsPutInto old.connections key puts new.connections × (new ≡ record old { connections = new.connections }))
       ⊎ ((mid : Connections S) × IsPutInto old.connections key front mid
-      × Expels submits why.Fault key (record old { connections = mid }) new))
+      × Expels calls why.Fault key (record old { connections = mid }) new))
 
   -- an effect went to the connection of its client or window
   abbrev pub Hands : Effect → Option UserId → State S J → State S J → Type 0
@@ -72,11 +73,11 @@ module _ {S J : Type 0} (submits : J → EventValue → Answer → J → Type 0)
 
   -- The effects that waited were taken once, and went to their connections, in order and each once. If a step other
   -- than a draw was made, there is something to draw, and it is to be looked who may still type.
-  pub record HandsOut (takes : J → List Sent → Bool → J → Type 0) (old new : State S J) : Type 0 where
+  pub record HandsOut (old new : State S J) : Type 0 where
     pub effects : List Sent
     pub is_told : Bool
     pub seat : J
-    pub taken : takes old.seat effects is_told seat
+    pub taken : calls.takes old.seat effects is_told seat
     pub mid : State S J
     pub handed : HandsAll effects (record old { seat = seat; is_behind = false }) mid
     pub told : new ≡ record mid {
@@ -85,7 +86,7 @@ module _ {S J : Type 0} (submits : J → EventValue → Answer → J → Type 0)
     }
 
   -- What it sent before was answered, and it was told to go, if it wasn't before.
-  pub record Faults (takes : J → List Sent → Bool → J → Type 0) (key : ℕ) (old new : State S J) : Type 0 where
+  pub record Faults (key : ℕ) (old new : State S J) : Type 0 where
     pub mid : State S J
-    pub handed : HandsOut takes old mid
-    pub goes : IfBool (is_open_at (peer_at key mid)) (Expels submits why.Fault key mid new) (new ≡ mid)
+    pub handed : HandsOut old mid
+    pub goes : IfBool (is_open_at (peer_at key mid)) (Expels calls why.Fault key mid new) (new ≡ mid)

@@ -7,6 +7,7 @@ use Rattle.server_connections.specs.Changing.{asked_to_go, expelled, known_gone}
 use Rattle.server_connections.specs.Life.{given_up, parting}
 use Rattle.server_connections.specs.declared.peer.Peer.{Peer}
 use Rattle.server_seat.specs.declared.seat.SeatFault.TheVariants as fault
+use Rattle.server_seat.specs.declared.seat.SessionSeat.{Ghosts as Calls}
 use Rattle.server_loop.specs.Submitting.{Answer, State, Submits, peer_at, with_peer}
 
 module _ {S : Type 0} where
@@ -27,13 +28,13 @@ module _ {S J : Type 0} where
   Notes (Err (fault.Over end)) key old told new = (told ≡ true) × (new ≡ with_peer known_gone key old)
   Notes (Ok answer) key old told new = (told ≡ true) × (new ≡ with_peer known_gone key old)
 
-module _ {S J : Type 0} (submits : J → EventValue → Answer → J → Type 0) where
+module _ {S J : Type 0} (calls : Calls J) where
   -- the session was told by this event, in one step
   pub record LeavesBy (event : EventValue) (key : ℕ) (old : State S J) (told : Bool) (new : State S J)
       : Type 0 where
     pub answer : Answer
     pub mid : State S J
-    pub step : Submits submits event old answer mid
+    pub step : Submits calls event old answer mid
     pub noted : Notes answer key mid told new
 
   -- If the connection of a key left, the session was told once, by its own event, and that is noted. Else nothing was

@@ -1,3 +1,4 @@
+pub mod Awaiting
 pub mod Beginning
 pub mod Drawing
 pub mod Handing
@@ -6,6 +7,7 @@ pub mod Naming
 pub mod Obeying
 pub mod Serving
 pub mod Submitting
+pub mod Trying
 pub mod Turning
 pub mod Typing
 pub mod Walking

@@ -1,5 +1,5 @@
 -- What a loop submits.
-use Rattle.std.specs.Prelude.{◌≡◌, ℕ, Bool, true, Option, Some, None, Result, Ok, Err, vec_len}
+use Rattle.std.specs.Prelude.{◌≡◌, ℕ, Bool, true, List, Option, Some, None, Result, Ok, Err, vec_len}
 use Rattle.std.specs.declared.time.Duration.{Duration}
 use Rattle.slab.specs.Slab.{get}
 use Rattle.session.specs.Trace.{EventValue}
@@ -10,8 +10,10 @@ use Rattle.server_seat.specs.declared.seat.SeatAnswer.{SeatAnswer}
 use Rattle.server_seat.specs.declared.seat.SeatFault.{SeatFault}
 use Rattle.server_seat.specs.declared.seat.SeatFault.TheVariants as fault
 use Rattle.server_seat.specs.declared.seat.ServerEnd.{ServerEnd}
+use Rattle.server_seat.specs.declared.seat.SessionSeat.{Ghosts as Calls}
 use Rattle.server_steps.specs.Submitted.{noted}
 use Rattle.server_steps.specs.declared.submitted.Submitted.{Submitted}
+use Rattle.server_users.specs.Entries.{Entry}
 use Rattle.server_users.specs.declared.ration.Rations.{Rations}
 use Rattle.server_loop.specs.declared.own.Drawn.{Drawn}
 use Rattle.server_loop.specs.declared.own.Loop.{Loop}
@@ -20,14 +22,19 @@ use Rattle.server_loop.specs.declared.own.Loop.{Loop}
 abbrev pub Answer : Type 0
 Answer = Result SeatAnswer SeatFault
 
--- what a loop has of the session, its connections, the time, what it counts, and what it still has to do
+-- what a loop has of the session, its connections, the users' file, the time, what it counts, and what it still has to
+-- do
 pub record State (S J : Type 0) : Type 0 where
   pub seat : J
   pub connections : Connections S
+  pub users : Option (List Entry)
+  pub looked : Option ℕ
   pub rations : Rations
   pub now : Duration
   -- so many bytes a read takes at most
   pub room : ℕ
+  pub has_typed : Bool
+  pub has_much : Bool
   pub output_left : ℕ
   pub next : ℕ
   pub submitted : Submitted
@@ -41,9 +48,13 @@ abbrev pub state_of : {S G J : Type 0} → Loop S G J → State S J
 state_of own = record {
   seat = own.seat;
   connections = own.connections;
+  users = own.users;
+  looked = own.looked;
   rations = own.rations;
   now = own.now;
   room = vec_len own.reading.buffer;
+  has_typed = own.reading.has_typed;
+  has_much = own.reading.has_much;
   output_left = own.reading.output_left;
   next = own.reading.next;
   submitted = own.submitted;
@@ -77,14 +88,7 @@ module _ {S J : Type 0} where
     end = end_by answer s.end;
   }
 
-module _ {S J : Type 0} (submits : J → EventValue → Answer → J → Type 0) where
   -- one step was made, with this event; no connection changed
-  abbrev pub Submits : EventValue → State S J → Answer → State S J → Type 0
-  Submits event old answer new =
-      submits old.seat event answer new.seat × (new ≡ after_step event answer new.seat old)
-
-  -- the user has to wait, and nothing was submitted; or one step was made, with this event, after it was counted
-  abbrev pub Tries : EventValue → State S J → Result (Option SeatAnswer) SeatFault → State S J → Type 0
-  Tries event old (Ok None) new = new ≡ record old { rations = new.rations }
-  Tries event old (Ok (Some answer)) new = Submits event (record old { rations = new.rations }) (Ok answer) new
-  Tries event old (Err refusal) new = Submits event (record old { rations = new.rations }) (Err refusal) new
+  abbrev pub Submits : Calls J → EventValue → State S J → Answer → State S J → Type 0
+  Submits calls event old answer new =
+      calls.submits old.seat event answer new.seat × (new ≡ after_step event answer new.seat old)

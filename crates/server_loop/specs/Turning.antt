@@ -1,9 +1,7 @@
 -- What a turn of a loop leaves behind, and how connections go.
 use Rattle.std.specs.Prelude.{◌≡◌, ◌⊎◌, ◌<◌, ◌≤◌, ℕ, Bool, true, false, List, Option, Some, None, IfSome, if◌then◌else◌}
 use Rattle.std.specs.declared.time.Duration.{Duration}
-use Rattle.acl.specs.declared.user_id.UserId.{UserId}
 use Rattle.attach_proto.specs.declared.why.Why.TheVariants as why
-use Rattle.session.specs.Trace.{EventValue}
 use Rattle.slab.specs.Slab.{Updates, get}
 use Rattle.server_connections.specs.Changing.{changed, told_to_go}
 use Rattle.server_connections.specs.Life.{without_guest}
@@ -11,17 +9,18 @@ use Rattle.server_connections.specs.Marked.{without_mark}
 use Rattle.server_connections.specs.Peers.{goes, rests}
 use Rattle.server_connections.specs.declared.connections.Connections.{Connections}
 use Rattle.server_seat.specs.Ending.{why_of_end}
-use Rattle.server_seat.specs.declared.seat.GuestKind.{GuestKind}
 use Rattle.server_seat.specs.declared.seat.ServerEnd.{ServerEnd}
 use Rattle.server_seat.specs.declared.seat.ServerEnd.TheVariants as cause
-use Rattle.server_steps.specs.Ending.{EachKey, FinishesAt, IsOldest, expired, gone_at, new_below, new_number, told_full}
+use Rattle.server_seat.specs.declared.seat.SessionSeat.{Ghosts as Calls}
+use Rattle.server_steps.specs.Ending.{EachKey, FinishesAt, IsOldest, expired, fullness_at, gone_at, new_below}
+use Rattle.server_steps.specs.Ending.{new_number, told_full}
 use Rattle.server_steps.specs.Sending.{WritesAt}
 use Rattle.server_steps.specs.Submitted.{nothing_submitted}
 use Rattle.server_steps.specs.declared.turns.Writes.{Writes as Written}
 use Rattle.server_loop.specs.Drawing.{DrawsAll}
-use Rattle.server_loop.specs.Handing.{HandsOut, Sent}
+use Rattle.server_loop.specs.Handing.{HandsOut}
 use Rattle.server_loop.specs.Leaving.{IfBool, Loses, TriesLeaving}
-use Rattle.server_loop.specs.Submitting.{Answer, State, peer_at, with_peer}
+use Rattle.server_loop.specs.Submitting.{State, peer_at, with_peer}
 use Rattle.server_loop.specs.Walking.{VisitsAll}
 use Rattle.server_loop.specs.Writing.{DropsAt, DropsLaggard, Writes}
 
@@ -38,84 +37,82 @@ module _ {S : Type 0} where
     pub stays : goes (get old.peers key) ≡ false → new.peers ≡ old.peers
     pub same : new ≡ record old { peers = new.peers; awake = new.awake }
 
-module _ {S J : Type 0} (uncounts : J → UserId → GuestKind → Type 0) where
+module _ {S J : Type 0} (calls : Calls J) where
   -- its guest, if it was one and went, is counted no more, and is told of once
   abbrev pub PartsWith : ℕ → State S J → State S J → Type 0
   PartsWith key old new =
-      IfSome (gone_at (peer_at key old)) (λ gone. uncounts old.seat gone.0.user gone.0.kind)
+      IfSome (gone_at (peer_at key old)) (λ gone. calls.uncounts old.seat gone.0.user gone.0.kind)
       × (new ≡ with_peer without_guest key old)
 
-  -- its window is noted as full or not, its guest went, and it goes or rests if nothing is to be done
+  -- If it is news whether its window is full, all loops were told.
+  abbrev pub TellsFull : ℕ → State S J → State S J → Type 0
+  TellsFull key old new =
+      IfSome (fullness_at (peer_at key old)) (λ news. calls.sets_full old.seat news.0 news.1)
+      × (new ≡ with_peer told_full key old)
+
+  -- All loops were told of its window, its guest went, and it goes or rests if nothing is to be done.
   pub record Settles (key : ℕ) (old new : State S J) : Type 0 where
+    pub told : State S J
+    pub tells : TellsFull key old told
     pub mid : State S J
-    pub parts : PartsWith key (with_peer told_full key old) mid
+    pub parts : PartsWith key told mid
     pub settled : IsSettled key mid.connections new.connections
     pub same : new ≡ record mid { connections = new.connections }
 
-module _ {S J : Type 0} (submits : J → EventValue → Answer → J → Type 0) (contents : S → Option (List ℕ))
-    (uncounts : J → UserId → GuestKind → Type 0)
-  where
-    -- it was told to go, if it wasn't before, and given up; what is closed went
-    abbrev pub Closes : ℕ → State S J → State S J → Type 0
-    Closes key old new = (closed : Bool) × (written : Connections S)
-        × WritesAt contents key (changed (told_to_go why.Fault) key old.connections) closed written
-        × (lost : State S J) × Loses submits key (record old { connections = written }) lost
-        × VisitsAll (Settles uncounts) lost new
-
-    -- If the first message of so many connections isn't done, the one that came first was closed so.
-    abbrev pub LetsOldestGo : ℕ → State S J → State S J → Type 0
-    LetsOldestGo most old new =
-        ((new_below old.connections.peers old.connections.peers.capacity < most) × (new ≡ old))
-        ⊎ ((((key : ℕ) → key < old.connections.peers.capacity → new_number (peer_at key old) ≡ None) × (new ≡ old))
-        ⊎ ((most ≤ new_below old.connections.peers old.connections.peers.capacity)
-        × (key : ℕ) × IsOldest old.connections.peers old.connections.peers.capacity key × Closes key old new))
-
-module _ {S J : Type 0} (submits : J → EventValue → Answer → J → Type 0) (takes : J → List Sent → Bool → J → Type 0)
-    (contents : S → Option (List ℕ)) (uncounts : J → UserId → GuestKind → Type 0)
-  where
-    -- What waited was handed out, all guests were told why the server ends, and strangers were closed.
-    pub record Finishes (end : ServerEnd) (old new : State S J) : Type 0 where
-      pub mid : State S J
-      pub handed : HandsOut submits takes old mid
-      pub told : Connections S
-      pub finished : EachKey (FinishesAt contents (why_of_end end)) mid.connections.peers.capacity 0
-          mid.connections told
-      pub settled : VisitsAll (Settles uncounts) (record mid { connections = told }) new
-
-module _ {S J : Type 0} (lets_type : J → UserId → ℕ → Bool → Type 0) where
   -- what was typed by those who may have lost their right was looked at
   abbrev pub DropsLost : State S J → State S J → Type 0
   DropsLost old new = IfBool old.may_have_lost
-      (VisitsAll (DropsAt lets_type) (record old { may_have_lost = false }) new)
+      (VisitsAll (DropsAt calls) (record old { may_have_lost = false }) new)
       (new ≡ old)
 
-module _ {S J : Type 0} (submits : J → EventValue → Answer → J → Type 0) (takes : J → List Sent → Bool → J → Type 0)
-    (lets_type : J → UserId → ℕ → Bool → Type 0) (contents : S → Option (List ℕ))
-    (uncounts : J → UserId → GuestKind → Type 0)
-  where
-    -- a turn begins to end: nothing was refused and no draw was made in it yet
-    abbrev pub ending : State S J → State S J
-    ending s = record s { has_refused = false; draws = record s.draws { made = 0 } }
+module _ {S J : Type 0} (calls : Calls J) (contents : S → Option (List ℕ)) where
+  -- it was told to go, if it wasn't before, and given up; what is closed went
+  abbrev pub Closes : ℕ → State S J → State S J → Type 0
+  Closes key old new = (closed : Bool) × (written : Connections S)
+      × WritesAt contents key (changed (told_to_go why.Fault) key old.connections) closed written
+      × (lost : State S J) × Loses calls key (record old { connections = written }) lost
+      × VisitsAll (Settles calls) lost new
 
-    -- A turn ended: who left was told of, what came of it was handed out, and written but for what those typed who lost
-    -- their right; draws were asked for, those for whom too much waits were told to go, and what is closed went.
-    pub record EndsTurn (holds_draws : Bool) (old : State S J) (result : Written) (new : State S J) : Type 0 where
-      pub left : State S J
-      pub leaving : VisitsAll (TriesLeaving submits) (ending old) left
-      pub out : State S J
-      pub handed : HandsOut submits takes left out
-      pub kept : State S J
-      pub dropped : DropsLost lets_type out kept
-      pub sent : State S J
-      pub written : VisitsAll (Writes submits contents) kept sent
-      pub drawn : State S J
-      pub draws : DrawsAll submits takes contents holds_draws sent drawn
-      pub timely : State S J
-      pub laggards : VisitsAll (DropsLaggard submits contents) drawn timely
-      pub mid : State S J
-      pub settled : VisitsAll (Settles uncounts) timely mid
-      pub made : result.drawn ≡ mid.draws.made
-      pub submitted : result.submitted ≡ mid.submitted
-      pub end_is : IfSome mid.end (λ end. result.end ≡ Some end)
-      pub stopped : mid.end ≡ None → IfSome result.end (λ end. end ≡ cause.TrailFull)
-      pub new_is : new ≡ record mid { submitted = nothing_submitted }
+  -- If the first message of so many connections isn't done, the one that came first was closed so.
+  abbrev pub LetsOldestGo : ℕ → State S J → State S J → Type 0
+  LetsOldestGo most old new =
+      ((new_below old.connections.peers old.connections.peers.capacity < most) × (new ≡ old))
+      ⊎ ((((key : ℕ) → key < old.connections.peers.capacity → new_number (peer_at key old) ≡ None) × (new ≡ old))
+      ⊎ ((most ≤ new_below old.connections.peers old.connections.peers.capacity)
+      × (key : ℕ) × IsOldest old.connections.peers old.connections.peers.capacity key × Closes key old new))
+
+  -- What waited was handed out, all guests were told why the server ends, and strangers were closed.
+  pub record Finishes (end : ServerEnd) (old new : State S J) : Type 0 where
+    pub mid : State S J
+    pub handed : HandsOut calls old mid
+    pub told : Connections S
+    pub finished : EachKey (FinishesAt contents (why_of_end end)) mid.connections.peers.capacity 0
+        mid.connections told
+    pub settled : VisitsAll (Settles calls) (record mid { connections = told }) new
+
+  -- a turn begins to end: nothing was refused and no draw was made in it yet
+  abbrev pub ending : State S J → State S J
+  ending s = record s { has_refused = false; draws = record s.draws { made = 0 } }
+
+  -- A turn ended: who left was told of, what came of it was handed out, and written but for what those typed who lost
+  -- their right; draws were asked for, those for whom too much waits were told to go, and what is closed went.
+  pub record EndsTurn (holds_draws : Bool) (old : State S J) (result : Written) (new : State S J) : Type 0 where
+    pub left : State S J
+    pub leaving : VisitsAll (TriesLeaving calls) (ending old) left
+    pub out : State S J
+    pub handed : HandsOut calls left out
+    pub kept : State S J
+    pub dropped : DropsLost calls out kept
+    pub sent : State S J
+    pub written : VisitsAll (Writes calls contents) kept sent
+    pub drawn : State S J
+    pub draws : DrawsAll calls contents holds_draws sent drawn
+    pub timely : State S J
+    pub laggards : VisitsAll (DropsLaggard calls contents) drawn timely
+    pub mid : State S J
+    pub settled : VisitsAll (Settles calls) timely mid
+    pub made : result.drawn ≡ mid.draws.made
+    pub submitted : result.submitted ≡ mid.submitted
+    pub end_is : IfSome mid.end (λ end. result.end ≡ Some end)
+    pub stopped : mid.end ≡ None → IfSome result.end (λ end. end ≡ cause.TrailFull)
+    pub new_is : new ≡ record mid { submitted = nothing_submitted }

@@ -2,21 +2,21 @@
 use Rattle.std.specs.Prelude.{◌≡◌, ◌⊎◌, ℕ, zero, suc, Bool, List, Option, Some, None, IsSomeAnd}
 use Rattle.acl.specs.declared.user_id.UserId.{UserId}
 use Rattle.attach_proto.specs.declared.why.Why.TheVariants as why
-use Rattle.session.specs.Trace.{EventValue}
 use Rattle.server_connections.specs.declared.connections.Connections.{Connections}
 use Rattle.server_connections.specs.declared.peer.Role.{Role}
 use Rattle.server_connections.specs.declared.peer.Role.TheVariants as role
 use Rattle.server_sending.specs.Typists.{HasNoTypist, IsNextTypist}
 use Rattle.server_steps.specs.Meaning.{role_at}
 use Rattle.server_steps.specs.Sending.{IsLaggard, WritesAt, cut, frames_at, without_user}
+use Rattle.server_seat.specs.declared.seat.SessionSeat.{Ghosts as Calls}
 use Rattle.server_loop.specs.Leaving.{Expels, IfBool, TellsLeaving}
-use Rattle.server_loop.specs.Submitting.{Answer, State, peer_at, with_peer}
+use Rattle.server_loop.specs.Submitting.{State, peer_at, with_peer}
 
-module _ {S J : Type 0} (lets_type : J → UserId → ℕ → Bool → Type 0) where
+module _ {S J : Type 0} (calls : Calls J) where
   -- The session was asked whether a user may type into a window. If they may not, what they typed, and of which nothing
   -- was written, was taken out.
   abbrev pub DropsOf : ℕ → ℕ → UserId → State S J → State S J → Type 0
-  DropsOf key window user old new = (may : Bool) × lets_type old.seat user window may
+  DropsOf key window user old new = (may : Bool) × calls.lets_type old.seat user window may
       × IfBool may (new ≡ old) (new ≡ with_peer (without_user user) key old)
 
   -- This was done for the users who typed what waits, each once in the order of their names, after the name of one and
@@ -39,17 +39,17 @@ module _ {S J : Type 0} (lets_type : J → UserId → ℕ → Bool → Type 0) w
   abbrev pub DropsAt : ℕ → State S J → State S J → Type 0
   DropsAt key old new = DropsTyped (role_at (peer_at key old)) key old new
 
-module _ {S J : Type 0} (submits : J → EventValue → Answer → J → Type 0) (contents : S → Option (List ℕ)) where
+module _ {S J : Type 0} (calls : Calls J) (contents : S → Option (List ℕ)) where
   -- what waits for a connection was written as far as it takes it; if it was closed, the session was told that it left
   pub record Writes (key : ℕ) (old new : State S J) : Type 0 where
     pub closed : Bool
     pub mid : Connections S
     pub written : WritesAt contents key old.connections closed mid
-    pub told : IfBool closed ((told : Bool) × TellsLeaving submits key (record old { connections = mid }) told new)
+    pub told : IfBool closed ((told : Bool) × TellsLeaving calls key (record old { connections = mid }) told new)
         (new ≡ record old { connections = mid })
 
   -- one for which too much waits was told so, written to and is closed once it takes no more
   pub record DropsLaggard (key : ℕ) (old new : State S J) : Type 0 where
     pub outcome : ((¬ (IsSomeAnd (peer_at key old) IsLaggard)) × (new ≡ old))
         ⊎ (IsSomeAnd (peer_at key old) IsLaggard × ((told : State S J)
-        × Expels submits why.TooFarBehind key old told × Writes key (with_peer cut key told) new))
+        × Expels calls why.TooFarBehind key old told × Writes key (with_peer cut key told) new))

@@ -4,12 +4,11 @@ ghost use Rattle.std.specs.Prelude.{◌≡◌, IfSome, option_map};
 ghost use Rattle.slab.specs.Slab.{get};
 ghost use Rattle.session.specs.Trace.{happening};
 ghost use Rattle.server_connections.specs.Changing.{changed, told_to_go};
-ghost use Rattle.server_steps.specs.Ending.{told_full};
 ghost use Rattle.server_loop.specs.Handing.{Faults};
 ghost use Rattle.server_loop.specs.Leaving.{Detaches, Expels, LeavesBy, Loses, TellsLeaving, TriesLeaving, leaving};
 ghost use Rattle.server_loop.specs.Naming.{NamesNobody};
-ghost use Rattle.server_loop.specs.Submitting.{state_of, with_peer};
-ghost use Rattle.server_loop.specs.Turning.{Expires, Finishes, LetsOldestGo, PartsWith, Settles};
+ghost use Rattle.server_loop.specs.Submitting.{state_of};
+ghost use Rattle.server_loop.specs.Turning.{Expires, Finishes, LetsOldestGo, PartsWith, Settles, TellsFull};
 ghost use Rattle.server_loop.specs.Walking.{VisitsAll};
 
 use crate::own::Loop;
@@ -26,8 +25,7 @@ use std::sync::Wait;
 impl<S: Read + Write + Drop, G: Gate + Drop, J: SessionSeat + Drop> Loop<S, G, J> {
     // The event by which a connection leaves the session, if it left and the session wasn't told.
     fn leaving<'a>(&self, key: usize) -> Option<Event<'a>>
-        ensures event { option_map happening result
-            ≡ leaving (get self.entry.now.connections.peers key) }
+        ensures event { option_map happening result ≡ leaving (get self.entry.now.connections.peers key) }
         ensures nobody { IfSome result (λ event. NamesNobody (happening event)) }
     {
         match self.connections.get(key) {
@@ -39,8 +37,7 @@ impl<S: Read + Write + Drop, G: Gate + Drop, J: SessionSeat + Drop> Loop<S, G, J
     // Tells the session by this event that a connection left it.
     fn tell_by(&mut self, rt: &impl Wait, key: usize, event: Event) -> bool
         requires { NamesNobody (happening event) }
-        ensures { LeavesBy J.submits (happening event.entry) key
-            (state_of self.old) result (state_of self.new) }
+        ensures { LeavesBy J.SessionSeat (happening event.entry) key (state_of self.old) result (state_of self.new) }
     {
         match self.submit(rt, event) {
             Ok(_) => {
@@ -58,10 +55,9 @@ impl<S: Read + Write + Drop, G: Gate + Drop, J: SessionSeat + Drop> Loop<S, G, J
         }
     }
 
-    // Tells the session that a connection left it, if it did. The answer is false if there is no memory: then
-    // it is told in a later turn.
+    // Tells the session that a connection left it, if it did. Without memory for that it answers false, for now.
     pub(crate) fn tell_leaving(&mut self, rt: &impl Wait, key: usize) -> bool
-        ensures { TellsLeaving J.submits key (state_of self.old) result (state_of self.new) }
+        ensures { TellsLeaving J.SessionSeat key (state_of self.old) result (state_of self.new) }
     {
         match self.leaving(key) {
             Some(event) => self.tell_by(rt, key, event),
@@ -70,7 +66,7 @@ impl<S: Read + Write + Drop, G: Gate + Drop, J: SessionSeat + Drop> Loop<S, G, J
     }
 
     pub(crate) fn tell_all_leaving(&mut self, rt: &impl Wait)
-        ensures { VisitsAll (TriesLeaving J.submits) (state_of self.old) (state_of self.new) }
+        ensures { VisitsAll (TriesLeaving J.SessionSeat) (state_of self.old) (state_of self.new) }
     {
         each_awake(self, |own, key| {
             let _ = own.tell_leaving(rt, key);
@@ -79,7 +75,7 @@ impl<S: Read + Write + Drop, G: Gate + Drop, J: SessionSeat + Drop> Loop<S, G, J
 
     // A connection is told to go, after all that was put for it.
     pub(crate) fn expel(&mut self, rt: &impl Wait, key: usize, why: Why)
-        ensures { Expels J.submits why key (state_of self.old) (state_of self.new) }
+        ensures { Expels J.SessionSeat why key (state_of self.old) (state_of self.new) }
     {
         self.connections.expel(key, why);
         let _ = self.tell_leaving(rt, key);
@@ -87,9 +83,7 @@ impl<S: Read + Write + Drop, G: Gate + Drop, J: SessionSeat + Drop> Loop<S, G, J
 
     // A connection that is no guest is told to go, unless it was told before.
     pub(crate) fn dismiss(&mut self, key: usize, why: Why)
-        ensures { self.new ≡ record self.old {
-          connections = changed (told_to_go why) key self.old.connections;
-        } }
+        ensures { self.new ≡ record self.old { connections = changed (told_to_go why) key self.old.connections } }
     {
         self.connections.dismiss(key, why);
     }
@@ -103,10 +97,9 @@ impl<S: Read + Write + Drop, G: Gate + Drop, J: SessionSeat + Drop> Loop<S, G, J
         }
     }
 
-    // A connection sent what it mustn't: it is told to go, after all that came of what it sent
-    // before.
+    // A connection sent what it mustn't: it is told to go, after all that came of what it sent before.
     pub(crate) fn fault(&mut self, rt: &impl Wait, key: usize)
-        ensures { Faults J.submits J.takes key (state_of self.old) (state_of self.new) }
+        ensures { Faults J.SessionSeat key (state_of self.old) (state_of self.new) }
     {
         self.hand_out(rt);
         if !is_open_at(&self.connections, key) {
@@ -118,7 +111,7 @@ impl<S: Read + Write + Drop, G: Gate + Drop, J: SessionSeat + Drop> Loop<S, G, J
 
     // A connection asked to go. The session answers with the effect that ends it.
     pub(crate) fn detach(&mut self, rt: &impl Wait, key: usize)
-        ensures { Detaches J.submits key (state_of self.old) (state_of self.new) }
+        ensures { Detaches J.SessionSeat key (state_of self.old) (state_of self.new) }
     {
         self.connections.ask_to_go(key);
         if self.tell_leaving(rt, key) {
@@ -129,16 +122,15 @@ impl<S: Read + Write + Drop, G: Gate + Drop, J: SessionSeat + Drop> Loop<S, G, J
 
     // A connection ended or failed: what still waits for it is given up.
     pub(crate) fn lose(&mut self, rt: &impl Wait, key: usize)
-        ensures { Loses J.submits key (state_of self.old) (state_of self.new) }
+        ensures { Loses J.SessionSeat key (state_of self.old) (state_of self.new) }
     {
         self.connections.give_up(key);
         let _ = self.tell_leaving(rt, key);
     }
 
-    /// If the first message of `most` connections or more isn't done, the one that came first is told
-    /// to go, and closed.
+    /// If the first message of `most` connections or more isn't done, the one that came first is told to go and closed.
     pub fn let_oldest_go(&mut self, rt: &impl Wait, most: usize)
-        ensures { LetsOldestGo J.submits S.contents J.uncounts most (state_of self.old) (state_of self.new) }
+        ensures { LetsOldestGo J.SessionSeat S.contents most (state_of self.old) (state_of self.new) }
     {
         if count_new(&self.connections) < most {
             return;
@@ -163,16 +155,17 @@ impl<S: Read + Write + Drop, G: Gate + Drop, J: SessionSeat + Drop> Loop<S, G, J
 
     // All loops are told whether a window is full, if that is news.
     fn tell_full(&mut self, rt: &impl Wait, key: usize)
-        ensures { state_of self.new ≡ with_peer told_full key (state_of self.old) }
+        ensures { TellsFull J.SessionSeat key (state_of self.old) (state_of self.new) }
     {
-        if let Some((window, is_full)) = take_fullness(&mut self.connections, key) {
-            self.seat.set_full(rt, window, is_full);
-        }
+        let Some((window, is_full)) = take_fullness(&mut self.connections, key) else {
+            return;
+        };
+        self.seat.set_full(rt, window, is_full);
     }
 
     // If it was a guest, its user may have another one.
     fn part_with(&mut self, rt: &impl Wait, key: usize)
-        ensures { PartsWith J.uncounts key (state_of self.old) (state_of self.new) }
+        ensures { PartsWith J.SessionSeat key (state_of self.old) (state_of self.new) }
     {
         let Some((guest, why)) = take_guest(&mut self.connections, key) else {
             return;
@@ -183,7 +176,7 @@ impl<S: Read + Write + Drop, G: Gate + Drop, J: SessionSeat + Drop> Loop<S, G, J
 
     // What is closed goes, and what has nothing to do rests.
     fn settle(&mut self, rt: &impl Wait, key: usize)
-        ensures { Settles J.uncounts key (state_of self.old) (state_of self.new) }
+        ensures { Settles J.SessionSeat key (state_of self.old) (state_of self.new) }
     {
         self.tell_full(rt, key);
         self.part_with(rt, key);
@@ -191,15 +184,14 @@ impl<S: Read + Write + Drop, G: Gate + Drop, J: SessionSeat + Drop> Loop<S, G, J
     }
 
     pub(crate) fn sweep(&mut self, rt: &impl Wait)
-        ensures { VisitsAll (Settles J.uncounts) (state_of self.old) (state_of self.new) }
+        ensures { VisitsAll (Settles J.SessionSeat) (state_of self.old) (state_of self.new) }
     {
         each_awake(self, |own, key| own.settle(rt, key));
     }
 
     /// The server ends: guests are told so, and strangers are closed.
     pub fn finish(&mut self, rt: &impl Wait, end: ServerEnd)
-        ensures { Finishes J.submits J.takes S.contents J.uncounts end
-            (state_of self.old) (state_of self.new) }
+        ensures { Finishes J.SessionSeat S.contents end (state_of self.old) (state_of self.new) }
     {
         self.hand_out(rt);
         finish(&mut self.connections, end.why());

@@ -1,6 +1,8 @@
 //! One loop: its connections, its seat in the session, and what it still has to do.
 
-ghost use Rattle.std.specs.Prelude.{◌≡◌, IfOk, IfSome, None, Some, vec_len};
+ghost use Rattle.std.specs.Prelude.{◌≡◌, [], IfOk, IfSome, None, Some, false};
+ghost use Rattle.server_loop.specs.Awaiting.{HasWaiting, IsDue, IsFresh, Pends};
+ghost use Rattle.server_loop.specs.Submitting.{state_of};
 
 use crate::turn::OUTPUT;
 use server_connections::{Awaits, Connections, HasConnections, News, ServerEnd, SessionSeat};
@@ -9,8 +11,7 @@ use server_users::{Rations, Users};
 use std::alloc::{AllocError, Global};
 use std::time::Duration;
 
-// A read takes at most this many bytes: four of the longest frames, all but a few bytes. Half as many cost a
-// flood a tenth more processor time, and twice as many a fifth.
+// A read takes at most four of the longest frames. Half as much costs a flood a tenth more time, twice as much a fifth.
 const READ_SIZE: usize = 32_768;
 
 // At most this many news wait until they are taken. Later ones are left out.
@@ -79,8 +80,8 @@ impl<S, G, J> HasConnections<S> for Loop<S, G, J> {
 impl<S: Drop, G: Gate + Drop, J: SessionSeat + Drop> Loop<S, G, J> {
     /// One of this many loops.
     pub fn new(alloc: Global, seat: J, gate: G, loops: usize) -> Result<Loop<S, G, J>, AllocError>
-        ensures { IfOk result (λ own. (own.seat ≡ seat) × (own.end ≡ None)
-            × (vec_len own.reading.buffer ≡ 32768)) }
+        ensures fresh { IfOk result (λ own. IsFresh loops seat (state_of own)) }
+        ensures silent { IfOk result (λ own. (own.tells ≡ false) × (own.news.items ≡ [])) }
     {
         Ok(Loop {
             alloc,
@@ -114,23 +115,39 @@ impl<S: Drop, G: Gate + Drop, J: SessionSeat + Drop> Loop<S, G, J> {
     }
 
     /// The seat, once the loop is over.
-    pub fn into_seat(self) -> J {
+    pub fn into_seat(self) -> J
+        ensures { result ≡ self.seat }
+    {
         self.seat
     }
 
     /// Whether something is to be done at once, though no event will tell of it.
-    pub fn is_due(&self) -> bool {
-        let is_begun = self.is_behind || self.draws.from.is_some();
-        is_begun || self.connections.any_awaits(Awaits::Work)
+    pub fn is_due(&self) -> bool
+        ensures { IsDue (state_of self.entry.now) result }
+    {
+        if self.is_behind {
+            return true;
+        }
+        if self.draws.from.is_some() {
+            return true;
+        }
+        self.connections.any_awaits(Awaits::Work)
     }
 
     /// Whether something is to be tried again soon: there was no memory, or a message has to wait.
-    pub fn has_waiting(&self) -> bool {
-        self.has_refused || self.connections.any_awaits(Awaits::Ration)
+    pub fn has_waiting(&self) -> bool
+        ensures { HasWaiting (state_of self.entry.now) result }
+    {
+        if self.has_refused {
+            return true;
+        }
+        self.connections.any_awaits(Awaits::Ration)
     }
 
     /// What the loop is to do next, if no event comes.
-    pub fn pending(&self) -> Pending {
+    pub fn pending(&self) -> Pending
+        ensures { Pends (state_of self.entry.now) result }
+    {
         if self.is_due() {
             Pending::Work
         } else if self.has_waiting() {
@@ -142,8 +159,7 @@ impl<S: Drop, G: Gate + Drop, J: SessionSeat + Drop> Loop<S, G, J> {
         }
     }
 
-    /// Why the server is to end, if it is. It ends as at a full trail if nothing is written to the
-    /// trail's file any more.
+    /// Why the server is to end, if it is. It ends as at a full trail once nothing is written to the trail's file.
     pub fn end(&self) -> Option<ServerEnd>
         ensures known { IfSome self.entry.now.end (λ end. result ≡ Some end) }
         ensures stopped { self.entry.now.end ≡ None → IfSome result (λ end. end ≡ ServerEnd.TrailFull) }
@@ -165,7 +181,10 @@ impl<S: Drop, G: Gate + Drop, J: SessionSeat + Drop> Loop<S, G, J> {
     }
 
     /// Takes the news since the last call.
-    pub fn take_news(&mut self) -> Vec<News> {
+    pub fn take_news(&mut self) -> Vec<News>
+        ensures taken { result.items ≡ self.old.news.items }
+        ensures rest { (self.new ≡ record self.old { news = self.new.news }) × (self.new.news.items ≡ []) }
+    {
         let none = Vec::new(self.alloc);
         std::mem::replace(&mut self.news, none)
     }

@@ -1,29 +1,28 @@
 //! What peers ask for.
 
-ghost use Rattle.std.specs.Prelude.{◌≡◌, ℕ, List, IfSome, None, Contains, length, unwrap_or};
+ghost use Rattle.std.specs.Prelude.{◌≡◌, ◌++◌, IfSome, None, OnOk, Contains, length, unwrap_or};
 ghost use Rattle.slab.specs.Slab.{get};
 ghost use Rattle.session.specs.Texts.{text_of};
 ghost use Rattle.session.specs.Trace.{Output, happening};
 ghost use Rattle.server_inbox.specs.Asking.{advanced, piece_of};
 ghost use Rattle.server_loop.specs.Beginning.{Answers, Attempts, Begins, BeginsAs, Commands};
 ghost use Rattle.server_loop.specs.Beginning.{Enters, IsShown, Joins, LetsIn, SaysDone, SendsAway, TurnsAway};
-ghost use Rattle.server_loop.specs.Beginning.{known_of};
+ghost use Rattle.server_loop.specs.Beginning.{known_of, too_many};
 ghost use Rattle.server_loop.specs.Naming.{IsOf, NamesNobody};
-ghost use Rattle.server_loop.specs.Obeying.{FollowsUp, ObeysBy, OnFirst, Prints, SubmitsFor, printed};
+ghost use Rattle.server_loop.specs.Obeying.{FollowsUp, ObeysBy, Prints, SubmitsFor, printed};
 ghost use Rattle.server_loop.specs.Submitting.{state_of};
 ghost use Rattle.server_steps.specs.Meaning.{meaning_of, role_at};
 
 use crate::own::Loop;
 use attach_proto::{Message, Text, Token, Why};
-use server_connections::{
-    Asked, GuestKind, Name, News, SeatAnswer, SeatFault, Sending, SessionSeat,
-};
+use server_connections::{Asked, GuestKind, News, SeatAnswer, SeatFault, Sending, SessionSeat};
 use server_steps::{
-    Gate, Meaning, Progress, event_of, guest_of, is_extra, kind_of, make_guest, may_judge,
+    Gate, Meaning, Progress, event_of, guest_of, is_extra, kind_of, make_guest, many_of, may_judge,
     meaning_of, news_of, quit_if, quits, role_at, role_of, shown_in,
 };
 use server_users::{Shown, Users, authenticate};
-use session::{Done, Event, Refusal, Reply};
+use session::{Done, Event, Refusal, Reply, push_decimal};
+use std::alloc::AllocError;
 use std::io::{Read, Write};
 use std::sync::Wait;
 
@@ -39,14 +38,22 @@ struct Newcomer {
     kind: GuestKind,
 }
 
+// Appends what a user is told who has as many clients or windows as a user may have.
+fn say_most(newcomer: Newcomer, most: u8, out: &mut Vec<u8>) -> Result<(), AllocError>
+    ensures { OnOk result (out.new.items ≡ out.old.items ++ too_many newcomer.kind newcomer.user.user most) }
+{
+    out.extend_from_slice(many_of(newcomer.kind))?;
+    let user = newcomer.user.user();
+    out.extend_from_slice(user.as_bytes())?;
+    out.extend_from_slice(b": at most ")?;
+    push_decimal(u64::from(most), out)
+}
+
 impl<S: Read + Write + Drop, G: Gate + Drop, J: SessionSeat + Drop> Loop<S, G, J> {
     /// Does a message of a connection, or a step of it, as what it means.
     pub(crate) fn obey(&mut self, rt: &impl Wait, key: usize, asked: &mut Asked) -> Progress
-        ensures obeys { ObeysBy J.submits J.takes (meaning_of (role_at (get self.old.connections.peers key))
+        ensures { ObeysBy J.SessionSeat (meaning_of (role_at (get self.old.connections.peers key))
             asked.old.message) key asked.old asked.new (state_of self.old) result (state_of self.new) }
-        ensures begins { OnFirst (meaning_of (role_at (get self.old.connections.peers key)) asked.old.message)
-            (Begins J.submits J.counts J.uncounts J.takes (known_of J.known self.old) asked.old.message key
-            (state_of self.old) result (state_of self.new)) }
     {
         match meaning_of(role_at(&self.connections, key), &asked.message) {
             Meaning::First => self.begin(rt, key, &asked.message),
@@ -64,7 +71,7 @@ impl<S: Read + Write + Drop, G: Gate + Drop, J: SessionSeat + Drop> Loop<S, G, J
 
     // If there was no memory for a step, its connection is told to go.
     fn follow_up(&mut self, rt: &impl Wait, key: usize, answer: &Result<SeatAnswer, SeatFault>)
-        ensures { FollowsUp J.submits J.takes key answer.now (state_of self.old) (state_of self.new) }
+        ensures { FollowsUp J.SessionSeat key answer.now (state_of self.old) (state_of self.new) }
     {
         match answer {
             Ok(_) => {}
@@ -76,8 +83,7 @@ impl<S: Read + Write + Drop, G: Gate + Drop, J: SessionSeat + Drop> Loop<S, G, J
     // Submits an event whose answer nobody waits for. A refusal is passed over, unless there was no memory.
     pub(crate) fn change(&mut self, rt: &impl Wait, key: usize, event: Event)
         requires { NamesNobody (happening event) }
-        ensures { SubmitsFor J.submits J.takes (happening event.entry) key
-            (state_of self.old) (state_of self.new) }
+        ensures { SubmitsFor J.SessionSeat (happening event.entry) key (state_of self.old) (state_of self.new) }
     {
         let answer = self.submit(rt, event);
         self.follow_up(rt, key, &answer);
@@ -85,8 +91,7 @@ impl<S: Read + Write + Drop, G: Gate + Drop, J: SessionSeat + Drop> Loop<S, G, J
 
     // Submits the next piece of a window's output. Returns how many bytes it has.
     fn submit_piece(&mut self, rt: &impl Wait, key: usize, window: u32, asked: &Asked) -> usize
-        ensures step { SubmitsFor J.submits J.takes
-            (Output window (piece_of asked.now.message asked.now.done)) key
+        ensures step { SubmitsFor J.SessionSeat (Output window (piece_of asked.now.message asked.now.done)) key
             (state_of self.old) (state_of self.new) }
         ensures count { result ≡ length (piece_of asked.now.message asked.now.done) }
     {
@@ -97,8 +102,7 @@ impl<S: Read + Write + Drop, G: Gate + Drop, J: SessionSeat + Drop> Loop<S, G, J
 
     // A step takes a piece of a window's output.
     fn output(&mut self, rt: &impl Wait, key: usize, window: u32, asked: &mut Asked) -> Progress
-        ensures step { Prints J.submits J.takes window asked.old key
-            (state_of self.old) (state_of self.new) }
+        ensures step { Prints J.SessionSeat window asked.old key (state_of self.old) (state_of self.new) }
         ensures asked { asked.new ≡ advanced asked.old }
         ensures progress { result ≡ printed asked.new }
     {
@@ -123,9 +127,9 @@ impl<S: Read + Write + Drop, G: Gate + Drop, J: SessionSeat + Drop> Loop<S, G, J
 
     /// The user of this name who showed this token, if it is theirs.
     pub fn user_of(&self, name: &Text, token: &Token) -> Option<Shown>
-        ensures shown { IfSome result (IsShown (known_of J.known self.entry.now).users
+        ensures shown { IfSome result (IsShown (known_of J.SessionSeat (state_of self.entry.now))
             (record { name = name.now; token = token.now })) }
-        ensures none { result ≡ None → ¬ (Contains (known_of J.known self.entry.now).users
+        ensures none { result ≡ None → ¬ (Contains (known_of J.SessionSeat (state_of self.entry.now))
             (record { name = name.now; token = token.now })) }
     {
         match authenticate(self.known(), name.as_str().as_bytes(), token) {
@@ -136,7 +140,7 @@ impl<S: Read + Write + Drop, G: Gate + Drop, J: SessionSeat + Drop> Loop<S, G, J
 
     // A connection is told why it can't stay, and goes.
     fn turn_away(&mut self, rt: &impl Wait, key: usize, text: &[u8])
-        ensures { TurnsAway J.submits text.now key (state_of self.old) (state_of self.new) }
+        ensures { TurnsAway J.SessionSeat text.now key (state_of self.old) (state_of self.new) }
     {
         self.send(rt, key, Sending::Say(text));
         self.dismiss(key, Why::Fault);
@@ -144,7 +148,7 @@ impl<S: Read + Write + Drop, G: Gate + Drop, J: SessionSeat + Drop> Loop<S, G, J
 
     // A connection is told why its event was refused, and goes.
     fn refuse(&mut self, rt: &impl Wait, key: usize, refusal: &Refusal)
-        ensures { SendsAway J.submits (text_of refusal.now) key (state_of self.old) (state_of self.new) }
+        ensures { SendsAway J.SessionSeat (text_of refusal.now) key (state_of self.old) (state_of self.new) }
     {
         let mut text = Vec::new(self.alloc);
         match refusal.text(&mut text) {
@@ -155,8 +159,7 @@ impl<S: Read + Write + Drop, G: Gate + Drop, J: SessionSeat + Drop> Loop<S, G, J
 
     // Judges the first message of a connection.
     fn begin(&mut self, rt: &impl Wait, key: usize, message: &Message) -> Progress
-        ensures { Begins J.submits J.counts J.uncounts J.takes (known_of J.known self.old)
-            message.now key (state_of self.old) result (state_of self.new) }
+        ensures { Begins J.SessionSeat message.now key (state_of self.old) result (state_of self.new) }
     {
         let Some((name, token)) = shown_in(message) else {
             self.fault(rt, key);
@@ -176,8 +179,7 @@ impl<S: Read + Write + Drop, G: Gate + Drop, J: SessionSeat + Drop> Loop<S, G, J
     }
 
     fn begin_as(&mut self, rt: &impl Wait, key: usize, user: Shown, message: &Message) -> Progress
-        ensures { BeginsAs J.submits J.counts J.uncounts user message.now key
-            (state_of self.old) result (state_of self.new) }
+        ensures { BeginsAs J.SessionSeat user message.now key (state_of self.old) result (state_of self.new) }
     {
         let Some(event) = event_of(user, message) else {
             return Progress::Done;
@@ -197,7 +199,8 @@ impl<S: Read + Write + Drop, G: Gate + Drop, J: SessionSeat + Drop> Loop<S, G, J
         event: Event,
     ) -> Result<SeatAnswer, Progress>
         requires { IsOf user.user (happening event) }
-        ensures { Attempts J.submits (happening event.entry) key (state_of self.old) result (state_of self.new) }
+        ensures { Attempts J.SessionSeat user.user (happening event.entry) key
+            (state_of self.old) result (state_of self.new) }
     {
         match self.try_for(rt, user, event) {
             Ok(Some(answer)) => Ok(answer),
@@ -212,7 +215,7 @@ impl<S: Read + Write + Drop, G: Gate + Drop, J: SessionSeat + Drop> Loop<S, G, J
     // A connection becomes a client or a window, unless its user has as many as a user may have.
     fn join(&mut self, rt: &impl Wait, newcomer: Newcomer, event: Event) -> Progress
         requires { IsOf newcomer.user.user (happening event) }
-        ensures { Joins J.submits J.counts J.uncounts newcomer.user newcomer.kind
+        ensures { Joins J.SessionSeat newcomer.user newcomer.kind
             (happening event.entry) newcomer.key (state_of self.old) result (state_of self.new) }
     {
         let Newcomer { key, user, kind } = newcomer;
@@ -238,7 +241,7 @@ impl<S: Read + Write + Drop, G: Gate + Drop, J: SessionSeat + Drop> Loop<S, G, J
 
     // What comes of the answer: the connection becomes a client or a window, or is told why not.
     fn enter(&mut self, rt: &impl Wait, newcomer: Newcomer, reply: &Reply)
-        ensures { Enters J.submits J.counts J.uncounts newcomer.user newcomer.kind reply.now
+        ensures { Enters J.SessionSeat newcomer.user newcomer.kind reply.now
             newcomer.key (state_of self.old) (state_of self.new) }
     {
         match reply {
@@ -251,7 +254,7 @@ impl<S: Read + Write + Drop, G: Gate + Drop, J: SessionSeat + Drop> Loop<S, G, J
     }
 
     fn let_in(&mut self, rt: &impl Wait, newcomer: Newcomer, done: &Done)
-        ensures { LetsIn J.submits newcomer.user newcomer.kind done.now newcomer.key
+        ensures { LetsIn J.SessionSeat newcomer.user newcomer.kind done.now newcomer.key
             (state_of self.old) (state_of self.new) }
     {
         let Newcomer { key, user, kind } = newcomer;
@@ -265,7 +268,8 @@ impl<S: Read + Write + Drop, G: Gate + Drop, J: SessionSeat + Drop> Loop<S, G, J
     // No effect tells of a `quit` if no window is open and nobody is attached, so its line is read here too.
     fn command(&mut self, rt: &impl Wait, key: usize, user: Shown, event: Event) -> Progress
         requires { IsOf user.user (happening event) }
-        ensures { Commands J.submits (happening event.entry) key (state_of self.old) result (state_of self.new) }
+        ensures { Commands J.SessionSeat user.user (happening event.entry) key
+            (state_of self.old) result (state_of self.new) }
     {
         let Ok(is_quit) = quits(self.alloc, event) else {
             self.dismiss(key, Why::Fault);
@@ -283,7 +287,7 @@ impl<S: Read + Write + Drop, G: Gate + Drop, J: SessionSeat + Drop> Loop<S, G, J
 
     // Tells a connection what its command lists, and lets it go.
     fn say_done(&mut self, rt: &impl Wait, key: usize, done: &Done)
-        ensures { SaysDone J.submits done.now.text key (state_of self.old) (state_of self.new) }
+        ensures { SaysDone J.SessionSeat done.now.text key (state_of self.old) (state_of self.new) }
     {
         if let Some(text) = &done.text {
             self.send(rt, key, Sending::Say(text.as_slice()));
@@ -293,7 +297,7 @@ impl<S: Read + Write + Drop, G: Gate + Drop, J: SessionSeat + Drop> Loop<S, G, J
 
     // Tells a connection the answer to its command.
     fn tell_answer(&mut self, rt: &impl Wait, key: usize, reply: &Reply, is_quit: bool)
-        ensures { Answers J.submits is_quit reply.now key (state_of self.old) (state_of self.new) }
+        ensures { Answers J.SessionSeat is_quit reply.now key (state_of self.old) (state_of self.new) }
     {
         self.send(rt, key, Sending::Message(&Message::Welcome(0)));
         match reply {
@@ -307,11 +311,12 @@ impl<S: Read + Write + Drop, G: Gate + Drop, J: SessionSeat + Drop> Loop<S, G, J
 
     // Tells a connection that its user has as many clients or windows as a user may have.
     fn say_too_many(&mut self, rt: &impl Wait, newcomer: Newcomer, most: u8)
-        ensures { (text : List ℕ) × SendsAway J.submits text newcomer.key (state_of self.old) (state_of self.new) }
+        ensures { SendsAway J.SessionSeat (too_many newcomer.kind newcomer.user.user most) newcomer.key
+            (state_of self.old) (state_of self.new) }
     {
-        let (kind, name) = (newcomer.kind.word(), Name(newcomer.user.user()));
-        match format!(in self.alloc; "too many {kind}s of {name}: at most {most}") {
-            Ok(text) => self.turn_away(rt, newcomer.key, text.as_bytes()),
+        let mut text = Vec::new(self.alloc);
+        match say_most(newcomer, most, &mut text) {
+            Ok(()) => self.turn_away(rt, newcomer.key, &text),
             Err(_) => self.dismiss(newcomer.key, Why::Fault),
         }
     }

@@ -23,14 +23,13 @@ use session::{Effect, Event, Reason};
 use std::io::{Read, Write};
 use std::sync::Wait;
 
-// At most this many draws are asked for in a turn. The others follow in the next turns, and keys are
-// read between.
+// At most this many draws are asked for in a turn. The others follow in the next turns, and keys are read between.
 const DRAWS: usize = 16;
 
 impl<S: Read + Write + Drop, G: Gate + Drop, J: SessionSeat + Drop> Loop<S, G, J> {
     // Puts something after what waits for a connection, which is told to go if that can't be done.
     pub(crate) fn send(&mut self, rt: &impl Wait, key: usize, sending: Sending)
-        ensures { SendsTo J.submits key (Sends sending.entry) (SendsFront sending.entry)
+        ensures { SendsTo J.SessionSeat key (Sends sending.entry) (SendsFront sending.entry)
             (state_of self.old) (state_of self.new) }
     {
         if self.connections.put_into(key, sending) {
@@ -49,7 +48,7 @@ impl<S: Read + Write + Drop, G: Gate + Drop, J: SessionSeat + Drop> Loop<S, G, J
 
     // Puts something for a client or a window. Its connection is told to go if that can't be done.
     fn hand(&mut self, rt: &impl Wait, role: Role, sending: Sending)
-        ensures { HandsFor J.submits role (Sends sending.entry) (SendsFront sending.entry)
+        ensures { HandsFor J.SessionSeat role (Sends sending.entry) (SendsFront sending.entry)
             (state_of self.old) (state_of self.new) }
     {
         match self.connections.put_for(role, sending) {
@@ -60,7 +59,7 @@ impl<S: Read + Write + Drop, G: Gate + Drop, J: SessionSeat + Drop> Loop<S, G, J
 
     // Puts an effect into the connection that it is for.
     fn hand_one(&mut self, rt: &impl Wait, effect: &Effect, typist: Option<UserId>)
-        ensures { Hands J.submits effect.now typist (state_of self.old) (state_of self.new) }
+        ensures { Hands J.SessionSeat effect.now typist (state_of self.old) (state_of self.new) }
     {
         match effect {
             Effect::Input(window, bytes) => self.hand(
@@ -97,7 +96,7 @@ impl<S: Read + Write + Drop, G: Gate + Drop, J: SessionSeat + Drop> Loop<S, G, J
 
     // Puts these effects into their connections.
     fn hand_all(&mut self, rt: &impl Wait, effects: &[(Effect, Option<UserId>)])
-        ensures { HandsAll J.submits effects.now (state_of self.old) (state_of self.new) }
+        ensures { HandsAll J.SessionSeat effects.now (state_of self.old) (state_of self.new) }
     {
         'effects: for sent in effects {
             let (effect, typist) = sent;
@@ -107,7 +106,7 @@ impl<S: Read + Write + Drop, G: Gate + Drop, J: SessionSeat + Drop> Loop<S, G, J
 
     // Takes the effects that wait for the loop's peers, and puts them into their connections.
     pub(crate) fn hand_out(&mut self, rt: &impl Wait)
-        ensures { HandsOut J.submits J.takes (state_of self.old) (state_of self.new) }
+        ensures { HandsOut J.SessionSeat (state_of self.old) (state_of self.new) }
     {
         self.is_behind = false;
         let (effects, is_told) = self.seat.take(rt);
@@ -118,7 +117,7 @@ impl<S: Read + Write + Drop, G: Gate + Drop, J: SessionSeat + Drop> Loop<S, G, J
 
     // Takes out what a user typed into a window, if they may not type into it any more.
     fn drop_of(&mut self, rt: &impl Wait, key: usize, window: u32, user: UserId)
-        ensures { DropsOf J.lets_type key window user (state_of self.old) (state_of self.new) }
+        ensures { DropsOf J.SessionSeat key window user (state_of self.old) (state_of self.new) }
     {
         if self.seat.may_type(rt, user, window) {
             return;
@@ -128,7 +127,7 @@ impl<S: Read + Write + Drop, G: Gate + Drop, J: SessionSeat + Drop> Loop<S, G, J
 
     // Takes out of what waits for a window what users typed who may not type into it any more.
     fn drop_typed(&mut self, rt: &impl Wait, key: usize)
-        ensures { DropsTyped J.lets_type (role_at (get self.old.connections.peers key)) key
+        ensures { DropsTyped J.SessionSeat (role_at (get self.old.connections.peers key)) key
             (state_of self.old) (state_of self.new) }
     {
         let Role::Window(window) = role_at(&self.connections, key) else {
@@ -146,7 +145,7 @@ impl<S: Read + Write + Drop, G: Gate + Drop, J: SessionSeat + Drop> Loop<S, G, J
 
     // After a step that may have taken a right, what was typed by those who lost theirs isn't written.
     pub(crate) fn drop_all_typed(&mut self, rt: &impl Wait)
-        ensures { DropsLost J.lets_type (state_of self.old) (state_of self.new) }
+        ensures { DropsLost J.SessionSeat (state_of self.old) (state_of self.new) }
     {
         if !self.may_have_lost {
             return;
@@ -157,7 +156,7 @@ impl<S: Read + Write + Drop, G: Gate + Drop, J: SessionSeat + Drop> Loop<S, G, J
 
     // Writes what waits for a connection, until it takes no more for now.
     fn write_to(&mut self, rt: &impl Wait, key: usize)
-        ensures { Writes J.submits S.contents key (state_of self.old) (state_of self.new) }
+        ensures { Writes J.SessionSeat S.contents key (state_of self.old) (state_of self.new) }
     {
         if !write(&mut self.connections, key) {
             return;
@@ -166,14 +165,14 @@ impl<S: Read + Write + Drop, G: Gate + Drop, J: SessionSeat + Drop> Loop<S, G, J
     }
 
     pub(crate) fn write_all(&mut self, rt: &impl Wait)
-        ensures { VisitsAll (Writes J.submits S.contents) (state_of self.old) (state_of self.new) }
+        ensures { VisitsAll (Writes J.SessionSeat S.contents) (state_of self.old) (state_of self.new) }
     {
         each_awake(self, |own, key| own.write_to(rt, key));
     }
 
     // Asks for a client's draw. If there is no memory for it, it is asked for in a later turn.
     fn draw(&mut self, rt: &impl Wait, key: usize, client: u32)
-        ensures { Draws J.submits client key (state_of self.old) (state_of self.new) }
+        ensures { Draws J.SessionSeat client key (state_of self.old) (state_of self.new) }
     {
         match self.submit(rt, Event::Draw { client }) {
             Ok(_) => {
@@ -185,10 +184,9 @@ impl<S: Read + Write + Drop, G: Gate + Drop, J: SessionSeat + Drop> Loop<S, G, J
         }
     }
 
-    // Asks for the draw of a client if it waits for one, and if this many more may be drawn. Returns how many
-    // more may be after it; None if no more may be.
+    // Asks for a client's draw if it wants one. Returns how many more may be made after it; None if it has to wait.
     fn draw_next(&mut self, rt: &impl Wait, key: usize, most: usize) -> Option<usize>
-        ensures { DrawsNext J.submits key most (state_of self.old) result (state_of self.new) }
+        ensures { DrawsNext J.SessionSeat key most (state_of self.old) result (state_of self.new) }
     {
         let Some(client) = wanting(&self.connections, key) else {
             return Some(most);
@@ -200,10 +198,9 @@ impl<S: Read + Write + Drop, G: Gate + Drop, J: SessionSeat + Drop> Loop<S, G, J
         Some(most - 1)
     }
 
-    // Asks for draws of the clients that wait for one, from a key on. Returns the key from which it
-    // is to go on in the next turn, if some are left.
+    // Asks for draws of clients that want one, from a key on. Returns the key with which the next turn goes on, if any.
     fn draw_some(&mut self, rt: &impl Wait, from: usize) -> Option<usize>
-        ensures { DrawsFrom J.submits (self.old.connections.peers.capacity - from) from 16
+        ensures { DrawsFrom J.SessionSeat (self.old.connections.peers.capacity - from) from 16
             (state_of self.old) result (state_of self.new) }
     {
         let mut left = DRAWS;
@@ -229,7 +226,7 @@ impl<S: Read + Write + Drop, G: Gate + Drop, J: SessionSeat + Drop> Loop<S, G, J
 
     // What came of steps is handed out and written.
     fn hand_on(&mut self, rt: &impl Wait)
-        ensures { HandsOn J.submits J.takes S.contents (state_of self.old) (state_of self.new) }
+        ensures { HandsOn J.SessionSeat S.contents (state_of self.old) (state_of self.new) }
     {
         if !self.is_behind {
             return;
@@ -240,8 +237,7 @@ impl<S: Read + Write + Drop, G: Gate + Drop, J: SessionSeat + Drop> Loop<S, G, J
 
     // Asks for draws from a key on, and hands them out.
     fn draw_round(&mut self, rt: &impl Wait, from: usize, is_held: bool)
-        ensures { DrawsRound J.submits J.takes S.contents from is_held
-            (state_of self.old) (state_of self.new) }
+        ensures { DrawsRound J.SessionSeat S.contents from is_held (state_of self.old) (state_of self.new) }
     {
         self.tell_all();
         let next = self.draw_some(rt, from);
@@ -251,7 +247,7 @@ impl<S: Read + Write + Drop, G: Gate + Drop, J: SessionSeat + Drop> Loop<S, G, J
 
     // Asks for draws unless they are held, or goes on with those that were begun, and hands them out.
     pub(crate) fn draw_all(&mut self, rt: &impl Wait, is_held: bool)
-        ensures { DrawsAll J.submits J.takes S.contents is_held (state_of self.old) (state_of self.new) }
+        ensures { DrawsAll J.SessionSeat S.contents is_held (state_of self.old) (state_of self.new) }
     {
         let Some(from) = drawn_from(self.draws.from, is_held) else {
             return;
@@ -261,7 +257,7 @@ impl<S: Read + Write + Drop, G: Gate + Drop, J: SessionSeat + Drop> Loop<S, G, J
 
     // A connection for which too much waits is told so, and closed once it takes no more.
     fn drop_laggard(&mut self, rt: &impl Wait, key: usize)
-        ensures { DropsLaggard J.submits S.contents key (state_of self.old) (state_of self.new) }
+        ensures { DropsLaggard J.SessionSeat S.contents key (state_of self.old) (state_of self.new) }
     {
         if !is_laggard(&self.connections, key) {
             return;
@@ -272,7 +268,7 @@ impl<S: Read + Write + Drop, G: Gate + Drop, J: SessionSeat + Drop> Loop<S, G, J
     }
 
     pub(crate) fn drop_laggards(&mut self, rt: &impl Wait)
-        ensures { VisitsAll (DropsLaggard J.submits S.contents) (state_of self.old) (state_of self.new) }
+        ensures { VisitsAll (DropsLaggard J.SessionSeat S.contents) (state_of self.old) (state_of self.new) }
     {
         each_awake(self, |own, key| own.drop_laggard(rt, key));
     }

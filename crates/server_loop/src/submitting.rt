@@ -4,34 +4,28 @@ ghost use Rattle.std.specs.Prelude.{◌≡◌};
 ghost use Rattle.session.specs.Trace.{happening};
 ghost use Rattle.server_steps.specs.Submitted.{nothing_submitted};
 ghost use Rattle.server_loop.specs.Naming.{IsOf, NamesNobody};
-ghost use Rattle.server_loop.specs.Submitting.{Submits, Tries, end_by, state_of};
+ghost use Rattle.server_loop.specs.Submitting.{Submits, end_by, state_of};
+ghost use Rattle.server_loop.specs.Trying.{Tries};
 
 use crate::own::Loop;
 use server_connections::{News, SeatAnswer, SeatFault, SessionSeat};
-use server_steps::{Gate, Submitted, entries_of, kept_of};
-use server_users::{Outcome, Shown, UNIT, price};
+use server_steps::{Gate, Submitted, came_of, entries_of, kept_of};
+use server_users::{Shown, UNIT, price};
 use session::Event;
 use std::sync::Wait;
 
 impl<S: Drop, G: Gate + Drop, J: SessionSeat + Drop> Loop<S, G, J> {
     /// Submits an event that names no user.
-    pub(crate) fn submit(
-        &mut self,
-        rt: &impl Wait,
-        event: Event<'_>,
-    ) -> Result<SeatAnswer, SeatFault>
+    pub(crate) fn submit(&mut self, rt: &impl Wait, event: Event) -> Result<SeatAnswer, SeatFault>
         requires { NamesNobody (happening event) }
-        ensures { Submits J.submits (happening event.entry)
-            (state_of self.old) result (state_of self.new) }
+        ensures { Submits J.SessionSeat (happening event.entry) (state_of self.old) result (state_of self.new) }
     {
         self.submit_any(rt, event)
     }
 
-    // Submits an event to the session that the loops share: one step, or none if it is refused. Notes how
-    // the server ends, if it does.
+    // Submits an event to the session: one step, or none if it is refused. Notes how the server ends, if it does.
     fn submit_any(&mut self, rt: &impl Wait, event: Event<'_>) -> Result<SeatAnswer, SeatFault>
-        ensures { Submits J.submits (happening event.entry)
-            (state_of self.old) result (state_of self.new) }
+        ensures { Submits J.SessionSeat (happening event.entry) (state_of self.old) result (state_of self.new) }
     {
         self.gate.before();
         let answer = self.seat.submit(rt, event);
@@ -66,23 +60,20 @@ impl<S: Drop, G: Gate + Drop, J: SessionSeat + Drop> Loop<S, G, J> {
         event: Event<'_>,
     ) -> Result<Option<SeatAnswer>, SeatFault>
         requires { IsOf shown.user (happening event) }
-        ensures { Tries J.submits (happening event.entry)
+        ensures { Tries J.SessionSeat shown.user (happening event.entry)
             (state_of self.old) result (state_of self.new) }
     {
         let user = shown.user();
-        let entries = entries_of(event);
-        let cost = price(entries, kept_of(event));
-        let now = self.now;
-        if !self.rations.may(user, now) || !self.seat.pay(rt, user, now, cost) {
+        let cost = price(entries_of(event), kept_of(event));
+        if !self.rations.may(user, self.now) {
             return Ok(None);
         }
-        self.rations.count(user, now, cost / UNIT);
+        if !self.seat.pay(rt, user, self.now, cost) {
+            return Ok(None);
+        }
+        self.rations.count(user, self.now, cost / UNIT);
         let answer = self.submit_any(rt, event);
-        let outcome = match &answer {
-            Ok(answer) => answer.outcome,
-            Err(_) => Outcome::Untaken,
-        };
-        self.seat.settle(rt, user, cost, outcome);
+        self.seat.settle(rt, user, cost, came_of(&answer));
         match answer {
             Ok(answer) => Ok(Some(answer)),
             Err(fault) => Err(fault),

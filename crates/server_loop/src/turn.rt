@@ -14,8 +14,8 @@ ghost use Rattle.server_loop.specs.Walking.{Repeats};
 use crate::own::Loop;
 use server_connections::{Arrival, PIECE, Role, SessionSeat, each_awake};
 use server_steps::{
-    Gate, Progress, Reads, Writes, drains, go_on, has_asked, is_due_again, is_faulty, is_window,
-    may_print, next_asked, put_back, read, role_at,
+    Gate, Progress, Reads, Writes, drains, go_on, has_asked, is_due_again, is_faulty, is_much,
+    is_window, may_print, next_asked, put_back, read, role_at,
 };
 use std::io::{Read, Write};
 use std::sync::Wait;
@@ -23,8 +23,7 @@ use std::sync::Wait;
 // A connection is read at most this many times before the others have their turn.
 const READS: usize = 16;
 
-// At most this many messages of a connection, or steps of one, are done before the others have their
-// turn.
+// At most this many messages of a connection, or steps of one, are done before the others have their turn.
 const STEPS: usize = 8;
 
 /// At most this many bytes of windows' output are done in a turn, but the last step may go beyond.
@@ -33,7 +32,7 @@ pub(crate) const OUTPUT: usize = 4 * PIECE;
 impl<S: Read + Write + Drop, G: Gate + Drop, J: SessionSeat + Drop> Loop<S, G, J> {
     // Does the message of a connection that comes next, or a step of it, if there is one.
     fn obey_next(&mut self, rt: &impl Wait, key: usize) -> Option<Progress>
-        ensures { ObeysNext J.submits J.takes key (state_of self.old) result (state_of self.new) }
+        ensures { ObeysNext J.SessionSeat key (state_of self.old) result (state_of self.new) }
     {
         let Some(mut asked) = next_asked(&mut self.connections, key) else {
             return None;
@@ -43,11 +42,9 @@ impl<S: Read + Write + Drop, G: Gate + Drop, J: SessionSeat + Drop> Loop<S, G, J
         Some(progress)
     }
 
-    // Does what a connection asked for first, or a step of it: a client's keys and sizes come before its
-    // messages.
+    // Does what a connection asked for first, or a step of it: a client's keys and sizes come before its messages.
     fn obey_first(&mut self, rt: &impl Wait, key: usize) -> Option<Progress>
-        ensures { Obeys J.submits J.takes J.finds_full J.lets_type
-            (role_at (get self.old.connections.peers key)) (millis_of self.old.now) key
+        ensures { Obeys J.SessionSeat (role_at (get self.old.connections.peers key)) (millis_of self.old.now) key
             (state_of self.old) result (state_of self.new) }
     {
         match role_at(&self.connections, key) {
@@ -62,8 +59,7 @@ impl<S: Read + Write + Drop, G: Gate + Drop, J: SessionSeat + Drop> Loop<S, G, J
 
     // Does something that a connection asked for, if it may be done now. Returns whether to go on.
     fn obey_step(&mut self, rt: &impl Wait, key: usize) -> bool
-        ensures { Steps J.submits J.takes J.finds_full J.lets_type key
-            (state_of self.old) result (state_of self.new) }
+        ensures { Steps J.SessionSeat key (state_of self.old) result (state_of self.new) }
     {
         if self.reading.output_left == 0 && is_window(&self.connections, key) {
             return false;
@@ -74,8 +70,7 @@ impl<S: Read + Write + Drop, G: Gate + Drop, J: SessionSeat + Drop> Loop<S, G, J
 
     // Does so much of what a connection asked for that the others have their turn.
     fn obey_steps(&mut self, rt: &impl Wait, key: usize)
-        ensures { Repeats (Steps J.submits J.takes J.finds_full J.lets_type key) 8
-            (state_of self.old) (state_of self.new) }
+        ensures { Repeats (Steps J.SessionSeat key) 8 (state_of self.old) (state_of self.new) }
     {
         'steps: for _ in 0..STEPS {
             if !self.obey_step(rt, key) {
@@ -86,22 +81,20 @@ impl<S: Read + Write + Drop, G: Gate + Drop, J: SessionSeat + Drop> Loop<S, G, J
 
     // Does some of what a connection asked for. Returns whether all of it is done.
     fn obey_some(&mut self, rt: &impl Wait, key: usize) -> bool
-        ensures { ObeysSome J.submits J.takes J.finds_full J.lets_type key
-            (state_of self.old) result (state_of self.new) }
+        ensures { ObeysSome J.SessionSeat key (state_of self.old) result (state_of self.new) }
     {
         self.obey_steps(rt, key);
         let faulty = is_faulty(&self.connections, key);
         self.fault_if(rt, key, faulty);
         let is_done = !has_asked(&self.connections, key);
-        let is_much = !is_done || self.reading.output_left < OUTPUT - PIECE;
-        self.reading.has_much |= is_much && is_window(&self.connections, key);
+        let is_much = is_much(&self.connections, key, is_done, self.reading.output_left);
+        self.reading.has_much |= is_much;
         is_done
     }
 
     // Does what a read brought. Returns whether to read on.
     fn serve_after(&mut self, rt: &impl Wait, key: usize, arrival: Arrival) -> bool
-        ensures { ServesAfter J.submits J.takes J.finds_full J.lets_type arrival key
-            (state_of self.old) result (state_of self.new) }
+        ensures { ServesAfter J.SessionSeat arrival key (state_of self.old) result (state_of self.new) }
     {
         match arrival {
             Arrival::Some => self.obey_some(rt, key),
@@ -124,11 +117,9 @@ impl<S: Read + Write + Drop, G: Gate + Drop, J: SessionSeat + Drop> Loop<S, G, J
         }
     }
 
-    // Reads what a connection sent, once all that it asked for before is done or is late, and does some
-    // of it. Returns whether to read on.
+    // Reads a connection once all that it asked for is done or is late, and does some of it. Returns whether to go on.
     fn serve_once(&mut self, rt: &impl Wait, key: usize) -> bool
-        ensures { ServesOnce S.remaining J.submits J.takes J.finds_full J.lets_type key
-            (state_of self.old) result (state_of self.new) }
+        ensures { ServesOnce J.SessionSeat S.remaining key (state_of self.old) result (state_of self.new) }
     {
         let now = self.millis();
         let buffer = self.reading.buffer.as_mut_slice();
@@ -137,8 +128,7 @@ impl<S: Read + Write + Drop, G: Gate + Drop, J: SessionSeat + Drop> Loop<S, G, J
     }
 
     fn serve_often(&mut self, rt: &impl Wait, key: usize)
-        ensures { Repeats (ServesOnce S.remaining J.submits J.takes J.finds_full J.lets_type key) 16
-            (state_of self.old) (state_of self.new) }
+        ensures { Repeats (ServesOnce J.SessionSeat S.remaining key) 16 (state_of self.old) (state_of self.new) }
     {
         'reads: for _ in 0..READS {
             if !self.serve_once(rt, key) {
@@ -150,8 +140,7 @@ impl<S: Read + Write + Drop, G: Gate + Drop, J: SessionSeat + Drop> Loop<S, G, J
     // A connection has its turn, if it has something to read or to do. Returns whether it has.
     fn serve(&mut self, rt: &impl Wait, key: usize) -> bool
         ensures due { result ≡ is_due_at (get self.old.connections.peers key) }
-        ensures serves { Serves S.remaining J.submits J.takes J.finds_full J.lets_type key
-            (state_of self.old) (state_of self.new) }
+        ensures serves { Serves J.SessionSeat S.remaining key (state_of self.old) (state_of self.new) }
     {
         if !is_due_again(&mut self.connections, key) {
             return false;
@@ -162,8 +151,7 @@ impl<S: Read + Write + Drop, G: Gate + Drop, J: SessionSeat + Drop> Loop<S, G, J
 
     // A client or a stranger has its turn.
     fn serve_other(&mut self, rt: &impl Wait, key: usize)
-        ensures { ServesOther S.remaining J.submits J.takes J.finds_full J.lets_type key
-            (state_of self.old) (state_of self.new) }
+        ensures { ServesOther J.SessionSeat S.remaining key (state_of self.old) (state_of self.new) }
     {
         if is_window(&self.connections, key) {
             return;
@@ -173,8 +161,7 @@ impl<S: Read + Write + Drop, G: Gate + Drop, J: SessionSeat + Drop> Loop<S, G, J
 
     // A window has its turn if it is its turn by now, and if output may still be done.
     fn serve_window(&mut self, rt: &impl Wait, key: usize, is_next: bool)
-        ensures { ServesWindow S.remaining J.submits J.takes J.finds_full J.lets_type is_next key
-            (state_of self.old) (state_of self.new) }
+        ensures { ServesWindow J.SessionSeat S.remaining is_next key (state_of self.old) (state_of self.new) }
     {
         if !may_print(&self.connections, key, is_next, self.reading.output_left) {
             return;
@@ -184,8 +171,7 @@ impl<S: Read + Write + Drop, G: Gate + Drop, J: SessionSeat + Drop> Loop<S, G, J
         }
     }
 
-    // All connections have their turn, keys before output. Windows begin after the one that had its
-    // turn last. They wait while a crowd is drawn, so that all of it is drawn the same.
+    // All connections have their turn, keys before output. Windows take turns, and wait while a crowd is drawn.
     fn serve_all(&mut self, rt: &impl Wait) {
         each_awake(self, |own, key| own.serve_other(rt, key));
         if self.draws.from.is_some() {
@@ -197,8 +183,7 @@ impl<S: Read + Write + Drop, G: Gate + Drop, J: SessionSeat + Drop> Loop<S, G, J
         each_awake(self, |own, key| own.serve_window(rt, key, key < first));
     }
 
-    /// Reads what is there to be read and does it, so much of each connection that the others have
-    /// their turn.
+    /// Reads what is there to be read and does it, so much of each connection that the others have their turn.
     pub fn read_all(&mut self, rt: &impl Wait) -> Reads {
         self.reading.has_typed = false;
         self.reading.has_much = false;
@@ -213,8 +198,7 @@ impl<S: Read + Write + Drop, G: Gate + Drop, J: SessionSeat + Drop> Loop<S, G, J
     /// Ends a turn: hands out what came of it, writes, asks for draws unless they are held, and lets
     /// go what is closed. It goes on with a crowd's draws that were begun, even if draws are held.
     pub fn end_turn(&mut self, rt: &impl Wait, holds_draws: bool) -> Writes
-        ensures { EndsTurn J.submits J.takes J.lets_type S.contents J.uncounts holds_draws
-            (state_of self.old) result (state_of self.new) }
+        ensures { EndsTurn J.SessionSeat S.contents holds_draws (state_of self.old) result (state_of self.new) }
     {
         self.has_refused = false;
         self.draws.made = 0;

@@ -9,7 +9,7 @@ use crate::own::Loop;
 use server_connections::{Sending, SessionSeat};
 use server_steps::{
     Gate, Gathered, Progress, Target, answer_keys, free_keys, free_strayed, gather, has_keys,
-    hold_keys, idle_at, is_refused, next_size, take_keys, take_news, target_at, user_at,
+    hold_keys, idle_at, is_judged, is_refused, next_size, take_keys, take_news, target_at, user_at,
     wants_size,
 };
 use server_users::Shown;
@@ -27,10 +27,9 @@ impl<S: Read + Write + Drop, G: Gate + Drop, J: SessionSeat + Drop> Loop<S, G, J
         u64::try_from(self.now.as_millis()).unwrap_or(u64::MAX)
     }
 
-    // Does what a client's next keys and sizes ask for: a step of them, unless it has to wait. None if
-    // there are none.
+    // Does what a client's next keys and sizes ask for: a step of them, unless it has to wait. None if there are none.
     pub(crate) fn typed(&mut self, rt: &impl Wait, key: usize, client: u32) -> Option<Progress>
-        ensures { Types J.submits J.takes J.finds_full J.lets_type (millis_of self.old.now) key client
+        ensures { Types J.SessionSeat (millis_of self.old.now) key client
             (state_of self.old) result (state_of self.new) }
     {
         let now = self.millis();
@@ -47,7 +46,7 @@ impl<S: Read + Write + Drop, G: Gate + Drop, J: SessionSeat + Drop> Loop<S, G, J
 
     // Does what a client's keys and sizes ask for that were taken in: all that came next, or some.
     fn type_on(&mut self, rt: &impl Wait, key: usize, client: u32, all: bool) -> Option<Progress>
-        ensures { TypesOn J.submits J.takes J.finds_full J.lets_type (millis_of self.old.now) key client
+        ensures { TypesOn J.SessionSeat (millis_of self.old.now) key client
             all (state_of self.old) result (state_of self.new) }
     {
         let now = self.millis();
@@ -62,24 +61,21 @@ impl<S: Read + Write + Drop, G: Gate + Drop, J: SessionSeat + Drop> Loop<S, G, J
 
     // Tells the session the last size that a client told, if it may change now.
     fn resize(&mut self, rt: &impl Wait, key: usize, client: u32, now: u64)
-        ensures { Resizes J.submits J.takes now key client (state_of self.old) (state_of self.new) }
+        ensures { Resizes J.SessionSeat now key client (state_of self.old) (state_of self.new) }
     {
         if let Some((rows, columns)) = next_size(&mut self.connections, key, now) {
-            self.change(
-                rt,
-                key,
-                Event::Resize {
-                    client,
-                    rows,
-                    columns,
-                },
-            );
+            let event = Event::Resize {
+                client,
+                rows,
+                columns,
+            };
+            self.change(rt, key, event);
         }
     }
 
     // Tells a client that keys of it were dropped, at most once a second.
     fn say_dropped(&mut self, rt: &impl Wait, key: usize, now: u64)
-        ensures { TellsDropped J.submits now key (state_of self.old) (state_of self.new) }
+        ensures { TellsDropped J.SessionSeat now key (state_of self.old) (state_of self.new) }
     {
         if take_news(&mut self.connections, key, now) {
             self.send(rt, key, Sending::Say(DROPPED.as_bytes()));
@@ -88,7 +84,7 @@ impl<S: Read + Write + Drop, G: Gate + Drop, J: SessionSeat + Drop> Loop<S, G, J
 
     // Whether the window that keys are for takes no more for now. Those that begin a command don't wait for that.
     fn is_stopped(&self, rt: &impl Wait, target: Target) -> bool
-        ensures { Stops J.finds_full target self.entry.now.seat result }
+        ensures { Stops J.SessionSeat target self.entry.now.seat result }
     {
         if target.begins_command {
             return false;
@@ -98,7 +94,7 @@ impl<S: Read + Write + Drop, G: Gate + Drop, J: SessionSeat + Drop> Loop<S, G, J
 
     // Whether the keys that wait have to wait on. If their user may not type any more, none wait.
     fn must_wait(&mut self, rt: &impl Wait, key: usize) -> bool
-        ensures { MustWait J.finds_full J.lets_type key (state_of self.old) result (state_of self.new) }
+        ensures { MustWait J.SessionSeat key (state_of self.old) result (state_of self.new) }
     {
         let Some(target) = target_at(&self.connections, key) else {
             return false;
@@ -120,8 +116,7 @@ impl<S: Read + Write + Drop, G: Gate + Drop, J: SessionSeat + Drop> Loop<S, G, J
     // Does a step of the keys that wait, unless they have to wait on: for a size that was told before them, or for
     // their window. Keys that were held and can't be done are as old as they are if it isn't known where they go.
     fn judge_or_wait(&mut self, rt: &impl Wait, key: usize, client: u32) -> Progress
-        ensures { JudgesOrWaits J.submits J.takes J.finds_full J.lets_type key client
-            (state_of self.old) result (state_of self.new) }
+        ensures { JudgesOrWaits J.SessionSeat key client (state_of self.old) result (state_of self.new) }
     {
         if wants_size(&self.connections, key) {
             return Progress::Held;
@@ -134,10 +129,9 @@ impl<S: Read + Write + Drop, G: Gate + Drop, J: SessionSeat + Drop> Loop<S, G, J
         progress
     }
 
-    // Submits a step of the keys that wait, if their user may cause one more entry. It judges them up to
-    // the first command; the rest is the next step's.
+    // Submits a step of the keys that wait, up to the first command, if their user may cause one more entry.
     fn judge(&mut self, rt: &impl Wait, key: usize, client: u32) -> Progress
-        ensures { Judges J.submits J.takes key client (state_of self.old) result (state_of self.new) }
+        ensures { Judges J.SessionSeat key client (state_of self.old) result (state_of self.new) }
     {
         let Some(shown) = user_at(&self.connections, key) else {
             return Progress::Done;
@@ -150,20 +144,20 @@ impl<S: Read + Write + Drop, G: Gate + Drop, J: SessionSeat + Drop> Loop<S, G, J
 
     // Submits the keys that wait for a user who showed their token.
     fn judge_for(&mut self, rt: &impl Wait, key: usize, client: u32, shown: Shown) -> Progress
-        ensures { JudgesKeys J.submits J.takes key client (state_of self.old) result (state_of self.new) }
+        ensures { JudgesKeys J.SessionSeat key client shown (state_of self.old) result (state_of self.new) }
     {
         let typed = take_keys(self.alloc, &mut self.connections, key);
         let bytes = typed.keys();
         let answer = self.try_for(rt, shown, Event::Keys { client, bytes });
         let progress = answer_keys(&mut self.connections, key, typed, &answer);
-        self.reading.has_typed |= progress != Progress::Held;
+        self.reading.has_typed |= is_judged(progress);
         self.fault_if(rt, key, is_refused(&answer));
         progress
     }
 
     // If there was no memory for a step, its connection is told to go.
     pub(crate) fn fault_if(&mut self, rt: &impl Wait, key: usize, is_refused: bool)
-        ensures { FaultsIf J.submits J.takes is_refused key (state_of self.old) (state_of self.new) }
+        ensures { FaultsIf J.SessionSeat is_refused key (state_of self.old) (state_of self.new) }
     {
         if is_refused {
             self.fault(rt, key);

@@ -15,20 +15,18 @@ returns-in-None g c =
     let J = g.J.SessionSeat in
     let old = state_of c.args.self.now in
     let new = state_of c.turn_away.new.self in
-    let known = known_of J.known c.args.self.now in
     let entry : Entry = record { name = c.in-Some.name.now; token = c.in-Some.token.now } in
     let shown : shown_in c.args.message.now ≡ Some entry = search rules in
     let yes : c.may_judge.result ≡ true = search rules in
-    let may : may_judge known.looked (get c.args.self.now.connections.peers c.args.key) ≡ true =
+    let may : may_judge old.looked (get c.args.self.now.connections.peers c.args.key) ≡ true =
     sym c.may_judge.ensures ∙ yes in
-    let told : TurnsAway J.submits (codes "unknown user or wrong token") c.args.key old new = subst
-    (λ (s : State g.row.S.Denot g.row.J.Denot). TurnsAway J.submits (codes "unknown user or wrong token")
-    c.args.key s new) (ap (λ (l : Loop g.row.S.Denot g.row.G.Denot g.row.J.Denot). state_of l) c.tell.ensures)
+    let told : TurnsAway J (codes "unknown user or wrong token") c.args.key old new = subst
+    (λ (s : State g.row.S.Denot g.row.J.Denot). TurnsAway J (codes "unknown user or wrong token") c.args.key s new)
+    (ap (λ (l : Loop g.row.S.Denot g.row.G.Denot g.row.J.Denot). state_of l) c.tell.ensures)
     c.turn_away.ensures in
-    let judged : Judges J.submits J.counts J.uncounts known.users entry c.args.message.now c.args.key old Done new =
+    let judged : Judges J (known_of J old) entry c.args.message.now c.args.key old Done new =
     inl (c.user_of.ensures.none c.in-None.is, refl, told) in
-    subst (λ (o : Option Entry). BeginsWith J.submits J.counts J.uncounts J.takes known o c.args.message.now
-    c.args.key old Done new) (sym shown)
-    (if_true (may_judge known.looked (get c.args.self.now.connections.peers c.args.key))
-    (Judges J.submits J.counts J.uncounts known.users entry c.args.message.now c.args.key old Done new)
+    subst (λ (o : Option Entry). BeginsWith J o c.args.message.now c.args.key old Done new) (sym shown)
+    (if_true (may_judge old.looked (get c.args.self.now.connections.peers c.args.key))
+    (Judges J (known_of J old) entry c.args.message.now c.args.key old Done new)
     ((Done ≡ Held) × (new ≡ old)) may judged)

@@ -11,11 +11,11 @@ returns-then-tell_leaving g c =
     let yes : c.tell_leaving.result ≡ true = search rules in (
       c.tell_leaving.result,
       state_of c.tell_leaving.new.self,
-      subst (λ (s : Connections g.row.S.Denot). TellsLeaving g.J.SessionSeat.submits c.args.key
+      subst (λ (s : Connections g.row.S.Denot). TellsLeaving g.J.SessionSeat c.args.key
           (record (state_of c.args.self.now) { connections = s }) c.tell_leaving.result
           (state_of c.tell_leaving.new.self)) c.ask_to_go.ensures c.tell_leaving.ensures,
       if_true c.tell_leaving.result (state_of c.tell_leaving.new.self ≡ state_of c.tell_leaving.new.self)
-          (Expels g.J.SessionSeat.submits Fault c.args.key (state_of c.tell_leaving.new.self)
+          (Expels g.J.SessionSeat Fault c.args.key (state_of c.tell_leaving.new.self)
           (state_of c.tell_leaving.new.self)) yes refl,
     )
 
@@ -24,10 +24,10 @@ returns g c =
     let no : c.tell_leaving.result ≡ false = search rules in (
       c.tell_leaving.result,
       state_of c.tell_leaving.new.self,
-      subst (λ (s : Connections g.row.S.Denot). TellsLeaving g.J.SessionSeat.submits c.args.key
+      subst (λ (s : Connections g.row.S.Denot). TellsLeaving g.J.SessionSeat c.args.key
           (record (state_of c.args.self.now) { connections = s }) c.tell_leaving.result
           (state_of c.tell_leaving.new.self)) c.ask_to_go.ensures c.tell_leaving.ensures,
       if_false c.tell_leaving.result (state_of c.expel.new.self ≡ state_of c.tell_leaving.new.self)
-          (Expels g.J.SessionSeat.submits Fault c.args.key (state_of c.tell_leaving.new.self)
+          (Expels g.J.SessionSeat Fault c.args.key (state_of c.tell_leaving.new.self)
           (state_of c.expel.new.self)) no c.expel.ensures,
     )

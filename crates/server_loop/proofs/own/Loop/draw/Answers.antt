@@ -1,4 +1,4 @@
-use Rattle.std.proofs.Common.{◌∙◌, ℕ, Err, Ok, true, ap, refl, subst, sym}
+use Rattle.std.proofs.Common.{◌∙◌, ℕ, Err, Ok, ap, refl, subst, sym}
 use Rattle.session.specs.Trace.{Draw}
 use Rattle.server_connections.specs.Changing.{drawn}
 use Rattle.server_connections.specs.declared.connections.Connections.{Connections}
@@ -15,7 +15,7 @@ returns g c =
     let old = state_of c.args.self.now in
     let mid = state_of c.submit.new.self in
     let draws = λ (l : Loop g.row.S.Denot g.row.G.Denot g.row.J.Denot).
-    Draws g.J.SessionSeat.submits c.args.client c.args.key old (state_of l) in
+    Draws g.J.SessionSeat c.args.client c.args.key old (state_of l) in
     elim c.match-submit.branch [
       | in-Ok w ↦ subst draws (sym w.self-is) (record {
         answer = Ok w.in-Ok.field-0;
@@ -31,14 +31,14 @@ returns g c =
       | in-Err-NoMemory w ↦ subst draws (sym w.self-is) (record {
         answer = Err fault.NoMemory;
         mid = mid;
-        step = subst (λ (f : SeatFault). Submits g.J.SessionSeat.submits (Draw c.args.client) old (Err f) mid)
+        step = subst (λ (f : SeatFault). Submits g.J.SessionSeat (Draw c.args.client) old (Err f) mid)
             w.in-Err-NoMemory.field-0-is w.in-Err-NoMemory.ensures;
         noted = refl;
       })
       | in-Err-Over w ↦ subst draws (sym w.self-is) (record {
         answer = Err (fault.Over w.in-Err-Over.field-0-0);
         mid = mid;
-        step = subst (λ (f : SeatFault). Submits g.J.SessionSeat.submits (Draw c.args.client) old (Err f) mid)
+        step = subst (λ (f : SeatFault). Submits g.J.SessionSeat (Draw c.args.client) old (Err f) mid)
             w.in-Err-Over.field-0-is w.in-Err-Over.ensures;
         noted = refl;
       })

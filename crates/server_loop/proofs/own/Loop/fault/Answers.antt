@@ -13,7 +13,7 @@ returns-then-not-is_open_at g c =
     record {
       mid = mid;
       handed = c.hand_out.ensures;
-      goes = if_false (is_open_at (peer_at c.args.key mid)) (Expels g.J.SessionSeat.submits Fault c.args.key mid mid)
+      goes = if_false (is_open_at (peer_at c.args.key mid)) (Expels g.J.SessionSeat Fault c.args.key mid mid)
           (mid ≡ mid) (sym c.is_open_at.ensures ∙ no) refl;
     }
 
@@ -25,8 +25,8 @@ returns g c =
     record {
       mid = mid;
       handed = c.hand_out.ensures;
-      goes = if_true (is_open_at (peer_at c.args.key mid)) (Expels g.J.SessionSeat.submits Fault c.args.key mid new)
+      goes = if_true (is_open_at (peer_at c.args.key mid)) (Expels g.J.SessionSeat Fault c.args.key mid new)
           (new ≡ mid) (sym c.is_open_at.ensures ∙ yes)
-          (subst (λ (s : State g.row.S.Denot g.row.J.Denot). Expels g.J.SessionSeat.submits Fault c.args.key s new)
+          (subst (λ (s : State g.row.S.Denot g.row.J.Denot). Expels g.J.SessionSeat Fault c.args.key s new)
           c.note_misfit.ensures c.expel.ensures);
     }

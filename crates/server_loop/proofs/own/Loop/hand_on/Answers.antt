@@ -12,6 +12,6 @@ returns g c =
     let old = state_of c.args.self.now in
     let new = state_of c.write_all.new.self in
     if_true old.is_behind ((mid : State g.row.S.Denot g.row.J.Denot)
-    × HandsOut g.J.SessionSeat.submits g.J.SessionSeat.takes old mid
-    × VisitsAll (Writes g.J.SessionSeat.submits g.S.Write.contents) mid new) (new ≡ old) yes
+    × HandsOut g.J.SessionSeat old mid
+    × VisitsAll (Writes g.J.SessionSeat g.S.Write.contents) mid new) (new ≡ old) yes
     (state_of c.hand_out.new.self, c.hand_out.ensures, c.write_all.ensures)

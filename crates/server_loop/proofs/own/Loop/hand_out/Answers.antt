@@ -12,7 +12,7 @@ returns g c =
       seat = c.take-effects.new.self;
       taken = c.take-effects.ensures.taken;
       mid = mid;
-      handed = subst (λ (sent : List Sent). HandsAll g.J.SessionSeat.submits sent
+      handed = subst (λ (sent : List Sent). HandsAll g.J.SessionSeat sent
           (record (state_of c.args.self.now) { seat = c.take-effects.new.self; is_behind = false }) mid)
           c.as_slice.ensures.value c.hand_all.ensures;
       told = refl;

@@ -23,8 +23,8 @@ returns-in-Ok g c =
     (λ (most : Option ℕ). J.counts c.args.self.now.seat c.user.result by.kind most) c.in_default.is
     c.add.ensures) in
     if_false (is_extra_at (get c.args.self.now.connections.peers by.key))
-    ((Done ≡ Done) × TurnsAway J.submits (codes "the server has no room for more connections") by.key old new)
-    (HasMost J.submits J.counts J.uncounts by.user by.kind by.key old Done new
-    ⊎ IsCounted J.submits J.counts J.uncounts by.user by.kind (happening c.args.event) by.key old Done new)
+    ((Done ≡ Done) × TurnsAway J (codes "the server has no room for more connections") by.key old new)
+    (HasMost J by.user by.kind by.key old Done new
+    ⊎ IsCounted J by.user by.kind (happening c.args.event) by.key old Done new)
     extra
     (inr (counted, inr (refl, c.in-Ok.answer, state_of c.attempt.new.self, c.in-Ok.ensures, c.enter.ensures)))

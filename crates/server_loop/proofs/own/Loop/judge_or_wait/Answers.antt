@@ -12,8 +12,7 @@ returns-then-wants_size g c =
     let yes : c.wants_size.result ≡ true = search rules in
     let old : State g.row.S.Denot g.row.J.Denot = state_of c.args.self.now in
     if_true (wants_size (peer_at c.args.key old)) ((made.Held ≡ made.Held) × (old ≡ old))
-    (JudgesUnlessFull g.J.SessionSeat.submits g.J.SessionSeat.takes g.J.SessionSeat.finds_full
-    g.J.SessionSeat.lets_type c.args.key c.args.client old made.Held old) (sym c.wants_size.ensures ∙ yes) (refl, refl)
+    (JudgesUnlessFull g.J.SessionSeat c.args.key c.args.client old made.Held old) (sym c.wants_size.ensures ∙ yes) (refl, refl)
 
 pub returns-then-must_wait : goal.returns-then-must_wait
 returns-then-must_wait g c =
@@ -22,13 +21,12 @@ returns-then-must_wait g c =
     let old : State g.row.S.Denot g.row.J.Denot = state_of c.args.self.now in
     let mid : State g.row.S.Denot g.row.J.Denot = state_of c.must_wait.new.self in
     if_false (wants_size (peer_at c.args.key old)) ((made.Held ≡ made.Held) × (mid ≡ old))
-    (JudgesUnlessFull g.J.SessionSeat.submits g.J.SessionSeat.takes g.J.SessionSeat.finds_full
-    g.J.SessionSeat.lets_type c.args.key c.args.client old made.Held mid) (sym c.wants_size.ensures ∙ none) (
+    (JudgesUnlessFull g.J.SessionSeat c.args.key c.args.client old made.Held mid) (sym c.wants_size.ensures ∙ none) (
       c.must_wait.result,
       mid,
       c.must_wait.ensures,
       if_true c.must_wait.result ((made.Held ≡ made.Held) × (mid ≡ mid))
-          ((judged : State g.row.S.Denot g.row.J.Denot) × Judges g.J.SessionSeat.submits g.J.SessionSeat.takes
+          ((judged : State g.row.S.Denot g.row.J.Denot) × Judges g.J.SessionSeat
           c.args.key c.args.client mid made.Held judged
           × (mid ≡ record judged { connections = strayed made.Held c.args.key judged.connections })) yes (refl, refl),
     )
@@ -42,14 +40,13 @@ returns g c =
     let judged : State g.row.S.Denot g.row.J.Denot = state_of c.judge-progress.new.self in
     let new : State g.row.S.Denot g.row.J.Denot = record judged { connections = c.free_strayed.new.connections } in
     if_false (wants_size (peer_at c.args.key old)) ((c.judge-progress.result ≡ made.Held) × (new ≡ old))
-    (JudgesUnlessFull g.J.SessionSeat.submits g.J.SessionSeat.takes g.J.SessionSeat.finds_full
-    g.J.SessionSeat.lets_type c.args.key c.args.client old c.judge-progress.result new)
+    (JudgesUnlessFull g.J.SessionSeat c.args.key c.args.client old c.judge-progress.result new)
     (sym c.wants_size.ensures ∙ none) (
       c.must_wait.result,
       mid,
       c.must_wait.ensures,
       if_false c.must_wait.result ((c.judge-progress.result ≡ made.Held) × (new ≡ mid))
-          ((s : State g.row.S.Denot g.row.J.Denot) × Judges g.J.SessionSeat.submits g.J.SessionSeat.takes
+          ((s : State g.row.S.Denot g.row.J.Denot) × Judges g.J.SessionSeat
           c.args.key c.args.client mid c.judge-progress.result s
           × (new ≡ record s { connections = strayed c.judge-progress.result c.args.key s.connections })) no (
             judged,

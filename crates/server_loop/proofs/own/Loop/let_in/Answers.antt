@@ -24,5 +24,5 @@ returns g c =
     ∙ ap (λ (role : Role). made role c.guest_of-guest.result) c.role_of.ensures
     ∙ ap (λ (guest : Guest). made (role_of c.args.newcomer.kind c.args.done.now) guest)
     c.guest_of-guest.ensures in
-    subst (λ (s : State g.row.S.Denot g.row.J.Denot). Tells g.J.SessionSeat.submits (Welcome c.args.done.now.number)
+    subst (λ (s : State g.row.S.Denot g.row.J.Denot). Tells g.J.SessionSeat (Welcome c.args.done.now.number)
     c.args.newcomer.key s (state_of c.send.new.self)) is c.send.ensures

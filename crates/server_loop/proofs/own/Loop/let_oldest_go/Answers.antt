@@ -19,7 +19,7 @@ returns g c = inr (inr (
     subst (λ (l : Loop g.row.S.Denot g.row.G.Denot g.row.J.Denot). WritesAt g.S.Write.contents c.in-Some.key
         l.connections c.write.result c.write.new.connections) c.dismiss.ensures c.write.ensures,
     state_of c.lose.new.self,
-    subst (λ (s : State g.row.S.Denot g.row.J.Denot). Loses g.J.SessionSeat.submits c.in-Some.key s
+    subst (λ (s : State g.row.S.Denot g.row.J.Denot). Loses g.J.SessionSeat c.in-Some.key s
         (state_of c.lose.new.self)) (ap (λ (l : Loop g.row.S.Denot g.row.G.Denot g.row.J.Denot). record (state_of l) {
           connections = c.write.new.connections;
         }) c.dismiss.ensures) c.lose.ensures,

@@ -9,9 +9,9 @@ use Rattle.server_loop.proofs.own.Loop.must_wait.Goals as goal
 pub returns-then-not-is_asked : goal.returns-then-not-is_asked
 returns-then-not-is_asked g c =
     let no : c.is_asked.result ≡ false = search rules in
-    waiting g.J.SessionSeat.finds_full g.J.SessionSeat.lets_type c.args.key c.in-Some.target c.is_stopped-is_full.result
+    waiting g.J.SessionSeat c.args.key c.in-Some.target c.is_stopped-is_full.result
     (state_of c.args.self.now) false (state_of c.args.self.now) (sym c.in-Some.ensures) c.is_stopped-is_full.ensures
-    (unasked g.J.SessionSeat.finds_full g.J.SessionSeat.lets_type c.args.key c.in-Some.target
+    (unasked g.J.SessionSeat c.args.key c.in-Some.target
     c.is_stopped-is_full.result (state_of c.args.self.now) (sym c.is_asked.ensures ∙ no))
 
 pub returns-then-not-may_type : goal.returns-then-not-may_type
@@ -22,13 +22,13 @@ returns-then-not-may_type g c =
     c.in-Some.target.window b) no
     (subst (λ (u : UserId). g.J.SessionSeat.lets_type c.args.self.now.seat u c.in-Some.target.window
     c.may_type.result) c.user.ensures c.may_type.ensures) in
-    subst (λ (s : Connections g.row.S.Denot). MustWait g.J.SessionSeat.finds_full g.J.SessionSeat.lets_type c.args.key
+    subst (λ (s : Connections g.row.S.Denot). MustWait g.J.SessionSeat c.args.key
     (state_of c.args.self.now) false (record (state_of c.args.self.now) { connections = s }))
     (sym c.free_keys.ensures)
-    (waiting g.J.SessionSeat.finds_full g.J.SessionSeat.lets_type c.args.key c.in-Some.target
+    (waiting g.J.SessionSeat c.args.key c.in-Some.target
     c.is_stopped-is_full.result (state_of c.args.self.now) false _ (sym c.in-Some.ensures)
     c.is_stopped-is_full.ensures
-    (forbidden g.J.SessionSeat.finds_full g.J.SessionSeat.lets_type c.args.key c.in-Some.target
+    (forbidden g.J.SessionSeat c.args.key c.in-Some.target
     c.is_stopped-is_full.result (state_of c.args.self.now) (sym c.is_asked.ensures ∙ asked) lets))
 
 pub returns-then-is_full : goal.returns-then-is_full
@@ -40,13 +40,13 @@ returns-then-is_full g c =
     c.in-Some.target.window b) yes
     (subst (λ (u : UserId). g.J.SessionSeat.lets_type c.args.self.now.seat u c.in-Some.target.window
     c.may_type.result) c.user.ensures c.may_type.ensures) in
-    subst (λ (s : Connections g.row.S.Denot). MustWait g.J.SessionSeat.finds_full g.J.SessionSeat.lets_type c.args.key
+    subst (λ (s : Connections g.row.S.Denot). MustWait g.J.SessionSeat c.args.key
     (state_of c.args.self.now) c.is_stopped-is_full.result
     (record (state_of c.args.self.now) { connections = s })) (sym c.hold_keys.ensures)
-    (waiting g.J.SessionSeat.finds_full g.J.SessionSeat.lets_type c.args.key c.in-Some.target
+    (waiting g.J.SessionSeat c.args.key c.in-Some.target
     c.is_stopped-is_full.result (state_of c.args.self.now) c.is_stopped-is_full.result _ (sym c.in-Some.ensures)
     c.is_stopped-is_full.ensures
-    (held_on g.J.SessionSeat.finds_full g.J.SessionSeat.lets_type c.args.key c.in-Some.target
+    (held_on g.J.SessionSeat c.args.key c.in-Some.target
     c.is_stopped-is_full.result (state_of c.args.self.now) (sym c.is_asked.ensures ∙ asked) lets full))
 
 pub returns-else-is_full : goal.returns-else-is_full
@@ -58,8 +58,8 @@ returns-else-is_full g c =
     c.in-Some.target.window b) yes
     (subst (λ (u : UserId). g.J.SessionSeat.lets_type c.args.self.now.seat u c.in-Some.target.window
     c.may_type.result) c.user.ensures c.may_type.ensures) in
-    waiting g.J.SessionSeat.finds_full g.J.SessionSeat.lets_type c.args.key c.in-Some.target c.is_stopped-is_full.result
+    waiting g.J.SessionSeat c.args.key c.in-Some.target c.is_stopped-is_full.result
     (state_of c.args.self.now) c.is_stopped-is_full.result (state_of c.args.self.now) (sym c.in-Some.ensures)
     c.is_stopped-is_full.ensures
-    (goes_on g.J.SessionSeat.finds_full g.J.SessionSeat.lets_type c.args.key c.in-Some.target
+    (goes_on g.J.SessionSeat c.args.key c.in-Some.target
     c.is_stopped-is_full.result (state_of c.args.self.now) (sym c.is_asked.ensures ∙ asked) lets no)

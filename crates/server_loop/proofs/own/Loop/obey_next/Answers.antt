@@ -13,6 +13,6 @@ returns g c = record {
   next = c.in-Some.ensures;
   left = c.obey-progress.new.asked;
   mid = state_of c.obey-progress.new.self;
-  obeys = c.obey-progress.ensures.obeys;
+  obeys = c.obey-progress.ensures;
   back = ap (λ (s : Connections g.row.S.Denot). record (state_of c.obey-progress.new.self) { connections = s }) c.put_back.ensures;
 }

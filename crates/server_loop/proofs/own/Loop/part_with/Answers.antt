@@ -1,4 +1,4 @@
-use Rattle.std.proofs.Common.{◌≡◌, ◌∙◌, Option, ap, sym, subst}
+use Rattle.std.proofs.Common.{◌∙◌, Option, ap, sym, subst}
 use Rattle.std.specs.Prelude.{IfSome}
 use Rattle.attach_proto.specs.declared.why.Why.{Why}
 use Rattle.server_connections.specs.declared.connections.Connections.{Connections}

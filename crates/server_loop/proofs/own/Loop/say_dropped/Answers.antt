@@ -14,16 +14,16 @@ returns-then-take_news g c =
     let yes : c.take_news.result ≡ true = search rules in
     let text : c.as_bytes.result.now ≡ codes "keys were dropped: they waited for a second" = c.as_bytes.ensures.value in
     if_true (is_news_at c.args.now (peer_at c.args.key (state_of c.args.self.now)))
-    (SendsTo g.J.SessionSeat.submits c.args.key
+    (SendsTo g.J.SessionSeat c.args.key
     (PutsMessage (message.Say (codes "keys were dropped: they waited for a second")))
     (λ (waited left : Waiting). left ≡ waited)
     (with_peer (told_news c.args.now) c.args.key (state_of c.args.self.now)) (state_of c.send.new.self))
     (state_of c.send.new.self ≡ with_peer (told_news c.args.now) c.args.key (state_of c.args.self.now))
     (sym c.take_news.ensures.news ∙ yes)
-    (subst (λ (bytes : List ℕ). SendsTo g.J.SessionSeat.submits c.args.key (PutsMessage (message.Say bytes))
+    (subst (λ (bytes : List ℕ). SendsTo g.J.SessionSeat c.args.key (PutsMessage (message.Say bytes))
     (λ (waited left : Waiting). left ≡ waited)
     (with_peer (told_news c.args.now) c.args.key (state_of c.args.self.now)) (state_of c.send.new.self)) text
-    (subst (λ (s : Connections g.row.S.Denot). SendsTo g.J.SessionSeat.submits c.args.key
+    (subst (λ (s : Connections g.row.S.Denot). SendsTo g.J.SessionSeat c.args.key
     (PutsMessage (message.Say c.as_bytes.result.now)) (λ (waited left : Waiting). left ≡ waited)
     (record (state_of c.args.self.now) { connections = s }) (state_of c.send.new.self)) c.take_news.ensures.told
     c.send.ensures))

@@ -1,7 +1,7 @@
-use Rattle.std.proofs.Common.{◌≡◌, ◌∙◌, false, refl, sym, subst, rules}
+use Rattle.std.proofs.Common.{◌≡◌, ◌∙◌, Bool, false, not, refl, sym, subst, rules}
 use Rattle.server_connections.specs.declared.stream.Arrival.{Arrival}
 use Rattle.server_steps.specs.Asking.{has_asked_at}
-use Rattle.server_loop.specs.Serving.{ObeysSome, ServesAfter}
+use Rattle.server_loop.specs.Serving.{ObeysSome, ServesAfter, with_much}
 use Rattle.server_loop.specs.Submitting.{peer_at, state_of}
 use Rattle.server_loop.proofs.Telling.{if_false}
 use Rattle.server_loop.proofs.own.Loop.serve_after.Goals as goal
@@ -11,16 +11,20 @@ returns-then-not-has_asked g c =
     let J = g.J.SessionSeat in
     let no : c.has_asked.result ≡ false = search rules in
     let old = state_of c.args.self.now in
-    subst (λ (arrival : Arrival). ServesAfter J.submits J.takes J.finds_full J.lets_type arrival c.args.key old false
+    subst (λ (arrival : Arrival). ServesAfter J arrival c.args.key old false
     old) (sym c.in-Nothing.is)
     (if_false (has_asked_at (peer_at c.args.key old))
-    (ObeysSome J.submits J.takes J.finds_full J.lets_type c.args.key old false old)
+    (ObeysSome J c.args.key old false old)
     ((false ≡ false) × (old ≡ old)) (sym c.has_asked.ensures ∙ no) (refl, refl))
 
 pub returns-in-Much : goal.returns-in-Much
 returns-in-Much g c =
     let J = g.J.SessionSeat in
     let old = state_of c.args.self.now in
-    subst (λ (arrival : Arrival). ServesAfter J.submits J.takes J.finds_full J.lets_type arrival c.args.key old false
-    (state_of c.obey_some-in-Much.new.self)) (sym c.in-Much.is)
-    (refl, c.obey_some-in-Much.result, c.obey_some-in-Much.ensures)
+    subst (λ (arrival : Arrival). ServesAfter J arrival c.args.key old false
+    (state_of c.obey_some-in-Much.new.self)) (sym c.in-Much.is) (
+      refl,
+      c.obey_some-in-Much.result,
+      subst (λ (b : Bool). ObeysSome J c.args.key (with_much (not b) old) c.obey_some-in-Much.result
+          (state_of c.obey_some-in-Much.new.self)) c.drains.ensures c.obey_some-in-Much.ensures,
+    )

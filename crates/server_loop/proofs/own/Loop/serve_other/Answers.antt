@@ -11,8 +11,7 @@ returns-then-is_window g c =
     let old = state_of c.args.self.now in
     record {
       outcome = if_true (is_window_at (peer_at c.args.key old)) (old ≡ old)
-          (Serves g.S.Read.remaining g.J.SessionSeat.submits g.J.SessionSeat.takes g.J.SessionSeat.finds_full
-          g.J.SessionSeat.lets_type c.args.key old old) (sym c.is_window.ensures ∙ yes) refl;
+          (Serves g.J.SessionSeat g.S.Read.remaining c.args.key old old) (sym c.is_window.ensures ∙ yes) refl;
     }
 
 pub returns : goal.returns
@@ -22,6 +21,5 @@ returns g c =
     let new = state_of c.serve.new.self in
     record {
       outcome = if_false (is_window_at (peer_at c.args.key old)) (new ≡ old)
-          (Serves g.S.Read.remaining g.J.SessionSeat.submits g.J.SessionSeat.takes g.J.SessionSeat.finds_full
-          g.J.SessionSeat.lets_type c.args.key old new) (sym c.is_window.ensures ∙ no) c.serve.ensures.serves;
+          (Serves g.J.SessionSeat g.S.Read.remaining c.args.key old new) (sym c.is_window.ensures ∙ no) c.serve.ensures.serves;
     }

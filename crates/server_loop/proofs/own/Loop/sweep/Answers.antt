@@ -7,4 +7,4 @@ use Rattle.server_loop.proofs.own.Loop.sweep.Goals as goal
 
 pub returns : goal.returns
 returns g c = passed (λ (l : Loop g.row.S.Denot g.row.G.Denot g.row.J.Denot). state_of l)
-    (Settles g.J.SessionSeat.uncounts) _ _ _ _ _ _ c.each_awake.ensures (λ shown left key p. search rules)
+    (Settles g.J.SessionSeat) _ _ _ _ _ _ c.each_awake.ensures (λ shown left key p. search rules)

@@ -7,4 +7,4 @@ use Rattle.server_loop.proofs.own.Loop.tell_all_leaving.Goals as goal
 
 pub returns : goal.returns
 returns g c = passed (λ (l : Loop g.row.S.Denot g.row.G.Denot g.row.J.Denot). state_of l)
-    (TriesLeaving g.J.SessionSeat.submits) _ _ _ _ _ _ c.each_awake.ensures (λ shown left key p. search rules)
+    (TriesLeaving g.J.SessionSeat) _ _ _ _ _ _ c.each_awake.ensures (λ shown left key p. search rules)

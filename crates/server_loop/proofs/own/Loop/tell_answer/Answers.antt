@@ -10,7 +10,7 @@ returns-in-Ok g c =
     let said = state_of c.say_done.new.self in (
       state_of c.send.new.self,
       c.send.ensures,
-      subst (λ (reply : Reply). Ends g.J.SessionSeat.submits c.args.is_quit reply c.args.key
+      subst (λ (reply : Reply). Ends g.J.SessionSeat c.args.is_quit reply c.args.key
           (state_of c.send.new.self) (record said { end = c.quit_if-self.result })) (sym c.in-Ok.is) (
             said,
             c.say_done.ensures,
@@ -22,6 +22,6 @@ pub returns-in-Err : goal.returns-in-Err
 returns-in-Err g c = (
   state_of c.send.new.self,
   c.send.ensures,
-  subst (λ (reply : Reply). Ends g.J.SessionSeat.submits c.args.is_quit reply c.args.key (state_of c.send.new.self)
+  subst (λ (reply : Reply). Ends g.J.SessionSeat c.args.is_quit reply c.args.key (state_of c.send.new.self)
       (state_of c.refuse.new.self)) (sym c.in-Err.is) c.refuse.ensures,
 )

@@ -1,4 +1,4 @@
-use Rattle.std.proofs.Common.{◌≡◌, Bool, Err, Ok, true, false, ap, refl, subst, sym}
+use Rattle.std.proofs.Common.{Bool, Err, Ok, true, false, ap, refl, subst, sym}
 use Rattle.session.specs.Trace.{happening}
 use Rattle.server_connections.specs.declared.connections.Connections.{Connections}
 use Rattle.server_seat.specs.declared.seat.SeatFault.{SeatFault}
@@ -14,7 +14,7 @@ returns g c =
     let old = state_of c.args.self.now in
     let mid = state_of c.submit.new.self in
     let leaves = λ (told : Bool) (l : Loop g.row.S.Denot g.row.G.Denot g.row.J.Denot).
-    LeavesBy g.J.SessionSeat.submits (happening c.args.event) c.args.key old told (state_of l) in
+    LeavesBy g.J.SessionSeat (happening c.args.event) c.args.key old told (state_of l) in
     elim c.match-submit.branch [
       | in-Ok w ↦ subst (λ (told : Bool). leaves told c.match-submit.self) (sym w.result-is)
           (subst (leaves true) (sym w.self-is) (record {
@@ -30,7 +30,7 @@ returns g c =
           (subst (leaves true) (sym w.self-is) (record {
             answer = Err (fault.Over w.in-Err-Over.field-0-0);
             mid = mid;
-            step = subst (λ (f : SeatFault). Submits g.J.SessionSeat.submits (happening c.args.event) old (Err f) mid)
+            step = subst (λ (f : SeatFault). Submits g.J.SessionSeat (happening c.args.event) old (Err f) mid)
                 w.in-Err-Over.field-0-is w.in-Err-Over.ensures;
             noted = (
               refl,
@@ -41,7 +41,7 @@ returns g c =
           (subst (leaves false) (sym w.self-is) (record {
             answer = Err fault.NoMemory;
             mid = mid;
-            step = subst (λ (f : SeatFault). Submits g.J.SessionSeat.submits (happening c.args.event) old (Err f) mid)
+            step = subst (λ (f : SeatFault). Submits g.J.SessionSeat (happening c.args.event) old (Err f) mid)
                 w.in-Err-NoMemory.field-0-is w.in-Err-NoMemory.ensures;
             noted = (refl, refl);
           }))

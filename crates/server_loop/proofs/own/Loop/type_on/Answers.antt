@@ -14,15 +14,14 @@ returns-then-not-has_keys g c =
     let mid = state_of c.say_dropped.new.self in (
       state_of c.resize.new.self,
       mid,
-      subst (λ (n : ℕ). Resizes g.J.SessionSeat.submits g.J.SessionSeat.takes n c.args.key c.args.client
+      subst (λ (n : ℕ). Resizes g.J.SessionSeat n c.args.key c.args.client
           (state_of c.args.self.now) (state_of c.resize.new.self)) c.millis-now.ensures c.resize.ensures,
-      subst (λ (n : ℕ). TellsDropped g.J.SessionSeat.submits n c.args.key (state_of c.resize.new.self) mid)
+      subst (λ (n : ℕ). TellsDropped g.J.SessionSeat n c.args.key (state_of c.resize.new.self) mid)
           c.millis-now.ensures c.say_dropped.ensures,
       if_true (is_idle (typed_at (peer_at c.args.key mid)))
           ((c.idle_at.result ≡ idle_at c.args.all (peer_at c.args.key mid)) × (mid ≡ mid))
           ((progress : Progress)
-          × JudgesOrWaits g.J.SessionSeat.submits g.J.SessionSeat.takes g.J.SessionSeat.finds_full
-          g.J.SessionSeat.lets_type c.args.key c.args.client mid progress mid
+          × JudgesOrWaits g.J.SessionSeat c.args.key c.args.client mid progress mid
           × (c.idle_at.result ≡ Some (unless_more c.args.all progress)))
           (not_false (is_idle (typed_at (peer_at c.args.key mid))) (sym c.has_keys.ensures ∙ none))
           (c.idle_at.ensures, refl),
@@ -34,16 +33,15 @@ returns g c =
     let mid = state_of c.say_dropped.new.self in (
       state_of c.resize.new.self,
       mid,
-      subst (λ (n : ℕ). Resizes g.J.SessionSeat.submits g.J.SessionSeat.takes n c.args.key c.args.client
+      subst (λ (n : ℕ). Resizes g.J.SessionSeat n c.args.key c.args.client
           (state_of c.args.self.now) (state_of c.resize.new.self)) c.millis-now.ensures c.resize.ensures,
-      subst (λ (n : ℕ). TellsDropped g.J.SessionSeat.submits n c.args.key (state_of c.resize.new.self) mid)
+      subst (λ (n : ℕ). TellsDropped g.J.SessionSeat n c.args.key (state_of c.resize.new.self) mid)
           c.millis-now.ensures c.say_dropped.ensures,
       if_false (is_idle (typed_at (peer_at c.args.key mid)))
           ((Some c.unless_more.result ≡ idle_at c.args.all (peer_at c.args.key mid))
           × (state_of c.judge_or_wait-progress.new.self ≡ mid))
           ((progress : Progress)
-          × JudgesOrWaits g.J.SessionSeat.submits g.J.SessionSeat.takes g.J.SessionSeat.finds_full
-          g.J.SessionSeat.lets_type c.args.key c.args.client mid progress
+          × JudgesOrWaits g.J.SessionSeat c.args.key c.args.client mid progress
           (state_of c.judge_or_wait-progress.new.self)
           × (Some c.unless_more.result ≡ Some (unless_more c.args.all progress)))
           (not_true (is_idle (typed_at (peer_at c.args.key mid))) (sym c.has_keys.ensures ∙ some)) (

@@ -11,7 +11,7 @@ returns-then-not-write g c =
       closed = c.write.result;
       mid = c.write.new.connections;
       written = c.write.ensures;
-      told = if_false c.write.result ((told : Bool) × TellsLeaving g.J.SessionSeat.submits c.args.key mid told mid) (mid ≡ mid)
+      told = if_false c.write.result ((told : Bool) × TellsLeaving g.J.SessionSeat c.args.key mid told mid) (mid ≡ mid)
           no refl;
     }
 
@@ -23,6 +23,6 @@ returns g c =
       mid = c.write.new.connections;
       written = c.write.ensures;
       told = if_true c.write.result
-          ((told : Bool) × TellsLeaving g.J.SessionSeat.submits c.args.key mid told (state_of c.tell_leaving.new.self))
+          ((told : Bool) × TellsLeaving g.J.SessionSeat c.args.key mid told (state_of c.tell_leaving.new.self))
           (state_of c.tell_leaving.new.self ≡ mid) yes (c.tell_leaving.result, c.tell_leaving.ensures);
     }
