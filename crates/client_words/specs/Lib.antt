@@ -1,3 +1,4 @@
+pub mod Ending
 pub mod Leaving
 pub mod Lines
 pub mod Stands

@@ -223,6 +223,6 @@ pub fn arguments_of<'a, O: Write, E: Write>(
 ) -> Result<Arguments<'a>, u8> {
     match of_client(alloc, words) {
         Ok(matches) => Arguments::of(&matches).ok_or(2),
-        Err(error) => Err(tell_mistake(&error, words, output, errors)),
+        Err(error) => Err(tell_mistake(alloc, &error, words, output, errors)),
     }
 }

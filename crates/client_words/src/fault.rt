@@ -1,5 +1,8 @@
 //! What can go wrong for a peer, and how to say it.
 
+ghost use Rattle.std.specs.Prelude.{◌≡◌};
+ghost use Rattle.client_words.specs.Ending.{status_of, status_after};
+
 use crate::arguments::Arguments;
 use attach_proto::{Why, WriteFault};
 use std::alloc::{AllocError, AllocFailed};
@@ -104,12 +107,24 @@ pub fn gone(why: Why) -> &'static str {
 }
 
 impl PeerFault {
-    /// The exit status: 2 if the arguments are at fault.
-    pub fn status(self) -> u8 {
+    /// The exit status: 2 if the arguments are at fault, otherwise 1.
+    pub fn status(self) -> u8
+        ensures { result ≡ status_of self }
+    {
         match self {
             PeerFault::TooLong => 2,
             _ => 1,
         }
+    }
+}
+
+/// The exit status of a peer that ended so: 0 if its user left or after a good end.
+pub fn status_after(has_left: bool, end: Result<Why, PeerFault>) -> u8
+    ensures { result ≡ status_after has_left end }
+{
+    match end {
+        Err(fault) if !has_left => fault.status(),
+        _ => 0,
     }
 }
 

@@ -17,16 +17,19 @@ fn bounds(subcommand: Subcommand) -> &'static [u8] {
     }
 }
 
-// What to do about a refusal.
-fn advice(said: &str) -> &'static [u8] {
+// Puts what to do about a refusal. What makes a user known gives no right.
+fn put_advice(said: &str, user: &str, out: &mut Vec<u8>) -> io::Result<()> {
     if said == "no window" {
-        b": 'windows' lists them"
+        out.write_all(b": 'windows' lists them")
     } else if said == "unknown user" {
-        b": the session's owner makes a user known with acladd"
+        write!(
+            out,
+            ": the session's owner makes {user} known without any right with 'aclchg {user} -rwx #?' and 'aclumask {user}-rwx'"
+        )
     } else if said == "unknown user or wrong token" {
-        b": compare the token's file with the users' file of muxd"
+        out.write_all(b": compare the token's file with the users' file of muxd")
     } else {
-        b""
+        Ok(())
     }
 }
 
@@ -49,7 +52,7 @@ fn put_explanation(said: &str, arguments: &Arguments<'_>, out: &mut Vec<u8>) -> 
     } else {
         write!(out, ": {}", arguments.place())?;
     }
-    out.write_all(advice(said))
+    put_advice(said, arguments.user, out)
 }
 
 /// Writes what follows a refusal's text: in parentheses what it means, if it is a number or a bad

@@ -3,6 +3,7 @@
 use clap::Error;
 use clap::error::ErrorKind;
 use program_words::tell;
+use std::alloc::Global;
 use std::io;
 use std::io::Write;
 
@@ -73,9 +74,21 @@ fn list<O: Write>(output: &mut O) -> io::Result<()> {
     Ok(())
 }
 
+// Writes a mistake as the other messages of `mux` are written. Without memory for its text that is said.
+fn put_mistake<E: Write>(text: &[u8], errors: &mut E) {
+    let said = text.strip_prefix(b"error: ".as_slice()).unwrap_or(text);
+    let _ = errors.write_all(b"mux: ");
+    let _ = errors.write_all(if said.is_empty() {
+        b"out of memory\n"
+    } else {
+        said
+    });
+}
+
 /// Writes why the arguments give no matches, and returns the exit status. Names the script if a word is
 /// one, lists the scripts below the help of `mux`, and says how to begin if there is no argument.
 pub fn tell_mistake<O: Write, E: Write>(
+    alloc: Global,
     error: &Error,
     words: &[String],
     output: &mut O,
@@ -96,7 +109,11 @@ pub fn tell_mistake<O: Write, E: Write>(
         let _ = errors.write_all(BEGIN);
         return 2;
     }
-    let status = tell(error, output, errors);
+    let mut mistake = Vec::new(alloc);
+    let status = tell(error, output, &mut mistake);
+    if error.use_stderr() {
+        put_mistake(&mistake, errors);
+    }
     if status == 0 && error.kind() == ErrorKind::DisplayHelp && words.len() == 2 {
         return match list(output) {
             Ok(()) => 0,

@@ -24,7 +24,7 @@ fn put_all<R: Wait + Clock>(rt: &R, alloc: Global, recorder: &Recorder, first: u
         recorder.set_time(rt);
         let place = first.saturating_add(turn * 2 * LOOPS);
         for place in [place.saturating_add(LOOPS), place] {
-            recorder.put(rt, place, entry(alloc, keys(place)).ok().as_ref());
+            let _ = recorder.put(rt, place, entry(alloc, keys(place)).ok().as_ref());
         }
     }
     recorder.leave(rt);

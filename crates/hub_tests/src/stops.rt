@@ -26,11 +26,11 @@ fn stops(rt: &impl Wait, alloc: Global) -> Option<(Option<StopCause>, Option<Sto
     let entry = long_entry(alloc)?;
     let recorder = Recorder::new(alloc, 1);
     for place in 0..2_000 {
-        recorder.put(rt, place, Some(&entry));
+        let _ = recorder.put(rt, place, Some(&entry));
     }
     let before = recorder.stopped();
     for place in 2_000..2_060 {
-        recorder.put(rt, place, Some(&entry));
+        let _ = recorder.put(rt, place, Some(&entry));
     }
     Some((before, recorder.stopped()))
 }
@@ -45,10 +45,10 @@ fn lines_wait_up_to_sixteen_mebibytes(rt: HostRuntime) {
 fn stopped<R: Wait + Clock>(rt: &R, alloc: Global, disk: &mut MemoryFile<'_, R>) -> Option<bool> {
     let recorder = Recorder::new(alloc, 1);
     for place in [1, 0, 3] {
-        recorder.put(rt, place, Some(&entry(alloc, keys(place)).ok()?));
+        let _ = recorder.put(rt, place, Some(&entry(alloc, keys(place)).ok()?));
     }
-    recorder.put(rt, 2, None);
-    recorder.put(rt, 2, Some(&entry(alloc, keys(2)).ok()?));
+    let _ = recorder.put(rt, 2, None);
+    let _ = recorder.put(rt, 2, Some(&entry(alloc, keys(2)).ok()?));
     recorder.leave(rt);
     let written = recorder.write_all(rt, disk);
     let is_two = written.entries() == 2;

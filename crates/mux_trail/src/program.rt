@@ -132,10 +132,21 @@ fn run<R: Clock + Files + AllocGlobal, W: Write>(
     read_file(rt.alloc(), asked, file, output)
 }
 
+/// Writes which words aren't understood. Control characters of the words are escaped.
+fn tell_misused<E: Write>(alloc: Global, error: &Error, errors: &mut E) -> io::Result<()> {
+    let text = format!(in alloc; "{error}")?;
+    let mut visible = Vec::new(alloc);
+    for line in text.trim_end_matches('\n').split('\n') {
+        put_visible(line.as_bytes(), &mut visible)?;
+        visible.push(b'\n')?;
+    }
+    errors.write_all(visible.as_slice())
+}
+
 /// Writes the help, with status 0, or which words aren't understood, with status 2.
-fn tell<W: Write, E: Write>(error: &Error, output: &mut W, errors: &mut E) -> u8 {
+fn tell<W: Write, E: Write>(alloc: Global, error: &Error, output: &mut W, errors: &mut E) -> u8 {
     if error.use_stderr() {
-        let _ = write!(errors, "{error}");
+        let _ = tell_misused(alloc, error, errors);
         return TROUBLE;
     }
     match write!(output, "{error}") {
@@ -179,13 +190,13 @@ fn asked_by<'a, W: Write, E: Write>(
     match given_in(alloc, words) {
         Ok(Some(given)) => understand(alloc, given, errors),
         Ok(None) => Err(TROUBLE),
-        Err(error) => Err(tell(&error, output, errors)),
+        Err(error) => Err(tell(alloc, &error, output, errors)),
     }
 }
 
 /// Writes why a file isn't read to its end, and gives the status to exit with.
-fn tell_fault<E: Write>(fault: TrailFault, path: &str, errors: &mut E) -> u8 {
-    let _ = fault.write(path, errors);
+fn tell_fault<E: Write>(alloc: Global, fault: TrailFault, path: &str, errors: &mut E) -> u8 {
+    let _ = fault.write(alloc, path, errors);
     match fault {
         TrailFault::NoHeader(_) | TrailFault::NoLine(_) => ILLEGAL,
         _ => TROUBLE,
@@ -208,7 +219,7 @@ pub fn trail<R: Clock + Files + AllocGlobal, W: Write, E: Write>(
     let mut outlet = Outlet::new(output);
     match run(rt, asked, &mut outlet) {
         Ok(status) => status,
-        Err(fault) => tell_fault(outlet.fault_of(fault), asked.path, errors),
+        Err(fault) => tell_fault(rt.alloc(), outlet.fault_of(fault), asked.path, errors),
     }
 }
 

@@ -3,10 +3,7 @@
 //! from their browsers.
 #![tactic(auto)]
 
-mod bridge;
-mod log;
 mod serving;
-mod showing;
 
 use crate::serving::run;
 use program_words::{given, not_given};

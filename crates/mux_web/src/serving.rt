@@ -1,7 +1,5 @@
 //! `mux-web`, from its arguments to its status.
 
-use crate::bridge::{Bridge, serve};
-use crate::log::start_log;
 use program_words::{of_web, tell};
 use server_system::{Host, SocketPath};
 use std::io::{ErrorKind, Write};
@@ -11,6 +9,7 @@ use std::thread::Threads;
 use web_client::Site;
 use web_options::{Listen, WebFault, WebOptions, look_for_paths, origins_of, site_of};
 use web_relay::WebListener;
+use web_turn::{Bridge, BridgeOptions, serve, start_log};
 
 /// The system's number for a kind of addresses that it doesn't have.
 const EAFNOSUPPORT: i32 = 97;
@@ -29,7 +28,14 @@ fn serve_at<R: Host + Threads + Wait + Eprint, O: Write>(
     } else {
         None
     };
-    let bridge = Bridge::new(rt.alloc(), site, options, log)?;
+    let asked = BridgeOptions {
+        socket: options.socket,
+        links: options.links,
+        most: options.most,
+        choice: options.choice(rt.alloc())?,
+        log,
+    };
+    let bridge = Bridge::new(rt.alloc(), site, asked)?;
     writeln!(output, "mux-web: ready")?;
     output.flush()?;
     Ok(serve(rt, bridge, listeners)?)

@@ -6,8 +6,6 @@ mod frames;
 #[cfg(test)]
 mod gate;
 #[cfg(test)]
-mod page;
-#[cfg(test)]
 mod peer;
 #[cfg(test)]
 mod ready;
@@ -15,5 +13,7 @@ mod ready;
 mod served;
 #[cfg(test)]
 mod together;
+#[cfg(test)]
+mod trust;
 #[cfg(test)]
 mod turns;

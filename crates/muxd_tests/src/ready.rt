@@ -14,10 +14,11 @@ use std::time::Clock;
 use std::{io, thread};
 
 const PATHS: Paths = Paths {
-    socket: "muxd_ready.socket",
-    lock: "muxd_ready.socket.lock",
-    users: "muxd_ready.users",
-    trail: "muxd_ready.trail",
+    folder: "muxd_ready",
+    socket: "muxd_ready/socket",
+    lock: "muxd_ready/socket.lock",
+    users: "muxd_ready/users",
+    trail: "muxd_ready/trail",
 };
 
 /// What is known of a server.

@@ -3,16 +3,17 @@
 use crate::frames::USERS;
 use server::{Gate, Handles, Host, serve_through};
 use std::alloc::{AllocError, Global};
-use std::fs::{Files, OpenOptions};
+use std::fs::{DirBuilder, Files, OpenOptions};
 use std::io::Write;
-use std::os::unix::fs::OpenOptionsExt;
+use std::os::unix::fs::{DirBuilderExt, OpenOptionsExt};
 use std::sync::Wait;
 use std::thread::Threads;
 use std::{fs, io};
 
-/// The paths of a server's socket, lock, users' file and trail.
+/// The paths of a server's folder, socket, lock, users' file and trail.
 #[derive(Clone, Copy)]
 pub struct Paths {
+    pub folder: &'static str,
     pub socket: &'static str,
     pub lock: &'static str,
     pub users: &'static str,
@@ -20,8 +21,9 @@ pub struct Paths {
 }
 
 impl Paths {
-    /// Makes the users' file, which only its owner may read and write.
+    /// Makes the folder and the users' file in it, which only their owner may read and write.
     pub fn write_users(&self, rt: &impl Files) -> io::Result<()> {
+        DirBuilder::new().mode(0o700).create(rt, self.folder)?;
         let mut file = OpenOptions::new()
             .write(true)
             .create(true)
@@ -57,6 +59,7 @@ impl Paths {
         for path in [self.trail, self.users, self.lock] {
             fs::remove_file(rt, path)?;
         }
+        fs::remove_dir(rt, self.folder)?;
         Ok(trail)
     }
 }

@@ -10,10 +10,11 @@ use std::thread;
 use std::thread::Threads;
 
 const PATHS: Paths = Paths {
-    socket: "muxd_tests.socket",
-    lock: "muxd_tests.socket.lock",
-    users: "muxd_tests.users",
-    trail: "muxd_tests.trail",
+    folder: "muxd_tests",
+    socket: "muxd_tests/socket",
+    lock: "muxd_tests/socket.lock",
+    users: "muxd_tests/users",
+    trail: "muxd_tests/trail",
 };
 
 // Serves until a peer gives `quit`. The server's output is dropped.

@@ -7,6 +7,7 @@ mod loop_handle;
 mod loops;
 mod ready;
 mod serving;
+mod setup_file;
 mod turns;
 
 pub use server_connections::Turn;

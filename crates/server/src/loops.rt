@@ -3,6 +3,7 @@
 use crate::log_lines::DiskLog;
 use crate::loop_handle::{LoopStart, Shared};
 use crate::ready::ReadyLine;
+use crate::setup_file::Setup;
 use crate::turns::run_loop;
 use server_loop::{Gate, ServerEnd};
 use server_session::{
@@ -10,7 +11,7 @@ use server_session::{
     Trail, keep,
 };
 use server_system::{
-    Host, LastLine, ServeFault, Setup, SocketPath, Unready, cause_of, outcome_of, served,
+    Host, LastLine, ServeFault, SocketPath, Unready, cause_of, outcome_of, served,
 };
 use server_trail::Journal;
 use std::alloc::Global;

@@ -3,6 +3,7 @@
 use crate::loop_handle::{LoopHandle, Shared, places, start_watching};
 use crate::loops::Server;
 use crate::ready::{Latch, ReadyLine};
+use crate::setup_file::Setup;
 use acl::UserId;
 use clap::{ArgMatches, Error};
 use mio::net::UnixListener;
@@ -10,7 +11,7 @@ use program_words::{of_server, tell};
 use server_loop::{Gate, Open};
 use server_session::{Accounts, Limits, Start};
 use server_system::{
-    Host, LastLine, LastLook, Log, ServeFault, Setup, SocketPath, Stamp, UsersFile, WatchedUsers,
+    Host, LastLine, LastLook, Log, ServeFault, SocketPath, Stamp, UsersFile, WatchedUsers,
     fill_closed,
 };
 use server_trail::Journal;
@@ -192,6 +193,46 @@ where
     server.serve(rt, start)
 }
 
+// Reads the users, and says who could become one of them without a token of their own.
+fn read_users<E: Write>(
+    files: HostRuntime,
+    alloc: Global,
+    path: &str,
+    errors: &mut E,
+) -> Result<(Users, Stamp), ServeFault> {
+    let file = UsersFile::new(files, alloc, path)?;
+    let (users, seen) = file.read()?;
+    if seen.access().is_open() {
+        let _ = writeln!(
+            errors,
+            "muxd: others may read the users' file: chmod go-r {path}"
+        );
+    }
+    if let Ok(Some(folder)) = file.open_folder() {
+        let _ = writeln!(errors, "muxd: users' file {path}: {folder}");
+    }
+    Ok((users, seen))
+}
+
+// Listens on the socket, and says who could connect or listen there without a right of their own.
+fn listen<'a, R: Host, E: Write>(
+    rt: &R,
+    path: &'a str,
+    errors: &mut E,
+) -> Result<(SocketPath<'a>, UnixListener), ServeFault> {
+    let (place, listener) = SocketPath::listen(rt, rt.alloc(), path)?;
+    if place.is_open(rt) {
+        let _ = writeln!(
+            errors,
+            "muxd: anybody on this machine may connect to the socket: chmod o-w {path}"
+        );
+    }
+    if let Some(folder) = place.open_folder(rt) {
+        let _ = writeln!(errors, "muxd: socket {path}: {folder}");
+    }
+    Ok((place, listener))
+}
+
 fn run<R, G, O, E>(
     rt: &R,
     options: &Options,
@@ -205,25 +246,10 @@ where
     O: Write + Send,
     E: Write,
 {
-    let alloc = rt.alloc();
-    let (users, seen) = UsersFile::new(handles.files, alloc, options.users)?.read()?;
-    if seen.is_open() {
-        let path = options.users;
-        let _ = writeln!(
-            errors,
-            "muxd: others may read the users' file: chmod go-r {path}"
-        );
-    }
-    let setup = Setup::read(rt, options.setup)?;
-    let (place, listener) = SocketPath::listen(rt, alloc, options.socket)?;
-    if place.is_open(rt) {
-        let path = options.socket;
-        let _ = writeln!(
-            errors,
-            "muxd: anybody on this machine may connect to the socket: chmod o-w {path}"
-        );
-    }
     let files = handles.files;
+    let (users, seen) = read_users(files, rt.alloc(), options.users, errors)?;
+    let setup = Setup::read(rt, options.setup)?;
+    let (place, listener) = listen(rt, options.socket, errors)?;
     let beginning = ServerStart {
         users,
         seen,

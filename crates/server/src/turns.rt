@@ -1,15 +1,15 @@
 //! The turns of one loop.
 
 use crate::acceptor::Acceptor;
-use crate::loop_handle::{LoopHandle, LoopStart, Shared};
 use crate::log_lines::NewsLine;
+use crate::loop_handle::{LoopHandle, LoopStart, Shared};
 use mio::{Events, Poll, Registry, Token};
 use server_connections::Awaits;
 use server_loop::{
     Connections, Gate, Loop, News, Pace, Pending, Reads, ServerEnd, SessionSeat, Submitted, Writes,
     set_look,
 };
-use server_system::{Wired, is_late, most_new, sleep_for};
+use server_system::{PeerSocket, Wired, is_late, most_new, sleep_for};
 use std::io;
 use std::io::{ErrorKind, Read, Write};
 use std::sync::Wait;
@@ -128,7 +128,7 @@ impl Inlet<'_> {
 fn admit<'a, J: SessionSeat + Drop, G: Gate + Drop>(
     rt: &impl Wait,
     inlet: &Inlet<'a>,
-    own: &mut Loop<Wired<'a>, G, J>,
+    own: &mut Loop<Wired<PeerSocket<'a>>, G, J>,
 ) {
     if inlet.is_stuck() {
         own.let_oldest_go(rt, 1);
@@ -148,7 +148,7 @@ fn admit<'a, J: SessionSeat + Drop, G: Gate + Drop>(
 
 // Marks the connections that have something to read or take bytes again. Returns whether a connection may wait to be
 // taken in.
-fn sort(events: &Events, connections: &mut Connections<Wired>) -> bool {
+fn sort(events: &Events, connections: &mut Connections<Wired<PeerSocket>>) -> bool {
     let mut is_asked = false;
     for event in events {
         match event.token() {
@@ -204,7 +204,7 @@ fn tell_news<R: Clock + Wait>(rt: &R, shared: &Shared, happened: Vec<News>) {
 fn begin_turn<'a, J: SessionSeat + Drop, G: Gate + Drop, R: Clock + Wait>(
     rt: &R,
     inlet: &mut Inlet<'a>,
-    own: &mut Loop<Wired<'a>, G, J>,
+    own: &mut Loop<Wired<PeerSocket<'a>>, G, J>,
 ) -> io::Result<Option<Duration>> {
     inlet.sleep(own.pending())?;
     let now = rt.monotonic().ok();
@@ -222,7 +222,7 @@ fn begin_turn<'a, J: SessionSeat + Drop, G: Gate + Drop, R: Clock + Wait>(
 fn turn<J: SessionSeat + Drop, G: Gate + Drop, R: Clock + Wait>(
     rt: &R,
     inlet: &mut Inlet,
-    own: &mut Loop<Wired, G, J>,
+    own: &mut Loop<Wired<PeerSocket>, G, J>,
     now: Option<Duration>,
 ) -> io::Result<()> {
     own.seat.set_time(rt);
@@ -262,7 +262,7 @@ fn look_at_users<S: Read + Write + Drop, J: SessionSeat + Drop, G: Gate + Drop, 
 fn wind_up<J: SessionSeat + Drop, G: Gate + Drop, R: Clock + Wait>(
     rt: &R,
     inlet: &mut Inlet,
-    own: &mut Loop<Wired, G, J>,
+    own: &mut Loop<Wired<PeerSocket>, G, J>,
     end: ServerEnd,
 ) -> io::Result<()> {
     inlet.close();
@@ -283,7 +283,7 @@ fn wind_up<J: SessionSeat + Drop, G: Gate + Drop, R: Clock + Wait>(
 fn take_turns<'a, J: SessionSeat + Drop, G: Gate + Drop, R: Clock + Wait>(
     rt: &R,
     inlet: &mut Inlet<'a>,
-    own: &mut Loop<Wired<'a>, G, J>,
+    own: &mut Loop<Wired<PeerSocket<'a>>, G, J>,
 ) -> io::Result<()> {
     let mut count = 0;
     own.looked = Some(0);
@@ -332,7 +332,7 @@ pub fn run_loop<J: SessionSeat + Drop, G: Gate + Copy + Drop, R: Clock + Wait>(
     let mut gate = gate;
     gate.stand_at(me);
     let loops = shared.loop_handles.len();
-    let mut own: Loop<Wired, G, J> = Loop::new(shared.alloc, seat, gate, loops)?;
+    let mut own: Loop<Wired<PeerSocket>, G, J> = Loop::new(shared.alloc, seat, gate, loops)?;
     own.tells = shared.tells;
     if shared.latch.arrive(rt) {
         take_turns(rt, &mut inlet, &mut own)?;

@@ -1,5 +1,8 @@
 //! What a loop tells the log.
 
+ghost use Rattle.std.specs.Prelude.{◌≡◌};
+ghost use Rattle.server_seat.specs.Ending.{word_of};
+
 use crate::seat::GuestKind;
 use acl::UserId;
 use attach_proto::Why;
@@ -13,6 +16,18 @@ pub struct Name(pub UserId);
 impl Display for Name {
     fn fmt<W: fmt::Write>(&self, f: &mut Formatter<W>) -> fmt::Result {
         f.write_str(str::from_utf8(self.0.as_bytes()).unwrap_or("?"))
+    }
+}
+
+impl GuestKind {
+    /// Its word in the log and in answers.
+    pub fn word(self) -> &'static str
+        ensures { result.now ≡ word_of self }
+    {
+        match self {
+            GuestKind::Client => "client",
+            GuestKind::Window => "window",
+        }
     }
 }
 

@@ -29,15 +29,6 @@ pub enum GuestKind {
     Window,
 }
 
-impl GuestKind {
-    pub fn word(self) -> &'static str {
-        match self {
-            GuestKind::Client => "client",
-            GuestKind::Window => "window",
-        }
-    }
-}
-
 /// Why a server ends.
 #[derive(Clone, Copy, Debug, PartialEq, Eq)]
 pub enum ServerEnd {
@@ -118,6 +109,9 @@ pub trait SessionSeat {
     // told.
     ghost sets_full: { Self → ℕ → Bool → Type 0 };
 
+    // The seat, and whether the trail takes no entry any more. Only a call of `has_stopped` shows that.
+    ghost stops: { Self → Bool → Type 0 };
+
     // The seat, a user, the time, a cost, and whether the user paid it. Only a call of `pay` shows that.
     ghost pays: { Self → User → Time → ℕ → Bool → Type 0 };
 
@@ -161,8 +155,9 @@ pub trait SessionSeat {
     /// Says the time to the trail's file, for the entries of the steps that follow.
     fn set_time<R: Clock>(&self, rt: &R);
 
-    /// Whether the trail has a file to which nothing is written any more.
-    fn has_stopped(&self) -> bool;
+    /// Whether the trail has a file to which nothing is written any more, or takes as much memory as it may.
+    fn has_stopped(&self) -> bool
+        ensures { stops self.now result };
 
     /// Takes the effects that wait for the loop's peers, each with the user who typed it, and says
     /// whether a step other than a draw was made since the last call.

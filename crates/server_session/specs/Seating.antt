@@ -1,16 +1,39 @@
 -- What a seat shows of the session that it is in.
-use Rattle.std.specs.Prelude.{◌≡◌, ℕ, Bool, Option, Result, Ok, Err, IfSome}
+use Rattle.std.specs.Prelude.{◌≡◌, ℕ, Bool, Option, Some, None, Result, Ok, Err, IfSome, IsSome}
+use Rattle.hub.specs.Filing.{kept_of}
 use Rattle.hub.specs.Seats.{Sitting, Told}
 use Rattle.hub.specs.Trails.{Entry}
+use Rattle.hub_ledger.specs.declared.ledger.answer.HubFault.{HubFault}
+use Rattle.hub_ledger.specs.declared.ledger.answer.HubFault.TheVariants as hub
 use Rattle.session.specs.Trace.{EventValue}
 use Rattle.server_seat.specs.declared.seat.SeatAnswer.{SeatAnswer}
 use Rattle.server_seat.specs.declared.seat.SeatFault.{SeatFault}
+use Rattle.server_seat.specs.declared.seat.SeatFault.TheVariants as fault
+use Rattle.server_seat.specs.declared.seat.ServerEnd.TheVariants as end
+use Rattle.server_trail.specs.declared.waiting.Stopped.{Stopped}
 use Rattle.server_session.specs.Loading.{opened_by, size_of}
 use Rattle.server_session.specs.Outcomes.{outcome_of}
 
 -- if an answer has an entry, and the trail a file, then the entry was put down at its place
 abbrev pub IsFiled : {T : Type 0} → (T → ℕ → Option Entry → Type 0) → Option T → Told → Type 0
 IsFiled puts recorder told = IfSome recorder (λ r. IfSome told.place (λ place. puts r place told.entry))
+
+-- the trail's file has stopped or not, as what takes its lines says; without a file nothing stops
+abbrev pub StopsAs : {T : Type 0} → (T → Option Stopped → Type 0) → Option T → Option Stopped → Type 0
+StopsAs stops None stop = stop ≡ None
+StopsAs stops (Some recorder) stop = stops recorder stop
+
+-- why an event has no answer
+abbrev pub fault_of : HubFault → SeatFault
+fault_of hub.NoMemory = fault.NoMemory
+fault_of (hub.TrailFull why) = fault.Over end.TrailFull
+fault_of (hub.Strange why) = fault.Over end.Fault
+
+-- a full trail, and a seat of another hub, refuse only events that write an entry
+abbrev pub IsRefused : EventValue → HubFault → Type 0
+IsRefused event hub.NoMemory = Unit {0}
+IsRefused event (hub.TrailFull why) = IsSome (kept_of event)
+IsRefused event (hub.Strange why) = IsSome (kept_of event)
 
 module _ {B : Type 0} (types_in : B → ℕ → ℕ → B → Type 0) (opens : B → ℕ → Bool → B → Type 0) where
   -- what a step typed into a window was counted, and so was a window that it opened
@@ -19,7 +42,8 @@ module _ {B : Type 0} (types_in : B → ℕ → ℕ → B → Type 0) (opens : B
     pub opened : IfSome (opened_by told.event told.reply)
         (λ window. (done : Bool) × (was : B) × (then : B) × opens was window done then)
 
-  module _ (answers : Sitting → EventValue → Told → Sitting → Type 0) where
+  module _ (answers : Sitting → EventValue → Told → Sitting → Type 0)
+      (refuses : Sitting → EventValue → HubFault → Type 0) where
     -- the session answered this event by one step for the seat, and this is what the loop is told of it
     pub record IsAnswered (event : EventValue) (answer : SeatAnswer) (old new : Sitting) : Type 0 where
       pub told : Told
@@ -29,7 +53,8 @@ module _ {B : Type 0} (types_in : B → ℕ → ℕ → B → Type 0) (opens : B
       pub outcome : answer.outcome ≡ outcome_of told.reply told.checks told.checks_execute
       pub counted : IsCounted told
 
-    -- one step was made and answered, or the event was refused, and the seat is as it was
+    -- one step was made and answered, or the session refused the event, and the seat is as it was
     abbrev pub Steps : Sitting → EventValue → Result SeatAnswer SeatFault → Sitting → Type 0
     Steps old event (Ok answer) new = IsAnswered event answer old new
-    Steps old event (Err fault) new = new ≡ old
+    Steps old event (Err fault) new =
+        (new ≡ old) × (why : HubFault) × refuses old event why × (fault ≡ fault_of why)

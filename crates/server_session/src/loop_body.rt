@@ -1,14 +1,12 @@
-//! A session from its beginning to its end, and the loops that share it, each in a thread of its own.
+//! The loops that share a session, each in a thread of its own.
 
-ghost use Rattle.std.specs.Prelude.{◌≡◌, ◌<◌, ◌≤◌, ℕ, IfOk, Some, None, length, true, false};
+ghost use Rattle.std.specs.Prelude.{◌≡◌, ◌<◌, ◌≤◌, IfOk, length};
 ghost use Rattle.acl.specs.declared.edition.Edition.TheVariants.{Second};
 ghost use Rattle.session.specs.Trace.{begun as run_begun};
-ghost use Rattle.hub.specs.Closing.{IsFirstWrong, receipts_of};
-ghost use Rattle.hub.specs.Legal.{IsLegal};
 ghost use Rattle.hub.specs.Seats.{StandsFor};
 ghost use Rattle.server_session.specs.SettingUp.{HasBegun};
 
-use crate::setting_up::{Giver, set_up};
+use crate::setting_up::{Agreement, Giver, SetUp, close, set_up};
 use crate::shared_session::SharedSession;
 use acl::UserId;
 use hub::{Begun, Hub, Seat, Session, Trail};
@@ -173,7 +171,7 @@ fn begin<L, P, K, R>(
     users: Users,
     setup: &[u8],
     loop_body: &K,
-) -> Result<(RunningSession<L>, Vec<Seat<L>>), LoopsFault>
+) -> Result<(RunningSession<L>, Vec<Seat<L>>, SetUp), LoopsFault>
 where
     L: Begun,
     P: Drop,
@@ -204,39 +202,8 @@ where
     let first = &mut seats[0];
     first.ask_for_entries();
     match set_up(rt, Giver { alloc, owner }, &shared, first, setup) {
-        Ok(()) => Ok((RunningSession { shared, left }, seats)),
+        Ok(set_up) => Ok((RunningSession { shared, left }, seats, set_up)),
         Err(fault) => Err(fault),
-    }
-}
-
-/// Whether every answer that a loop was given stands in the session's trail. Only a session that is
-/// closed says so.
-#[derive(Clone, Copy, Debug)]
-pub struct Agreement {
-    is_so: bool,
-}
-
-impl Agreement {
-    /// Whether it is so.
-    pub fn holds(self) -> bool
-        ensures { result ≡ self.is_so }
-    {
-        self.is_so
-    }
-}
-
-// Closes a session whose loops gave these seats back.
-fn close<L: Begun>(hub: Hub<L>, left: Vec<Seat<L>>) -> (Trail, Agreement)
-    ensures legal { IsLegal result.0 }
-    ensures agrees { result.1.is_so ≡ true
-        → IsFirstWrong result.0.entries (receipts_of left.items) None }
-    ensures differs { result.1.is_so ≡ false
-        → (wrong : ℕ) × IsFirstWrong result.0.entries (receipts_of left.items) (Some wrong) }
-{
-    let (trail, wrong) = hub.close(left);
-    match wrong {
-        Some(_) => (trail, Agreement { is_so: false }),
-        None => (trail, Agreement { is_so: true }),
     }
 }
 
@@ -261,10 +228,10 @@ where
         places,
         ..
     } = start;
-    let (running, seats) = begin::<L, P, K, R>(rt, parts, users, setup, loop_body)?;
+    let (running, seats, set_up) = begin::<L, P, K, R>(rt, parts, users, setup, loop_body)?;
     run_all(rt, &running, seats, places, loop_body);
     let RunningSession { shared, left } = running;
-    let (trail, agreement) = close(shared.into_hub(), left.into_inner());
+    let (trail, agreement) = close(shared.into_hub(), set_up, left.into_inner());
     loop_body.compare(rt, &trail);
     Ok(agreement)
 }

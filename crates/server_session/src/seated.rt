@@ -1,12 +1,13 @@
 //! A loop's seat in the session that it shares.
 
-ghost use Rattle.std.specs.Prelude.{◌≡◌, true};
+ghost use Rattle.std.specs.Prelude.{◌≡◌, Option, is_some, true};
 ghost use Rattle.session.specs.Trace.{happening};
 ghost use Rattle.hub.specs.Seats.{Ruled};
 ghost use Rattle.server_session.specs.Loading.{closed_by, opened_by, size_of};
 ghost use Rattle.server_session.specs.Counting.{millis_of};
 ghost use Rattle.server_session.specs.Outcomes.{checked, outcome_of};
-ghost use Rattle.server_session.specs.Seating.{IsCounted, Steps};
+ghost use Rattle.server_trail.specs.declared.waiting.Stopped.{Stopped as Stop};
+ghost use Rattle.server_session.specs.Seating.{IsCounted, Steps, fault_of};
 
 use crate::accounts::Accounts;
 use crate::books::Counting;
@@ -41,6 +42,17 @@ fn outcome_of(reply: &Reply, checks: Option<bool>, execute: bool) -> Outcome
         Err(Refusal::NoMemory) => Outcome::Untaken,
         Err(_) => Outcome::Denied,
         Ok(_) => checked(checks, execute),
+    }
+}
+
+// Why an event has no answer, from why the session made no step.
+fn fault_of(fault: HubFault) -> SeatFault
+    ensures { result ≡ fault_of fault }
+{
+    match fault {
+        HubFault::NoMemory => SeatFault::NoMemory,
+        HubFault::TrailFull(_) => SeatFault::Over(ServerEnd::TrailFull),
+        HubFault::Strange(_) => SeatFault::Over(ServerEnd::Fault),
     }
 }
 
@@ -123,7 +135,7 @@ impl<L: Begun, S: LoopSession<L>, B: Counting> SessionSeat for Seated<'_, L, S, 
 
     // The session answered by one step for this seat, or refused.
     ghost submits = { λ s event result left.
-        Steps B.types_in B.opens (S.answers s.shared.now) s.seat event result left.seat };
+        Steps B.types_in B.opens (S.answers s.shared.now) (S.refuses s.shared.now) s.seat event result left.seat };
 
     // The session handed these effects to this seat.
     ghost takes = { λ s effects told left. S.hands s.shared.now s.seat effects told left.seat };
@@ -135,6 +147,10 @@ impl<L: Begun, S: LoopSession<L>, B: Counting> SessionSeat for Seated<'_, L, S, 
     ghost finds_full = { λ s window is_full. (books : B) × B.finds_full books window is_full };
 
     ghost sets_full = { λ s window is_full. (was : B) × (then : B) × B.sets_full was window is_full then };
+
+    // If the trail's file has stopped, that is told.
+    ghost stops = { λ s has_stopped. (stop : Option Stop) × S.stops s.shared.now stop
+        × (is_some stop ≡ true → has_stopped ≡ true) };
 
     ghost pays = { λ s user now cost is_paid.
         (was : B) × (then : B) × B.pays was user (millis_of now) cost is_paid then };
@@ -167,9 +183,7 @@ impl<L: Begun, S: LoopSession<L>, B: Counting> SessionSeat for Seated<'_, L, S, 
                     typed,
                 })
             }
-            Err(HubFault::NoMemory) => Err(SeatFault::NoMemory),
-            Err(HubFault::TrailFull(_)) => Err(SeatFault::Over(ServerEnd::TrailFull)),
-            Err(HubFault::Strange(_)) => Err(SeatFault::Over(ServerEnd::Fault)),
+            Err(fault) => Err(fault_of(fault)),
         }
     }
 
@@ -194,7 +208,7 @@ impl<L: Begun, S: LoopSession<L>, B: Counting> SessionSeat for Seated<'_, L, S, 
     }
 
     fn has_stopped(&self) -> bool {
-        self.shared.has_stopped() || self.accounts.trail.is_full()
+        self.shared.stopped().is_some() || self.accounts.trail.filled().is_some()
     }
 
     fn take<R: Wait>(&mut self, rt: &R) -> (Vec<(Effect, Option<UserId>)>, bool) {

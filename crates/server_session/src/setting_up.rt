@@ -1,6 +1,8 @@
-//! What is commanded before anybody connects.
+//! What is commanded before anybody connects, and how a session is closed.
 
-ghost use Rattle.std.specs.Prelude.{◌≡◌, IfErr, OnOk, Ok, length, map};
+ghost use Rattle.std.specs.Prelude.{◌≡◌, ℕ, IfErr, OnOk, Ok, Some, None, false, length, map, true};
+ghost use Rattle.hub.specs.Closing.{IsFirstWrong, receipts_of};
+ghost use Rattle.hub.specs.Legal.{IsLegal};
 ghost use Rattle.program_words.specs.SetupLines.{line_of};
 ghost use Rattle.session.specs.Texts.{text_of};
 ghost use Rattle.session.specs.event.Done.{Done};
@@ -10,7 +12,7 @@ ghost use Rattle.server_session.specs.SettingUp.{IsStopped, Stops};
 use crate::loop_body::LoopsFault;
 use crate::shared_session::SharedSession;
 use acl::UserId;
-use hub::{Begun, Seat};
+use hub::{Begun, Hub, Seat, Trail};
 use program_words::{SetupLine, read_setup};
 use server_trail::Recorder;
 use session::{Event, Refusal, spoken};
@@ -93,12 +95,50 @@ pub fn set_up<L: Begun, R: Wait>(
     shared: &SharedSession<L, Recorder>,
     seat: &mut Seat<L>,
     file: &[u8],
-) -> Result<(), LoopsFault>
+) -> Result<SetUp, LoopsFault>
     ensures done { OnOk result (IsSetUp giver.owner file.now seat.old seat.new) }
     ensures fails { IfErr result (λ fault. Fails giver.owner file.now fault seat.old seat.new) }
 {
     match read_setup(giver.alloc, file) {
-        Ok(lines) => give_all(rt, giver, shared, seat, &lines),
+        Ok(lines) => match give_all(rt, giver, shared, seat, &lines) {
+            Ok(()) => Ok(SetUp(())),
+            Err(fault) => Err(fault),
+        },
         Err(fault) => Err(LoopsFault::Setup(fault)),
+    }
+}
+
+/// Shows that all lines of a session's setup were done.
+#[derive(Drop)]
+pub struct SetUp(());
+
+/// Whether every answer that a loop was given stands in the session's trail. Only a session that was set up
+/// and is closed says so.
+#[derive(Clone, Copy, Debug)]
+pub struct Agreement {
+    is_so: bool,
+}
+
+impl Agreement {
+    /// Whether it is so.
+    pub fn holds(self) -> bool
+        ensures { result ≡ self.is_so }
+    {
+        self.is_so
+    }
+}
+
+/// Closes a session that was set up, whose loops gave these seats back.
+pub fn close<L: Begun>(hub: Hub<L>, _set_up: SetUp, left: Vec<Seat<L>>) -> (Trail, Agreement)
+    ensures legal { IsLegal result.0 }
+    ensures agrees { result.1.is_so ≡ true
+        → IsFirstWrong result.0.entries (receipts_of left.items) None }
+    ensures differs { result.1.is_so ≡ false
+        → (wrong : ℕ) × IsFirstWrong result.0.entries (receipts_of left.items) (Some wrong) }
+{
+    let (trail, wrong) = hub.close(left);
+    match wrong {
+        Some(_) => (trail, Agreement { is_so: false }),
+        None => (trail, Agreement { is_so: true }),
     }
 }

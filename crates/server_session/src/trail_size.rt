@@ -43,6 +43,10 @@ fn entry_size(entry: &TrailEntry) -> u64 {
     size as u64
 }
 
+/// Shows that a trail takes as much memory as it may.
+#[derive(Clone, Copy, Debug)]
+pub struct Filled(());
+
 /// At most how many bytes of memory a session's trail takes.
 #[derive(Drop)]
 pub struct TrailSize {
@@ -69,8 +73,12 @@ impl TrailSize {
         by_entries.or(mark_between(before, before.saturating_add(size), MOST))
     }
 
-    /// Whether the trail takes as much as it may.
-    pub fn is_full(&self) -> bool {
-        self.bytes.load(Ordering::SeqCst) > MOST
+    /// What shows that the trail takes as much as it may; None as long as it may grow.
+    pub fn filled(&self) -> Option<Filled> {
+        if self.bytes.load(Ordering::SeqCst) > MOST {
+            Some(Filled(()))
+        } else {
+            None
+        }
     }
 }

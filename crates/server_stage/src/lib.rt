@@ -20,9 +20,8 @@ pub use frames::{
 pub use pages::{are_alike, shows};
 pub use server_loop::ServerEnd;
 pub use stage::{System, perform};
-pub use streams::{Habit, StreamLog};
-
 use std::alloc::{AllocError, AllocFailed};
+pub use streams::{Habit, StreamLog};
 
 /// What couldn't be had.
 #[derive(Clone, Copy, Debug, PartialEq, Eq)]

@@ -1,7 +1,7 @@
 //! What is outside a loop: its peers, and the time.
 
-use crate::acts::{LoopState, Note, StageAct};
 use crate::Stop;
+use crate::acts::{LoopState, Note, StageAct};
 use crate::streams::{Far, Habit, Near, ends};
 use std::alloc::Global;
 use std::time::Duration;

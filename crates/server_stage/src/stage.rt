@@ -1,10 +1,10 @@
 //! Loops over a new session, on which acts are played.
 
+use crate::Stop;
 use crate::acts::{LoopState, Note, Seen, StageAct};
 use crate::frames::USERS;
 use crate::latch::{Calls, LatchGate};
 use crate::outside::Outside;
-use crate::Stop;
 use crate::streams::{Habit, Near};
 use hub::{Kept, TrailEntry};
 use server_loop::{Gate, Loop, SessionSeat};

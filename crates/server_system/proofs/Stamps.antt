@@ -36,4 +36,4 @@ ints x y = (Decides-int_eq x y).0
 
 pub stamps : Tells of_files.StampPartialEq.TheImpl.eq-value.it
 stamps = struct of_files.Stamp.the_type
-    (numbers and numbers and numbers and ints and ints and ints and ints and last numbers)
+    (numbers and numbers and numbers and ints and ints and ints and ints and numbers and last numbers)

@@ -1,12 +1,14 @@
 -- The users' file: when it is read, and what is taken from it.
 use Rattle.std.specs.Prelude.{◌≡◌, ◌⊎◌, ◌==◌, ℕ, ◌+◌, ◌-◌, ◌^◌, ◌<◌, ◌≤◌, List, length, Option, Some, None}
 use Rattle.std.specs.Prelude.{Result, Ok, Err}
-use Rattle.std.specs.Prelude.{bit_and, if◌then◌else◌, min, slice_get}
+use Rattle.std.specs.Prelude.{false, if◌then◌else◌, min, slice_get}
 use Rattle.acl.specs.Names.{name_of}
 use Rattle.acl.specs.Same.{same_user}
 use Rattle.acl.specs.declared.user_id.UserId.{UserId}
 use Rattle.server_users.specs.Entries.{Entry, IsFileOf, names}
 use Rattle.server_users.specs.Stands.{Breaks}
+use Rattle.server_users.specs.Trust.{IsClosed, IsKept, IsOwn}
+use Rattle.server_users.specs.declared.trust.Access.{Access}
 use Rattle.server_system.specs.declared.fault.ServeFault.{ServeFault}
 use Rattle.server_system.specs.declared.fault.ServeFault.TheVariants as fault
 use Rattle.server_system.specs.declared.users_file.LastLook.{LastLook}
@@ -17,32 +19,34 @@ use Rattle.server_system.specs.declared.watched.UsersNews.TheVariants as news
 
 -- ---- what is read
 
--- its group and others may not write it
-abbrev pub IsSafe : Stamp → Type 0
-IsSafe stamp = bit_and stamp.mode 0o022 ≡ 0
+abbrev pub access_of : Stamp → Access
+access_of stamp = record { owner = stamp.owner; mode = stamp.mode }
 
--- a file of at most 1,048,576 bytes, which others may not write, is the file of these users
-pub record AreOf (stamp : Stamp) (file : List ℕ) (users : List Entry) : Type 0 where
-  pub safe : IsSafe stamp
+-- a file of at most 1,048,576 bytes, which only root and this account can change, is the file of these users
+pub record AreOf (account : Option ℕ) (stamp : Stamp) (file : List ℕ) (users : List Entry) : Type 0 where
+  pub kept : IsKept account (access_of stamp)
   pub small : length file ≤ 1048576
   pub lines : IsFileOf users file
 
-abbrev pub IsWrong : Stamp → List ℕ → ServeFault → Type 0
-IsWrong stamp file (fault.Writable path) = IsSafe stamp → ⊥
-IsWrong stamp file (fault.TooLarge path) = 1048576 < length file
-IsWrong stamp file (fault.Users path why) = Breaks file why
-IsWrong stamp file fault.NoMemory = Unit {0}
-IsWrong stamp file other = ⊥
+abbrev pub IsWrong : Option ℕ → Stamp → List ℕ → ServeFault → Type 0
+IsWrong account stamp file (fault.Foreign path number) = IsOwn account (access_of stamp) → ⊥
+IsWrong account stamp file (fault.Writable path) = IsClosed (access_of stamp) → ⊥
+IsWrong account stamp file (fault.TooLarge path) = 1048576 < length file
+IsWrong account stamp file (fault.Users path why) = Breaks file why
+IsWrong account stamp file fault.NoMemory = Unit {0}
+IsWrong account stamp file other = ⊥
 
 -- what is remembered of a look, which found the file so, and this fault
 abbrev pub after_look : Option Stamp → Option ServeFault → LastLook → LastLook
 after_look found (Some fault.NoMemory) seen = seen
 after_look found (Some (fault.NoFile path error)) seen = record { stamp = None; failed = Some found }
+after_look found (Some (fault.Folder path folder)) seen = record { stamp = None; failed = Some found }
 after_look found other seen = record { stamp = found; failed = None }
 
 -- such a fault isn't news if it has been told
 abbrev pub MayBeTold : Option ServeFault → Type 0
 MayBeTold (Some (fault.NoFile path error)) = Unit {0}
+MayBeTold (Some (fault.Folder path folder)) = Unit {0}
 MayBeTold other = ⊥
 
 -- the fault of what was read, if there is one
@@ -66,6 +70,18 @@ module _ {F : Type 0} (finds : F → Option Stamp → Type 0) (reads : F → Res
 
 -- ---- what is known
 
+-- no look was asked for yet
+abbrev pub unlooked : Looks
+unlooked = record {
+  wanted = 0;
+  begun = 0;
+  done = 0;
+  count = 0;
+  users = None;
+  news = None;
+  is_over = false;
+}
+
 abbrev pub later : ℕ → ℕ
 later count = min (count + 1) (2 ^ 64 - 1)
 
@@ -78,6 +94,11 @@ pub record Knows (looks : Looks) (count : ℕ) (known : KnownUsers) : Type 0 whe
   pub look : known.look ≡ looks.done
   pub count_is : known.count ≡ looks.count
   pub users : known.users ≡ (if looks.count == count then None else looks.users)
+
+-- without memory for a copy of other users nothing is told
+abbrev pub TellsOf : Looks → ℕ → Option KnownUsers → Type 0
+TellsOf looks count (Some known) = Knows looks count known
+TellsOf looks count None = looks.count ≡ count → ⊥
 
 -- users of a file are taken if the first of them is the session's owner
 abbrev pub with_users : UserId → UserId → List Entry → Looks → Looks

@@ -1,7 +1,7 @@
 //! What can be wrong, and what to do about it.
 
 use server_trail::JournalFault;
-use server_users::UsersFault;
+use server_users::{OpenFolder, UsersFault};
 use std::alloc::{AllocError, AllocFailed, Global};
 use std::fmt::{Display, Formatter};
 use std::io::ErrorKind;
@@ -37,6 +37,8 @@ pub enum SocketFault {
     NoPath,
     #[error("the path is too long: choose one of at most 107 bytes")]
     LongPath,
+    #[error("{0}")]
+    Folder(OpenFolder),
     #[error("can't make it: {0} (make its folder, see the folder's modes, or choose another path)")]
     NotMade(SystemError),
     #[error("out of memory")]
@@ -58,6 +60,12 @@ pub enum ServeFault {
     /// The users' file at this path.
     #[error("others may write the users' file: chmod go-w {0}")]
     Writable(String),
+    /// The users' file at this path, and the account that runs the server.
+    #[error("users' file {0} belongs to another account: chown {1} {0}")]
+    Foreign(String, u32),
+    /// The users' file at this path.
+    #[error("users' file {0}: {1}")]
+    Folder(String, OpenFolder),
     /// What stands at this path.
     #[error("users' file {0} is no plain file: set --users")]
     NotPlain(String),

@@ -1,11 +1,10 @@
-//! What a server takes from the system: its users' file, its setup, its socket, its log, and the
+//! What a server takes from the system: its users' file, its socket, its log, and the
 //! connections that a loop waits for.
 #![tactic(auto)]
 
 mod ending;
 mod fault;
 mod log;
-mod setup_file;
 mod socket;
 mod standard;
 mod users_file;
@@ -13,18 +12,16 @@ mod watched;
 mod wired;
 
 pub use ending::{Unready, cause_of, is_late, most_new, outcome_of, served, sleep_for};
-pub use fault::ServeFault;
+pub use fault::{ServeFault, SystemError};
 pub use log::Log;
-pub use setup_file::Setup;
 pub use socket::SocketPath;
 pub use standard::{LastLine, fill_closed};
-pub use users_file::{LastLook, Stamp, UsersFile, UsersSource, look_at};
-pub use watched::{KnownUsers, WatchedUsers};
-pub use wired::{Wired, bound_unread};
-
 use std::fs::{File, Files};
 use std::net::Net;
 use std::time::Clock;
+pub use users_file::{LastLook, Stamp, UsersFile, UsersSource, look_at};
+pub use watched::{KnownUsers, WatchedUsers};
+pub use wired::{PeerSocket, Wired, bound_unread};
 
 /// A runtime with all that a server asks for, except to wait and to start threads: a function says these
 /// two itself, as they let it never return.

@@ -1,8 +1,9 @@
 //! The socket that a server listens on.
 
-use crate::fault::{ServeFault, SocketFault};
 use crate::Host;
+use crate::fault::{ServeFault, SocketFault};
 use mio::net::{UnixListener, UnixStream};
+use server_users::{OpenFolder, open_folder, own_account};
 use std::alloc::Global;
 use std::fs::{File, OpenOptions, TryLockError};
 use std::io::ErrorKind;
@@ -105,6 +106,10 @@ fn listen<R: Host>(rt: &R, alloc: Global, path: &str) -> Result<(File, UnixListe
     if path.len() > LONGEST {
         return Err(SocketFault::LongPath);
     }
+    match open_folder(rt, own_account(rt), path)? {
+        Some(folder) if !folder.is_above => return Err(SocketFault::Folder(folder)),
+        _ => {}
+    }
     is_there(rt, path)?;
     let lock = lock(rt, alloc, path)?;
     if is_there(rt, path)? {
@@ -131,6 +136,11 @@ impl SocketPath<'_> {
             }
             Err(fault) => Err(ServeFault::Socket(String::from_str(alloc, path)?, fault)),
         }
+    }
+
+    /// The first folder above the socket's own in which others could replace what is there.
+    pub fn open_folder<R: Host>(&self, rt: &R) -> Option<OpenFolder> {
+        open_folder(rt, own_account(rt), self.path).ok().flatten()
     }
 
     /// Whether the socket's mode lets everybody on the machine connect.

@@ -1,12 +1,12 @@
 //! The users' file, and whether it has changed.
 
-ghost use Rattle.std.specs.Prelude.{◌≡◌, ◌==◌, Err, IfErr, IfOk, List, Some, ℕ, bit_and, false, not, true};
+ghost use Rattle.std.specs.Prelude.{◌≡◌, Err, IfErr, IfOk, List, None, Some, ℕ, false};
 ghost use Rattle.std.specs.Option.{option_copied};
-ghost use Rattle.server_system.specs.Looking.{AreOf, IsSafe, IsWrong, LooksAt, MayBeTold, after_look};
+ghost use Rattle.server_system.specs.Looking.{AreOf, IsWrong, LooksAt, MayBeTold, access_of, after_look};
 ghost use Rattle.server_system.specs.declared.fault.ServeFault.TheVariants.{NoMemory};
 
 use crate::fault::{ServeFault, SystemError};
-use server_users::{Users, UsersFault};
+use server_users::{Access, Flaw, OpenFolder, Users, UsersFault, open_folder, own_account};
 use std::alloc::{AllocError, Global};
 use std::fs::Metadata;
 use std::io::Read;
@@ -16,11 +16,6 @@ use std::{fs, io};
 
 // A file of more bytes isn't read.
 const MOST: usize = 1_048_576;
-
-// The modes that let a file's group or others read or write it.
-const OTHERS_READ: u32 = 0o044;
-
-const OTHERS_WRITE: u32 = 0o022;
 
 /// What tells a file from the one that was read.
 #[derive(Clone, Copy, Debug, PartialEq, Eq)]
@@ -32,11 +27,13 @@ pub struct Stamp {
     written_nanos: i64,
     changed: i64,
     changed_nanos: i64,
+    owner: u32,
     mode: u32,
 }
 
 impl Stamp {
     fn of(found: &Metadata) -> Stamp {
+        let Access { owner, mode } = Access::of(found);
         Stamp {
             device: found.dev(),
             inode: found.ino(),
@@ -45,33 +42,37 @@ impl Stamp {
             written_nanos: found.mtime_nsec(),
             changed: found.ctime(),
             changed_nanos: found.ctime_nsec(),
-            mode: found.mode(),
+            owner,
+            mode,
         }
     }
 
-    /// Whether others may read the file.
-    pub fn is_open(&self) -> bool
-        ensures { result ≡ not (bit_and self.now.mode 0o044 == 0) }
+    /// Whose the file is, and its mode.
+    pub fn access(&self) -> Access
+        ensures { result ≡ access_of self.now }
     {
-        self.mode & OTHERS_READ != 0
-    }
-
-    // Whether others may write the file.
-    fn is_writable(&self) -> bool
-        ensures safe { result ≡ false → IsSafe self.now }
-        ensures open { result ≡ true → IsSafe self.now → ⊥ }
-    {
-        self.mode & OTHERS_WRITE != 0
+        Access {
+            owner: self.owner,
+            mode: self.mode,
+        }
     }
 }
 
-// The users of a file of this path and stamp, which has these bytes.
-fn users_of(alloc: Global, path: String, stamp: &Stamp, file: &[u8]) -> Result<Users, ServeFault>
-    ensures ok { IfOk result (AreOf stamp.now file.now) }
-    ensures err { IfErr result (IsWrong stamp.now file.now) }
+// The users of a file of this path and stamp, which has these bytes, for a server of this account.
+fn users_of(
+    alloc: Global,
+    path: String,
+    account: Option<u32>,
+    stamp: &Stamp,
+    file: &[u8],
+) -> Result<Users, ServeFault>
+    ensures ok { IfOk result (AreOf account stamp.now file.now) }
+    ensures err { IfErr result (IsWrong account stamp.now file.now) }
 {
-    if stamp.is_writable() {
-        return Err(ServeFault::Writable(path));
+    match stamp.access().flaw(account) {
+        Some(Flaw::Owner) => return Err(ServeFault::Foreign(path, account.unwrap_or(0))),
+        Some(Flaw::Mode) => return Err(ServeFault::Writable(path)),
+        None => {}
     }
     if file.len() > MOST {
         return Err(ServeFault::TooLarge(path));
@@ -112,13 +113,32 @@ pub struct UsersFile {
     files: HostRuntime,
     alloc: Global,
     path: String,
+    // The account that the server runs as.
+    account: Option<u32>,
 }
 
 impl UsersFile {
     /// The users' file of this path.
     pub fn new(files: HostRuntime, alloc: Global, path: &str) -> Result<UsersFile, AllocError> {
         let path = String::from_str(alloc, path)?;
-        Ok(UsersFile { files, alloc, path })
+        let account = own_account(&files);
+        Ok(UsersFile {
+            files,
+            alloc,
+            path,
+            account,
+        })
+    }
+
+    /// The first folder in which others could replace the file: of those that hold it, or hold a link to
+    /// it.
+    pub fn open_folder(&self) -> io::Result<Option<OpenFolder>> {
+        let path = self.path.as_str();
+        let there = fs::canonicalize(&self.files, path)?;
+        match open_folder(&self.files, self.account, path)? {
+            None => open_folder(&self.files, self.account, there.as_str()),
+            folder => Ok(folder),
+        }
     }
 
     // The file's bytes, of which at most one too many is read.
@@ -130,11 +150,16 @@ impl UsersFile {
     }
 
     /// Reads the users, with the file's stamp. Only a plain file is read, of at most 1,048,576 bytes, and
-    /// only if others may not write it.
+    /// only if others can't write or replace it.
     pub fn read(&self) -> Result<(Users, Stamp), ServeFault>
-        ensures ok { IfOk result (λ read. (file : List ℕ) × AreOf read.1 file read.0) }
+        ensures ok { IfOk result (λ read. (file : List ℕ) × AreOf self.now.account read.1 file read.0) }
     {
         let path = String::from_str(self.alloc, self.path.as_str())?;
+        match self.open_folder() {
+            Ok(Some(folder)) if !folder.is_above => return Err(ServeFault::Folder(path, folder)),
+            Ok(_) => {}
+            Err(error) => return Err(ServeFault::NoFile(path, SystemError(error))),
+        }
         let stamp = match fs::metadata(&self.files, self.path.as_str()) {
             Ok(found) if found.is_file() => Stamp::of(&found),
             Ok(_) => return Err(ServeFault::NotPlain(path)),
@@ -144,7 +169,7 @@ impl UsersFile {
             Ok(file) => file,
             Err(error) => return Err(ServeFault::NoFile(path, SystemError(error))),
         };
-        match users_of(self.alloc, path, &stamp, &file) {
+        match users_of(self.alloc, path, self.account, &stamp, &file) {
             Ok(users) => Ok((users, stamp)),
             Err(fault) => Err(fault),
         }
@@ -189,8 +214,20 @@ impl LastLook {
         }
     }
 
+    // The file can't be read, or others can replace it. The answer is whether that is news: it is told once,
+    // and the file is read again at the next look.
+    fn fails(&mut self, found: Option<Stamp>) -> bool
+        ensures seen { self.new ≡ record { stamp = None; failed = Some found } }
+        ensures told { result ≡ false → self.old.failed ≡ Some found }
+    {
+        let was_told = self.failed == Some(found);
+        self.stamp = None;
+        self.failed = Some(found);
+        !was_told
+    }
+
     // Takes what a look found: the file's stamp, and the fault for which it wasn't read. The answer is
-    // whether that is news. A file that can't be read is told once, and read again at the next look.
+    // whether that is news.
     fn is_news(&mut self, found: Option<Stamp>, fault: Option<&ServeFault>) -> bool
         ensures seen { self.new ≡ after_look found (option_copied fault.entry) self.old }
         ensures told { result ≡ false
@@ -198,12 +235,8 @@ impl LastLook {
     {
         match fault {
             Some(ServeFault::NoMemory) => true,
-            Some(ServeFault::NoFile(_, _)) => {
-                let was_told = self.failed == Some(found);
-                self.stamp = None;
-                self.failed = Some(found);
-                !was_told
-            }
+            Some(ServeFault::NoFile(_, _)) => self.fails(found),
+            Some(ServeFault::Folder(_, _)) => self.fails(found),
             _ => {
                 self.stamp = found;
                 self.failed = None;

@@ -1,10 +1,9 @@
 //! The users' file while a server runs.
 
-ghost use Rattle.std.specs.Prelude.{◌≡◌, IfSome, List, None, Option, Result, true};
+ghost use Rattle.std.specs.Prelude.{◌≡◌, ◌&&◌, IfSome, List, None, Option, Result, nat_le, not, true};
 ghost use Rattle.server_users.specs.Entries.{Entry};
-ghost use Rattle.server_system.specs.Looking.{Asks, Ends, Knows, LooksAt, Takes, later};
+ghost use Rattle.server_system.specs.Looking.{Asks, Ends, LooksAt, Takes, TellsOf, later, unlooked};
 ghost use Rattle.server_system.specs.declared.fault.ServeFault.{ServeFault as Faulty};
-ghost use Rattle.server_system.specs.declared.watched.Looks.{Looks as Looked};
 
 use crate::fault::ServeFault;
 use crate::log::Log;
@@ -20,9 +19,9 @@ use std::{fmt, thread};
 // If there is no memory, the file is looked at again after this number of milliseconds.
 const PAUSE: u64 = 20;
 
-// What a look found.
+/// What a look found.
 #[derive(Drop)]
-enum UsersNews {
+pub enum UsersNews {
     Anew,
     OtherOwner,
     Faulty(ServeFault),
@@ -49,9 +48,59 @@ impl Display for UsersLine<'_> {
     }
 }
 
+/// What is known of looks at a users' file, under the lock of the loops and of the thread that looks. Each
+/// relation is shown by a call of its function alone.
+pub trait SharedLooks {
+    ghost use Rattle.std.specs.Prelude.{ℕ, Bool, List, Option, Result};
+    ghost use Rattle.acl.specs.declared.user_id.UserId.{UserId as User};
+    ghost use Rattle.server_users.specs.Entries.{Entry};
+    ghost use Rattle.server_system.specs.declared.fault.ServeFault.{ServeFault as Faulty};
+    ghost use Rattle.server_system.specs.declared.watched.KnownUsers.{KnownUsers as Known};
+
+    // The number of the look that was asked for.
+    ghost asks: { Self → ℕ → Self → Type 0 };
+
+    ghost begins: { Self → Bool → Self → Type 0 };
+
+    ghost idles: { Self → Bool → Type 0 };
+
+    // The owner of the session, and what the look found, if anything is new.
+    ghost ends: { User → Option (Result (List Entry) Faulty) → Self → Self → Type 0 };
+
+    // The count of the users that a loop has, and what it learns.
+    ghost tells: { Self → ℕ → Option Known → Type 0 };
+
+    // Asks for a look that begins after this, and gives its number.
+    fn ask(&mut self) -> u64
+        ensures { asks self.old result self.new };
+
+    // A look begins. Returns whether somebody may still ask for one.
+    fn begin(&mut self) -> bool
+        ensures { begins self.old result self.new };
+
+    // Ends the look that was begun, which found this if anything is new.
+    fn end(&mut self, owner: UserId, found: Option<Result<Users, ServeFault>>)
+        ensures { ends owner found self.old self.new };
+
+    // What is known now, for a loop that has the users of this count; None if there is no memory for a
+    // copy of the users.
+    fn newest(&self, alloc: Global, count: u64) -> Option<KnownUsers>
+        ensures { tells self.now count result };
+
+    // Takes what the last look found, unless that was taken.
+    fn take_news(&mut self) -> Option<UsersNews>;
+
+    // Whether no look is to begin: none is asked for that wasn't begun, and somebody may still ask.
+    fn is_idle(&self) -> bool
+        ensures { idles self.now result };
+
+    // Nobody waits for a look any more.
+    fn stop(&mut self);
+}
+
 // The looks at the file, counted from 1.
 #[derive(Drop)]
-struct Looks {
+pub struct Looks {
     // The last look that somebody waits for.
     wanted: u64,
     begun: u64,
@@ -64,6 +113,21 @@ struct Looks {
 }
 
 impl Looks {
+    // No look was asked for yet.
+    fn new() -> Looks
+        ensures { result ≡ unlooked }
+    {
+        Looks {
+            wanted: 0,
+            begun: 0,
+            done: 0,
+            count: 0,
+            users: None,
+            news: None,
+            is_over: false,
+        }
+    }
+
     // Takes the users of a sound file of this owner; after any other file they stay as they were.
     // Either is told.
     fn take(&mut self, owner: UserId, found: Result<Users, ServeFault>)
@@ -79,38 +143,38 @@ impl Looks {
             Err(fault) => self.news = Some(UsersNews::Faulty(fault)),
         }
     }
+}
 
-    // Asks for a look that begins after this, and gives its number.
-    fn ask(&mut self) -> u64
-        ensures { Asks self.old result self.new }
-    {
+impl SharedLooks for Looks {
+    ghost asks = { Asks };
+
+    ghost begins = { λ old goes_on new.
+        (new ≡ record old { begun = later old.begun }) × (goes_on ≡ not old.is_over) };
+
+    ghost idles = { λ looks is_idle. is_idle ≡ (not looks.is_over && nat_le looks.wanted looks.begun) };
+
+    ghost ends = { Ends };
+
+    ghost tells = { TellsOf };
+
+    fn ask(&mut self) -> u64 {
         self.wanted = self.begun.saturating_add(1);
         self.wanted
     }
 
-    // A look begins.
-    fn begin(&mut self)
-        ensures { self.new ≡ record self.old { begun = later self.old.begun } }
-    {
+    fn begin(&mut self) -> bool {
         self.begun = self.begun.saturating_add(1);
+        !self.is_over
     }
 
-    // Ends the look that was begun, which found this if anything is new.
-    fn end(&mut self, owner: UserId, found: Option<Result<Users, ServeFault>>)
-        ensures { Ends owner found self.old self.new }
-    {
+    fn end(&mut self, owner: UserId, found: Option<Result<Users, ServeFault>>) {
         self.done = self.begun;
         if let Some(found) = found {
             self.take(owner, found);
         }
     }
 
-    // What is known now, for a loop that has the users of this count; None if there is no memory for a
-    // copy of the users.
-    fn newest(&self, alloc: Global, count: u64) -> Option<KnownUsers>
-        ensures known { IfSome result (Knows self.now count) }
-        ensures none { result ≡ None → self.now.count ≡ count → ⊥ }
-    {
+    fn newest(&self, alloc: Global, count: u64) -> Option<KnownUsers> {
         let (look, count_now) = (self.done, self.count);
         let mut users = None;
         if count_now != count {
@@ -128,6 +192,18 @@ impl Looks {
             users,
         })
     }
+
+    fn take_news(&mut self) -> Option<UsersNews> {
+        self.news.take()
+    }
+
+    fn is_idle(&self) -> bool {
+        !self.is_over && self.wanted <= self.begun
+    }
+
+    fn stop(&mut self) {
+        self.is_over = true;
+    }
 }
 
 /// What a loop learns of who may connect.
@@ -144,11 +220,11 @@ pub struct KnownUsers {
 /// The users' file. When somebody connects, a separate thread looks at it, so that no loop waits for
 /// the file's disk.
 #[derive(Drop)]
-pub struct WatchedUsers<F> {
+pub struct WatchedUsers<F, L = Looks> {
     alloc: Global,
     file: F,
     owner: UserId,
-    looks: Mutex<Looks>,
+    looks: Mutex<L>,
     asked: Condvar,
 }
 
@@ -159,22 +235,16 @@ impl<F: UsersSource> WatchedUsers<F> {
             alloc,
             file,
             owner,
-            looks: Mutex::new(Looks {
-                wanted: 0,
-                begun: 0,
-                done: 0,
-                count: 0,
-                users: None,
-                news: None,
-                is_over: false,
-            }),
+            looks: Mutex::new(Looks::new()),
             asked: Condvar::new(),
         }
     }
+}
 
+impl<F: UsersSource, L: SharedLooks> WatchedUsers<F, L> {
     /// Asks for a look that begins after this call, and gives its number.
     pub fn ask(&self, rt: &impl Wait) -> u64
-        ensures { (was : Looked) × (then : Looked) × Asks was result then }
+        ensures { (was : L) × (then : L) × L.asks was result then }
     {
         let look = self.looks.lock(rt).ask();
         self.asked.notify_one();
@@ -183,23 +253,21 @@ impl<F: UsersSource> WatchedUsers<F> {
 
     /// Nobody waits for a look any more.
     pub fn stop(&self, rt: &impl Wait) {
-        self.looks.lock(rt).is_over = true;
+        self.looks.lock(rt).stop();
         self.asked.notify_one();
     }
 
     // Waits until a look is asked for, and begins it. The answer is false once nobody waits any more.
-    fn begin(&self, rt: &impl Wait) -> bool {
+    fn begin(&self, rt: &impl Wait) -> bool
+        ensures { (was : L) × (then : L) × L.begins was result then }
+    {
         let looks = self.looks.lock(rt);
-        let mut looks = self
-            .asked
-            .wait_while(rt, looks, |it| { !it.is_over && it.wanted <= it.begun });
-        looks.begin();
-        !looks.is_over
+        self.asked.wait_while(rt, looks, |it| it.is_idle()).begin()
     }
 
     // Ends a look, which found this if anything is new.
     fn end(&self, rt: &impl Wait, found: Option<Result<Users, ServeFault>>)
-        ensures { (was : Looked) × (then : Looked) × Ends self.now.owner found was then }
+        ensures { (was : L) × (then : L) × L.ends self.now.owner found was then }
     {
         self.looks.lock(rt).end(self.owner, found);
     }
@@ -227,7 +295,7 @@ impl<F: UsersSource> WatchedUsers<F> {
     pub fn look<R: Clock + Wait>(&self, rt: &R, seen: &mut LastLook) -> bool
         ensures { result ≡ true → (found : Option (Result (List Entry) Faulty))
             × LooksAt F.finds F.reads self.now.file seen.old found seen.new
-            × (was : Looked) × (then : Looked) × Ends self.now.owner found was then }
+            × (was : L) × (then : L) × L.ends self.now.owner found was then }
     {
         if !self.begin(rt) {
             return false;
@@ -240,12 +308,12 @@ impl<F: UsersSource> WatchedUsers<F> {
     /// What is known now, for a loop that has the users of this count; None if there is no memory for
     /// a copy of the users.
     pub fn newest<R: Clock + Wait>(&self, rt: &R, log: &Log, count: &mut u64) -> Option<KnownUsers>
-        ensures known { IfSome result (λ known. (count.new ≡ known.count)
-            × (looks : Looked) × Knows looks count.old known) }
-        ensures none { result ≡ None → (looks : Looked) × (looks.count ≡ count.old → ⊥) }
+        ensures tells { (looks : L) × L.tells looks count.old result }
+        ensures count { IfSome result (λ known. count.new ≡ known.count) }
+        ensures same { result ≡ None → count.new ≡ count.old }
     {
         let mut looks = self.looks.lock(rt);
-        if let Some(news) = looks.news.take() {
+        if let Some(news) = looks.take_news() {
             let path = self.file.path();
             log.put(rt, &UsersLine { path, news: &news });
         }

@@ -33,18 +33,71 @@ pub fn bound_unread<S: AsRawFd>(stream: &S) {
     set_unread(stream, LEAST);
 }
 
-/// Lets the system keep as much as it can, so that a reader of one huge page isn't far behind at once.
-pub fn widen_unread<S: AsRawFd>(stream: &S) {
-    set_unread(stream, MOST);
+/// A stream that a loop waits for.
+pub trait PolledStream: Read + Write {
+    ghost use Rattle.std.specs.Prelude.{◌≡◌};
+
+    /// The loop is woken when there is something to read and, if that is asked for, when the stream takes
+    /// bytes again.
+    fn wake_for(&mut self, room: bool) -> io::Result<()>
+        ensures written { Self.contents self.new ≡ Self.contents self.old }
+        ensures unread { Self.remaining self.new ≡ Self.remaining self.old };
+
+    /// The system keeps as much as it can of what is written and not yet read, or as little as it can.
+    fn widen(&mut self, is_large: bool)
+        ensures written { Self.contents self.new ≡ Self.contents self.old }
+        ensures unread { Self.remaining self.new ≡ Self.remaining self.old };
+}
+
+/// A socket of a peer, as the loop's poll knows it.
+#[derive(Drop)]
+pub struct PeerSocket<'a> {
+    stream: UnixStream,
+    registry: &'a Registry,
+    token: Token,
+}
+
+impl Read for PeerSocket<'_> {
+    fn read(&mut self, buf: &mut [u8]) -> io::Result<usize> {
+        self.stream.read(buf)
+    }
+}
+
+impl Write for PeerSocket<'_> {
+    fn write(&mut self, buf: &[u8]) -> io::Result<usize> {
+        self.stream.write(buf)
+    }
+
+    fn flush(&mut self) -> io::Result<()> {
+        Ok(())
+    }
+}
+
+impl PolledStream for PeerSocket<'_> {
+    fn wake_for(&mut self, room: bool) -> io::Result<()> {
+        let interest = if room {
+            Interest::READABLE | Interest::WRITABLE
+        } else {
+            Interest::READABLE
+        };
+        self.registry
+            .reregister(&mut self.stream, self.token, interest)
+    }
+
+    fn widen(&mut self, is_large: bool) {
+        if is_large {
+            set_unread(&self.stream, MOST);
+        } else {
+            bound_unread(&self.stream);
+        }
+    }
 }
 
 /// A connection whose loop is woken when there is something to read. While bytes wait to be written,
 /// the loop is also woken when the connection takes bytes again.
 #[derive(Drop)]
-pub struct Wired<'a> {
-    stream: UnixStream,
-    registry: &'a Registry,
-    token: Token,
+pub struct Wired<S: PolledStream + Drop> {
+    stream: S,
     awaits_room: bool,
     is_widened: bool,
 }
@@ -61,72 +114,78 @@ fn awaits_after(written: io::Result<usize>, len: usize) -> Option<bool>
     }
 }
 
-impl<'a> Wired<'a> {
+impl<'a> Wired<PeerSocket<'a>> {
     pub fn new(
         registry: &'a Registry,
         token: Token,
         mut stream: UnixStream,
-    ) -> io::Result<Wired<'a>> {
+    ) -> io::Result<Wired<PeerSocket<'a>>> {
         bound_unread(&stream);
         registry.register(&mut stream, token, Interest::READABLE)?;
         Ok(Wired {
-            stream,
-            registry,
-            token,
+            stream: PeerSocket {
+                stream,
+                registry,
+                token,
+            },
             awaits_room: false,
             is_widened: false,
         })
     }
+}
 
+impl<S: PolledStream + Drop> Wired<S> {
     // Lets the system keep much of a large page, and little of all else.
-    fn suit(&mut self, is_large: bool) {
-        if self.is_widened == is_large {
-            return;
-        }
-        self.is_widened = is_large;
-        if is_large {
-            widen_unread(&self.stream);
-        } else {
-            bound_unread(&self.stream);
+    fn suit(&mut self, is_large: bool)
+        ensures { S.contents self.new.stream ≡ S.contents self.old.stream }
+    {
+        if self.is_widened != is_large {
+            self.is_widened = is_large;
+            self.stream.widen(is_large);
         }
     }
 
     // Waits until the connection takes bytes again, or doesn't.
     fn await_room(&mut self, awaits_room: bool) -> io::Result<()>
-        ensures { OnOk result (self.new.awaits_room ≡ awaits_room) }
+        ensures awaits { OnOk result (self.new.awaits_room ≡ awaits_room) }
+        ensures written { S.contents self.new.stream ≡ S.contents self.old.stream }
     {
         if self.awaits_room == awaits_room {
             return Ok(());
         }
-        let interest = if awaits_room {
-            Interest::READABLE | Interest::WRITABLE
-        } else {
-            Interest::READABLE
-        };
-        self.registry
-            .reregister(&mut self.stream, self.token, interest)?;
-        self.awaits_room = awaits_room;
-        Ok(())
+        let woken = self.stream.wake_for(awaits_room);
+        if woken.is_ok() {
+            self.awaits_room = awaits_room;
+        }
+        woken
     }
 }
 
-impl Read for Wired<'_> {
+impl<S: PolledStream + Drop> Read for Wired<S> {
+    ghost remaining = { λ wired. S.remaining wired.stream };
+
     fn read(&mut self, buf: &mut [u8]) -> io::Result<usize> {
         self.stream.read(buf)
     }
 }
 
-impl Write for Wired<'_> {
+impl<S: PolledStream + Drop> Write for Wired<S> {
+    ghost contents = { λ wired. S.contents wired.stream };
+
+    // What the stream took counts as written, even if the poll refuses to wake the loop for less.
     fn write(&mut self, buf: &[u8]) -> io::Result<usize> {
         self.suit(buf.len() > LARGE);
         let written = self.stream.write(buf);
         if let Some(awaits_room) = awaits_after(written, buf.len()) {
-            self.await_room(awaits_room)?;
+            let woken = self.await_room(awaits_room);
+            if let (Err(_), Err(error)) = (&written, woken) {
+                return Err(error);
+            }
         }
         written
     }
 
     fn flush(&mut self) -> io::Result<()> {
-        Ok(())
+        self.stream.flush()
     }
 }

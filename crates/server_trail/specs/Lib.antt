@@ -2,3 +2,4 @@ pub mod Merging
 pub mod Files
 pub mod Faults
 pub mod Disks
+pub mod Waiting

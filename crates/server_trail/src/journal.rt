@@ -7,7 +7,7 @@ use crate::disk::{Disk, DiskWatch, StopCause, WatchedDisk, last_cause};
 use crate::file::{TrailFile, begin, header_of};
 use crate::reading::is_trail;
 use crate::recorder::Recorder;
-use crate::writing::Written;
+use crate::waiting::Written;
 use acl::{Edition, UserId};
 use hub::EntryList;
 use session::Bytes;
@@ -28,6 +28,10 @@ const VERSION: &[u8] = b"0.1.0";
 /// What is wrong with a trail's file.
 #[derive(Debug, Drop, Error)]
 pub enum JournalFault {
+    #[error("can't make it: no such folder: make its folder, or set another --trail")]
+    NoFolder,
+    #[error("can't make it: it is there already: set another --trail")]
+    Exists,
     #[error("can't make it: {0}: set another --trail")]
     NotMade(io::Error),
     /// Its disk is full.
@@ -57,6 +61,8 @@ impl JournalFault {
     // The fault of a file that can't be made.
     fn of_making(error: io::Error) -> JournalFault {
         match error.kind() {
+            ErrorKind::NotFound => JournalFault::NoFolder,
+            ErrorKind::AlreadyExists => JournalFault::Exists,
             ErrorKind::StorageFull | ErrorKind::QuotaExceeded => JournalFault::NoRoom(error),
             _ => JournalFault::NotMade(error),
         }

@@ -7,6 +7,7 @@ mod journal;
 mod merge;
 mod reading;
 mod recorder;
+mod waiting;
 mod writing;
 
 pub use disk::{DiskNews, DiskWatch, StopCause};
@@ -14,6 +15,6 @@ pub use file::{TrailFile, begin, header_of};
 pub use journal::{Journal, JournalFault};
 pub use merge::Merge;
 pub use reading::is_trail;
-pub use recorder::{MOST, Recorder};
+pub use recorder::Recorder;
 pub use trail_lines::Cause;
-pub use writing::Written;
+pub use waiting::{MOST, PutLine, Stopped, Written};

@@ -1,18 +1,14 @@
 //! The thread that writes a trail's file.
 
-ghost use Rattle.std.specs.Prelude.{◌≡◌, ◌≤◌, ◌+◌, ◌++◌, ◌∷◌, [], ℕ, List, true, false, length, take};
-ghost use Rattle.std.specs.Prelude.{◌==◌, ◌&&◌, ◌||◌, ◌<◌, IfOk, is_some, vec_len};
-ghost use Rattle.std.specs.Io.KnownBytes.{Appends, Keeps};
+ghost use Rattle.std.specs.Prelude.{◌≡◌, ◌++◌, ◌∷◌, [], ℕ, true, false, IfOk};
+ghost use Rattle.std.specs.Io.KnownBytes.{Keeps};
 ghost use Rattle.trail_lines.specs.Heading.{end_text};
 ghost use Rattle.server_trail.specs.Files.{HasWritten, end_line};
-ghost use Rattle.server_trail.specs.Merging.{Placed, HasMerged, early_bytes};
 
 use crate::file::TrailFile;
-use crate::merge::Merge;
-use crate::recorder::{Ready, Recorder};
-use crate::disk::StopCause;
+use crate::recorder::Recorder;
+use crate::waiting::{LAST_TRIES, Ready, Torn, Written, write_bytes};
 use std::alloc::{AllocError, Global};
-use std::io::Write;
 use std::sync::Wait;
 use std::sync::atomic::Ordering;
 use std::thread;
@@ -24,47 +20,6 @@ const PAUSE: u64 = 100;
 
 // How many seconds the writer sleeps at most if nothing comes.
 const LOOK: u64 = 3_600;
-
-// How often a refused write is tried again after all loops have ended, once a second.
-const LAST_TRIES: u32 = 5;
-
-/// How much was written of a trail whose loops have ended.
-#[derive(Debug, Drop)]
-pub struct Written {
-    entries: u64,
-    is_whole: bool,
-}
-
-impl Written {
-    /// How many lines of entries there were to write.
-    pub fn entries(&self) -> u64
-        ensures { result ≡ self.now.entries }
-    {
-        self.entries
-    }
-
-    /// Whether every line that was put down was written, up to the one at which the file stopped.
-    pub fn is_whole(&self) -> bool
-        ensures { result ≡ self.now.is_whole }
-    {
-        self.is_whole
-    }
-}
-
-// How much was written; `is_written` says whether every ready line was. A file that hasn't stopped isn't
-// whole if a line still waits for an earlier one that never came.
-fn written_of(merge: &Merge, is_written: bool, stopped: Option<StopCause>) -> Written
-    ensures entries { result.entries ≡ merge.now.next }
-    ensures whole { (put : List Placed) (taken : List ℕ) → HasMerged put taken merge.now →
-        result.is_whole ≡ (is_written && (is_some stopped
-        || (vec_len merge.now.ready + early_bytes merge.now == 0))) }
-{
-    let is_complete = stopped.is_some() || merge.waiting() == 0;
-    Written {
-        entries: merge.next() as u64,
-        is_whole: is_written && is_complete,
-    }
-}
 
 // When a file must be synced to the disk.
 #[derive(Drop)]
@@ -98,14 +53,6 @@ impl Syncing {
     }
 }
 
-// Writes once. The answer is how many of the bytes were taken; 0 if the file refused them.
-fn write_some<F: Write>(file: &mut F, bytes: &[u8]) -> usize
-    ensures bound { result ≤ length bytes.now }
-    ensures writes { Appends (F.contents file.old) (F.contents file.new) (take result bytes.now) }
-{
-    file.write(bytes).unwrap_or(0)
-}
-
 // Syncs the file, and tries again each second for some seconds.
 fn sync_last<R: Clock, F: TrailFile>(rt: &R, file: &mut F) -> bool
     ensures { Keeps (F.contents file.old) (F.contents file.new) }
@@ -134,46 +81,16 @@ impl Recorder {
         self.waiting.lock(rt).look()
     }
 
-    // Takes the text that is ready.
-    fn take(&self, rt: &impl Wait) -> Vec<u8> {
-        self.waiting.lock(rt).take()
-    }
-
-    // Writes the bytes. A refused write is tried again each second; after all loops have ended, only for
-    // some seconds. The answer is whether all bytes were written.
-    fn push<R: Clock + Wait, F: Write>(&self, rt: &R, file: &mut F, bytes: &[u8]) -> bool
-        ensures { HasWritten (F.contents file.old) (F.contents file.new) bytes.now result }
-    {
-        let mut sent = 0;
-        let mut tries = 0u32;
-        'writes: for _ in rt.forever() {
-            if sent == bytes.len() {
-                return true;
-            }
-            let count = write_some(file, &bytes[sent..]);
-            sent += count;
-            if count == 0 {
-                if tries >= LAST_TRIES {
-                    return false;
-                }
-                if self.look(rt).is_over {
-                    tries += 1;
-                }
-                thread::sleep(rt, Duration::from_secs(1));
-            }
-        }
-        unreachable!()
-    }
-
-    // Writes the text that is ready. The answer is whether all of it was written.
-    fn write_ready<R: Clock + Wait, F: Write>(&self, rt: &R, file: &mut F) -> bool {
-        let text = self.take(rt);
-        self.push(rt, file, &text)
+    // Writes the text that is ready; `Err` if not all of it was written.
+    fn write_ready<R: Clock + Wait, F: TrailFile>(&self, rt: &R, file: &mut F) -> Result<(), Torn> {
+        let text = self.waiting.lock(rt).take();
+        text.write(rt, &self.waiting, file)
     }
 
     // How much was written, after all loops have ended.
-    fn written(&self, rt: &impl Wait, is_written: bool) -> Written {
-        written_of(&self.waiting.lock(rt).merge, is_written, self.stopped())
+    fn written(&self, rt: &impl Wait, torn: Option<Torn>) -> Written {
+        let stopped = self.stopped();
+        self.waiting.lock(rt).written(torn, stopped)
     }
 
     /// Writes the lines as they come, until all loops have ended. It sleeps as long as no line is ready,
@@ -189,7 +106,7 @@ impl Recorder {
             let seen = self.news.notifications();
             let ready = self.look(rt);
             if ready.bytes == 0 && ready.is_over {
-                return self.written(rt, true);
+                return self.written(rt, None);
             }
             if !ready.is_due() {
                 let pause = match ready.bytes {
@@ -199,8 +116,8 @@ impl Recorder {
                 self.news.sleep(rt, seen, pause);
             }
             if ready.bytes > 0 {
-                if !self.write_ready(rt, file) {
-                    return self.written(rt, false);
+                if let Err(torn) = self.write_ready(rt, file) {
+                    return self.written(rt, Some(torn));
                 }
                 syncing.is_behind = true;
             }
@@ -225,17 +142,17 @@ impl Recorder {
     {
         self.set_time(rt);
         let ended = Ended {
-            entries: written.entries,
+            entries: written.entries(),
             ms: self.ms.load(Ordering::SeqCst),
             cause,
         };
         let Ok(line) = last_line(self.alloc, &ended) else {
             return false;
         };
-        if !written.is_whole {
+        if !written.is_whole() {
             let _ = sync_last(rt, file);
             return false;
         }
-        self.push(rt, file, &line) && sync_last(rt, file)
+        write_bytes(rt, &self.waiting, file, &line) && sync_last(rt, file)
     }
 }

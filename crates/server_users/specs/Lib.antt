@@ -3,3 +3,4 @@ pub mod Allowances
 pub mod Entries
 pub mod Rationed
 pub mod Stands
+pub mod Trust

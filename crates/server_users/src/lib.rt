@@ -1,4 +1,4 @@
-//! The users who may connect: their file and tokens, and what each user may still try and have.
+//! The users who may connect: their file and tokens, who could change files, and what each user may still try and have.
 #![tactic(auto)]
 
 mod allowance;
@@ -6,6 +6,7 @@ mod allowances;
 mod fault;
 mod ration;
 mod tally;
+mod trust;
 mod user;
 mod users;
 
@@ -14,5 +15,6 @@ pub use allowances::Allowances;
 pub use fault::{AuthFault, UsersFault};
 pub use ration::Rations;
 pub use tally::Tally;
+pub use trust::{Access, Flaw, OpenFolder, open_folder, own_account};
 pub use user::{Shown, User};
 pub use users::{Users, authenticate};

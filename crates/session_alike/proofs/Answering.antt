@@ -1,11 +1,7 @@
 -- Answers that are given only if something is there or nothing is wrong are alike.
-use Rattle.std.proofs.Common.{◌≡◌, Bool, true, false, List, ℕ, Option, Some, None, Ok, refl, sym, subst}
-use Rattle.acl.specs.History.{History}
-use Rattle.windows_model.specs.Matched.{BothOrNone}
-use Rattle.session_model.specs.declared.refusal.Refusal.{Refusal}
-use Rattle.session_model.specs.Deeds.{Answer, Deed}
-unfoldable use Rattle.session_model.specs.Deeds.{given, refused_if, unless}
-use Rattle.session_alike.specs.Renaming.{Renaming, refusal_as}
+use Rattle.session_alike.proofs.Vocabulary.{◌≡◌, Bool, true, false, List, ℕ, Option, Some, None, Ok, refl, sym, subst}
+use Rattle.session_alike.proofs.Vocabulary.{History, BothOrNone, Refusal, Answer, Deed, given, refused_if, unless}
+use Rattle.session_alike.proofs.Vocabulary.{Renaming, refusal_as, option_map}
 use Rattle.session_alike.proofs.Changing.{AnswersAlike, declined}
 
 itself_one : {A : Type 0} (o : Option A) → BothOrNone (λ (x y : A). y ≡ x) o o
@@ -14,6 +10,11 @@ itself_one (Some x) = refl
 
 pub same_one : {A : Type 0} (o p : Option A) → p ≡ o → BothOrNone (λ (x y : A). y ≡ x) o p
 same_one o p same = subst (BothOrNone (λ x y. y ≡ x) o) (sym same) (itself_one o)
+
+pub mapped_one : {A B : Type 0} (h : A → B) (o : Option A) (p : Option B) → p ≡ option_map h o
+    → BothOrNone (λ (x : A) (y : B). y ≡ h x) o p
+mapped_one h None p same = subst (BothOrNone (λ x y. y ≡ h x) None) (sym same) tt
+mapped_one h (Some x) p same = subst (BothOrNone (λ x y. y ≡ h x) (Some x)) (sym same) refl
 
 module _ (n : Renaming) (T : List ℕ → List ℕ → Type 0) (h g : History) where
   pub given_alike : {A B : Type 0} (R : A → B → Type 0) (o : Option A) (p : Option B) (r : Refusal)

@@ -1,48 +1,25 @@
 -- Arrangements under other serials.
-use Rattle.std.proofs.Common.{◌≡◌, ℕ, zero, suc, ◌+◌, List, [], ◌∷◌, Option, Some, None, refl, ap}
-use Rattle.std.proofs.Common.{◌∙◌, sym, map, length, take, drop}
-use Rattle.std.proofs.lemmas.List.{map-set}
-use Rattle.std.specs.Prelude.{if◌then◌else◌, ◌==◌, slice_get, slice_set, unwrap_or}
-use Rattle.std.specs.List.{insert, remove}
-use Rattle.std.specs.Option.{option_map}
-use Rattle.regions.specs.declared.shown.Shown.{Shown}
-use Rattle.regions.specs.declared.way.Way.{Way}
-use Rattle.regions.specs.Layouts.{Arrangement, empty, kept_alone, next_focus, one_region, remove_focused, split_fault}
-use Rattle.regions.specs.Layouts.{split_focused}
-use Rattle.session_alike.specs.Renaming.{Renaming, layout_as, shown_as}
-use Rattle.session_alike.proofs.Finding.{get_shown_as}
-use Rattle.session_alike.proofs.Matching.{map_append}
-
-length_as : {A B : Type 0} (f : A → B) (xs : List A) → length (map f xs) ≡ length xs
-length_as f [] = refl
-length_as f (x ∷ xs) = ap suc (length_as f xs)
-
-take_as : {A B : Type 0} (f : A → B) (i : ℕ) (xs : List A) → take i (map f xs) ≡ map f (take i xs)
-take_as f zero [] = refl
-take_as f zero (x ∷ xs) = refl
-take_as f (suc i) [] = refl
-take_as f (suc i) (x ∷ xs) = ap (λ ys. f x ∷ ys) (take_as f i xs)
-
-drop_as : {A B : Type 0} (f : A → B) (i : ℕ) (xs : List A) → drop i (map f xs) ≡ map f (drop i xs)
-drop_as f zero [] = refl
-drop_as f zero (x ∷ xs) = refl
-drop_as f (suc i) [] = refl
-drop_as f (suc i) (x ∷ xs) = drop_as f i xs
+use Rattle.session_alike.proofs.Vocabulary.{◌≡◌, ℕ, suc, ◌+◌, List, ◌∷◌, Option, Some, None, refl, ap, ◌∙◌, sym, map}
+use Rattle.session_alike.proofs.Vocabulary.{length, take, drop, if◌then◌else◌, ◌==◌, slice_get, slice_set, unwrap_or}
+use Rattle.session_alike.proofs.Vocabulary.{insert, remove, option_map, Shown, Way, Arrangement, empty, kept_alone}
+use Rattle.session_alike.proofs.Vocabulary.{next_focus, one_region, remove_focused, split_fault, split_focused}
+use Rattle.session_alike.proofs.Vocabulary.{Renaming, layout_as, shown_as, map_append, slice_get-map}
+use Rattle.std.proofs.lemmas.List.{drop-map, length-map, map-set, take-map}
 
 module _ (n : Renaming) where
   pub shown_count : (l : Arrangement) → length (map (shown_as n) l.shown) ≡ length l.shown
-  shown_count l = length_as (shown_as n) l.shown
+  shown_count l = length-map l.shown (shown_as n)
 
   insert_as : (ss : List Shown) (i : ℕ) (s : Shown)
       → insert (map (shown_as n) ss) i (shown_as n s) ≡ map (shown_as n) (insert ss i s)
   insert_as ss i s =
-      map_append (shown_as n) (take i ss) (s ∷ drop i ss) _ _ (take_as (shown_as n) i ss)
-      (ap (λ xs. shown_as n s ∷ xs) (drop_as (shown_as n) i ss))
+      map_append (shown_as n) (take i ss) (s ∷ drop i ss) _ _ (take-map (shown_as n) i ss)
+      (ap (λ xs. shown_as n s ∷ xs) (drop-map (shown_as n) i ss))
 
   remove_as : (ss : List Shown) (i : ℕ) → remove (map (shown_as n) ss) i ≡ map (shown_as n) (remove ss i)
   remove_as ss i =
-      map_append (shown_as n) (take i ss) (drop (suc i) ss) _ _ (take_as (shown_as n) i ss)
-      (drop_as (shown_as n) (suc i) ss)
+      map_append (shown_as n) (take i ss) (drop (suc i) ss) _ _ (take-map (shown_as n) i ss)
+      (drop-map (shown_as n) (suc i) ss)
 
   or_empty : (o : Option Shown) → unwrap_or (option_map (shown_as n) o) empty ≡ shown_as n (unwrap_or o empty)
   or_empty None = refl
@@ -51,7 +28,8 @@ module _ (n : Renaming) where
   pub in_focus_as : (l : Arrangement)
       → unwrap_or (slice_get (map (shown_as n) l.shown) l.focus) empty
       ≡ shown_as n (unwrap_or (slice_get l.shown l.focus) empty)
-  in_focus_as l = ap (λ o. unwrap_or o empty) (get_shown_as n l l.focus) ∙ or_empty (slice_get l.shown l.focus)
+  in_focus_as l =
+      ap (λ o. unwrap_or o empty) (slice_get-map (shown_as n) l.shown l.focus) ∙ or_empty (slice_get l.shown l.focus)
 
   pub alone_as : (l : Arrangement) → kept_alone (layout_as n l) ≡ layout_as n (kept_alone l)
   alone_as l = ap one_region (in_focus_as l)

@@ -1,38 +1,22 @@
 -- Deeds in sessions that are alike leave them alike.
-use Rattle.std.proofs.Common.{◌≡◌, ℕ, ◌+◌, Bool, true, false, not, List, [], ◌∷◌, ◌++◌, Option, Some, None, Ok, Err}
-use Rattle.std.proofs.Common.{refl}
-use Rattle.std.proofs.Common.{ap, sym, ◌∙◌, subst, map, filter}
-use Rattle.std.specs.Prelude.{if◌then◌else◌, ◌==◌}
-use Rattle.std.specs.Option.{option_map}
-use Rattle.acl.specs.declared.act.Act.{Act}
+use Rattle.session_alike.proofs.Vocabulary.{◌≡◌, ℕ, ◌+◌, Bool, not, List, [], ◌∷◌, ◌++◌, Option, Some, None, Ok, Err}
+use Rattle.session_alike.proofs.Vocabulary.{refl, inl, length, ap, sym, ◌∙◌, subst, map, filter, ◌==◌, option_map, Act}
+use Rattle.session_alike.proofs.Vocabulary.{UserId, History, Shown, Arrangement, emptied, Terminal, Writing, writes_one}
+use Rattle.session_alike.proofs.Vocabulary.{writes_all, ready, BothOrNone, Matched, Gone, Say, Refusal, StatusMessage}
+use Rattle.session_alike.proofs.Vocabulary.{Answer, Deed, acting, closes, enters, entering, hearing, input_of, listing}
+use Rattle.session_alike.proofs.Vocabulary.{parts, tells, without_window, without_windows, writes, Client, Tables}
+use Rattle.session_alike.proofs.Vocabulary.{Window, focused, former_after, is_window, last_after, with_client}
+use Rattle.session_alike.proofs.Vocabulary.{with_layout, with_window, terminal_of, Renaming, act_as, layout_as}
+use Rattle.session_alike.proofs.Vocabulary.{refusal_as, shown_as, ClientsAlike, TablesAlike, TerminalsAlike}
+use Rattle.session_alike.proofs.Vocabulary.{WindowsAlike, HistoriesAlike, items, EffectsAlike, filter_match, if_as}
+use Rattle.session_alike.proofs.Vocabulary.{made_both, map_both, pick, put_both}
 use Rattle.acl.specs.declared.act.Act.TheVariants as act
-use Rattle.acl.specs.declared.user_id.UserId.{UserId}
-use Rattle.acl.specs.History.{History}
-use Rattle.regions.specs.declared.shown.Shown.{Shown}
-use Rattle.regions.specs.Layouts.{Arrangement, emptied}
-use Rattle.terminal_model.specs.Reading.{Terminal}
-use Rattle.terminal_model.specs.Writing.{Writing, writes as writes_one, writes_all}
-use Rattle.terminal_model.specs.Screen.{starting}
-use Rattle.terminal_model.specs.Reading.{ready}
-use Rattle.windows_model.specs.Matched.{BothOrNone, Matched}
-use Rattle.session_model.specs.declared.event.Effect.TheVariants.{Gone, Input, Say}
 use Rattle.session_model.specs.declared.event.Peer.TheVariants as peer
-use Rattle.session_model.specs.declared.event.Reason.{Reason}
-use Rattle.session_model.specs.declared.refusal.Refusal.{Refusal}
-use Rattle.session_model.specs.declared.message.StatusMessage.{StatusMessage}
 use Rattle.session_model.specs.declared.message.StatusMessage.TheVariants as message
-use Rattle.session_model.specs.Deeds.{Answer, Deed, acting, closes, enters, entering, hearing, input_of}
-use Rattle.session_model.specs.Deeds.{listing, parts, tells, without_window, without_windows, writes}
-use Rattle.session_model.specs.Tables.{Client, Tables, Window, focused, former_after, is_window, last_after}
-use Rattle.session_model.specs.Tables.{with_client}
-use Rattle.session_model.specs.Tables.{with_layout, with_window}
-use Rattle.session_model.specs.Terminals.{terminal_of}
-use Rattle.session_alike.specs.Renaming.{Renaming, act_as, layout_as, refusal_as, shown_as}
-use Rattle.session_alike.specs.Alike.{ClientsAlike, TablesAlike, TerminalsAlike, WindowsAlike}
-use Rattle.session_alike.specs.Steps.{EffectsAlike}
 use Rattle.session_alike.proofs.Finding.{client_serials, focused_as, is_window_as, window_serials}
 use Rattle.session_alike.proofs.Histories.{window_test}
-use Rattle.session_alike.proofs.Matching.{filter_both, made_both, map_both, put_both}
+use Rattle.terminal_model.specs.Screen.{starting}
+use Rattle.session_model.specs.declared.event.Reason.{Reason}
 
 -- A deed does the same in both sessions, after these histories.
 pub record DeedsAlike (n : Renaming) (h g : History) (d e : Deed) : Type 0 where
@@ -47,6 +31,45 @@ pub record DeedsAlike (n : Renaming) (h g : History) (d e : Deed) : Type 0 where
 pub data AnswersAlike (n : Renaming) (T : List ℕ → List ℕ → Type 0) (h g : History) : Answer → Answer → Type 0 where
   done : {d e : Deed} → DeedsAlike n h g d e → BothOrNone T d.lists e.lists → AnswersAlike n T h g (Ok d) (Ok e)
   declined : {r s : Refusal} → s ≡ refusal_as n r → AnswersAlike n T h g (Err r) (Err s)
+
+-- ---- parts
+
+module _ {n : Renaming} where
+  pub clients_as : {c d : Client} → d.serial ≡ n.client c.serial → d.user ≡ c.user → d.rows ≡ c.rows
+      → d.columns ≡ c.columns → (items d.keys).1 ≡ (items c.keys).1 → d.layout ≡ layout_as n c.layout
+      → d.last ≡ option_map n.window c.last → d.former ≡ option_map n.window c.former → d.message ≡ c.message
+      → ClientsAlike n c d
+  clients_as serial user rows columns keys layout last former message = record {
+    serial = serial;
+    user = user;
+    rows = rows;
+    columns = columns;
+    keys = keys;
+    layout = layout;
+    last = last;
+    former = former;
+    message = message;
+  }
+
+  pub tables_as : {t u : Tables} → u.owner ≡ t.owner → u.edition ≡ t.edition → u.is_multiuser ≡ t.is_multiuser
+      → HistoriesAlike n t.edition t.owner t.acts u.acts → Matched (WindowsAlike n) t.windows u.windows
+      → Matched (ClientsAlike n) t.clients u.clients → ((i : ℕ) → n.window (t.next_window + i) ≡ u.next_window + i)
+      → ((i : ℕ) → n.client (t.next_client + i) ≡ u.next_client + i) → TablesAlike n t u
+  tables_as owner edition mode acts windows clients next_windows next_clients = record {
+    owner = owner;
+    edition = edition;
+    is_multiuser = mode;
+    acts = acts;
+    windows = windows;
+    clients = clients;
+    next_windows = next_windows;
+    next_clients = next_clients;
+  }
+
+  pub deed_as : {d e : Deed} → e.acts ≡ map (act_as n) d.acts → TablesAlike n d.tables e.tables
+      → Matched (EffectsAlike n) d.effects e.effects → DeedsAlike n d.tables.acts e.tables.acts d e
+  deed_as acts tables effects =
+      record { acts = acts; tables = tables; effects = effects; kept = refl; kept_too = refl }
 
 -- ---- terminals
 
@@ -87,48 +110,19 @@ module _ (n : Renaming) where
       ≡ option_map n.window (former_after f last former)
   former_as None last former = refl
   former_as (Some w) last former =
-      ap (λ b. if b then option_map n.window former else option_map n.window last) (is_window_as n w last)
-      ∙ on (is_window w last) where
-        on : (b : Bool) → (if b then option_map n.window former else option_map n.window last)
-            ≡ option_map n.window (if b then former else last)
-        on true = refl
-        on false = refl
+      cc (is_window_as n w last, if_as (option_map n.window) (is_window w last) former last)
 
   module _ (c d : Client) (r : ClientsAlike n c d) (l m : Arrangement) (same : m ≡ layout_as n l) where
     focus_as : focused (record d { layout = m }) ≡ option_map n.window (focused (record c { layout = l }))
     focus_as = focused_as n (record c { layout = l }) (record d { layout = m }) same
 
     pub arranged_alike : ClientsAlike n (with_layout l c) (with_layout m d)
-    arranged_alike = record {
-      serial = r.serial;
-      user = r.user;
-      rows = r.rows;
-      columns = r.columns;
-      keys = r.keys;
-      layout = same;
-      last = ap (λ o. last_after o d.last) focus_as
-          ∙ ap (last_after (option_map n.window (focused (record c { layout = l })))) r.last
-          ∙ last_as (focused (record c { layout = l })) c.last;
-      former = ap (λ o. former_after o d.last d.former) focus_as
-          ∙ ap (λ o. former_after (option_map n.window (focused (record c { layout = l }))) o d.former) r.last
-          ∙ ap (former_after (option_map n.window (focused (record c { layout = l }))) (option_map n.window c.last))
-          r.former
-          ∙ former_as (focused (record c { layout = l })) c.last c.former;
-      message = r.message;
-    }
+    arranged_alike = clients_as r.serial r.user r.rows r.columns r.keys same
+        (cc (focus_as, r.last, last_as (focused (record c { layout = l })) c.last))
+        (cc (focus_as, r.last, r.former, former_as (focused (record c { layout = l })) c.last c.former)) r.message
 
   pub heard_alike : (m : StatusMessage) (c d : Client) → ClientsAlike n c d → ClientsAlike n (hearing m c) (hearing m d)
-  heard_alike m c d r = record {
-    serial = r.serial;
-    user = r.user;
-    rows = r.rows;
-    columns = r.columns;
-    keys = r.keys;
-    layout = r.layout;
-    last = r.last;
-    former = r.former;
-    message = refl;
-  }
+  heard_alike m c d r = clients_as r.serial r.user r.rows r.columns r.keys r.layout r.last r.former refl
 
   emptied_as : (w : ℕ) (ss : List Shown)
       → map (emptied (n.window w)) (map (shown_as n) ss) ≡ map (shown_as n) (map (emptied w) ss)
@@ -139,31 +133,17 @@ module _ (n : Renaming) where
             → emptied (n.window w) (shown_as n (record s { window = o })) ≡ shown_as n
             (emptied w (record s { window = o }))
         one None = refl
-        one (Some v) = ap (λ b. if b then (let e : Shown = record { window = None; back = s.back } in e)
-            else record { window = Some (n.window v); back = s.back }) (window_test n v w) ∙ on (v == w) where
-              on : (b : Bool)
-                  → (if b then (let e : Shown = record { window = None; back = s.back } in e)
-                  else record { window = Some (n.window v); back = s.back })
-                  ≡ shown_as n (if b then record { window = None; back = s.back }
-                  else record { window = Some v; back = s.back })
-              on true = refl
-              on false = refl
+        one (Some v) =
+            let closed : Shown = record { window = None; back = s.back } in
+            let kept = if_as (shown_as n) (v == w) closed (record { window = Some v; back = s.back }) in
+            cc (window_test n v w, kept)
 
   without_alike : (w v : Window) → WindowsAlike n w v → (c d : Client) → ClientsAlike n c d
       → ClientsAlike n (without_window w.serial c) (without_window v.serial d)
-  without_alike w v s c d r = record {
-    serial = r.serial;
-    user = r.user;
-    rows = r.rows;
-    columns = r.columns;
-    keys = r.keys;
-    layout = ap (λ x. record d.layout { shown = map (emptied x) d.layout.shown }) s.serial
-        ∙ ap (λ (l : Arrangement). record l { shown = map (emptied (n.window w.serial)) l.shown }) r.layout
-        ∙ ap (λ ss. record c.layout { shown = ss }) (emptied_as w.serial c.layout.shown);
-    last = r.last;
-    former = r.former;
-    message = r.message;
-  }
+  without_alike w v s c d r = clients_as r.serial r.user r.rows r.columns r.keys
+      (ap (λ x. record d.layout { shown = map (emptied x) d.layout.shown }) s.serial
+      ∙ ap (λ (l : Arrangement). record l { shown = map (emptied (n.window w.serial)) l.shown }) r.layout
+      ∙ ap (λ ss. record c.layout { shown = ss }) (emptied_as w.serial c.layout.shown)) r.last r.former r.message
 
   without_both : (ws vs : List Window) (cs ds : List Client) → Matched (WindowsAlike n) ws vs
       → Matched (ClientsAlike n) cs ds → Matched (ClientsAlike n) (without_windows ws cs) (without_windows vs ds)
@@ -181,40 +161,18 @@ module _ (n : Renaming) where
 
   pub input_as : (w : ℕ) (bytes : List ℕ)
       → Matched (EffectsAlike n) (input_of w bytes) (input_of (n.window w) bytes)
-  input_as w bytes = on (Rattle.std.specs.Prelude.length bytes == 0) where
-    on : (b : Bool)
-        → Matched (EffectsAlike n) (if b then [] else Input w bytes ∷ [])
-        (if b then [] else Input (n.window w) bytes ∷ [])
-    on true = tt
-    on false = (refl, tt)
+  input_as w bytes = pick (Matched (EffectsAlike n)) (length bytes == 0) (length bytes == 0) refl tt (refl, tt)
 
   module _ (t u : Tables) (a : TablesAlike n t u) where
     -- tables with other rows
     pub rows_alike : (ws vs : List Window) (cs ds : List Client) → Matched (WindowsAlike n) ws vs
         → Matched (ClientsAlike n) cs ds
         → TablesAlike n (record t { windows = ws; clients = cs }) (record u { windows = vs; clients = ds })
-    rows_alike ws vs cs ds m k = record {
-      owner = a.owner;
-      edition = a.edition;
-      is_multiuser = a.is_multiuser;
-      acts = a.acts;
-      windows = m;
-      clients = k;
-      next_windows = a.next_windows;
-      next_clients = a.next_clients;
-    }
+    rows_alike ws vs cs ds m k =
+        tables_as a.owner a.edition a.is_multiuser a.acts m k a.next_windows a.next_clients
 
     pub mode_alike : (b : Bool) → TablesAlike n (record t { is_multiuser = b }) (record u { is_multiuser = b })
-    mode_alike b = record {
-      owner = a.owner;
-      edition = a.edition;
-      is_multiuser = refl;
-      acts = a.acts;
-      windows = a.windows;
-      clients = a.clients;
-      next_windows = a.next_windows;
-      next_clients = a.next_clients;
-    }
+    mode_alike b = tables_as a.owner a.edition refl a.acts a.windows a.clients a.next_windows a.next_clients
 
     pub put_client_alike : (c d : Client) → ClientsAlike n c d → TablesAlike n (with_client t c) (with_client u d)
     put_client_alike c d r =
@@ -232,83 +190,53 @@ module _ (n : Renaming) where
 
     pub acting_alike : (acts others : List Act) → others ≡ map (act_as n) acts
         → DeedsAlike n t.acts u.acts (acting t acts) (acting u others)
-    acting_alike acts others same = record { acts = same; tables = a; effects = tt; kept = refl; kept_too = refl }
+    acting_alike acts others same = deed_as same a tt
 
     pub listing_alike : (x y : List ℕ) → DeedsAlike n t.acts u.acts (listing t x) (listing u y)
-    listing_alike x y = record { acts = refl; tables = a; effects = tt; kept = refl; kept_too = refl }
+    listing_alike x y = deed_as refl a tt
 
     pub enters_alike : (c d : Client) → ClientsAlike n c d → (l m : Arrangement) → m ≡ layout_as n l
         → DeedsAlike n t.acts u.acts (enters t c l) (enters u d m)
-    enters_alike c d r l m same = record {
-      acts = ap (λ (v : UserId). entering v (focused (with_layout m d))) r.user
-          ∙ ap (entering c.user) (focus_as c d r l m same)
-          ∙ entering_as c.user (focused (record c { layout = l }));
-      tables = put_client_alike (with_layout l c) (with_layout m d) (arranged_alike c d r l m same);
-      effects = tt;
-      kept = refl;
-      kept_too = refl;
-    }
+    enters_alike c d r l m same = deed_as
+        (cc (r.user, focus_as c d r l m same, entering_as c.user (focused (record c { layout = l }))))
+        (put_client_alike (with_layout l c) (with_layout m d) (arranged_alike c d r l m same)) tt
 
     pub parts_alike : (p q : Client → Bool) (why : Reason)
         → ((c d : Client) → ClientsAlike n c d → q d ≡ p c) → DeedsAlike n t.acts u.acts (parts p why t) (parts q why u)
     parts_alike p q why same =
         let gone : Matched (ClientsAlike n) (filter p t.clients) (filter q u.clients) =
-        filter_both (ClientsAlike n) p q same t.clients u.clients a.clients in record {
-          acts = made_both (ClientsAlike n) (act_as n) (λ (c : Client). act.Parted c.serial)
-              (λ (c : Client). act.Parted c.serial) _ _ (λ c d r. ap act.Parted r.serial) gone;
-          tables = rows_alike t.windows u.windows _ _ a.windows
-              (filter_both (ClientsAlike n) (λ c. not (p c)) (λ d. not (q d)) (λ c d r. ap not (same c d r))
-              t.clients u.clients a.clients);
-          effects = map_both (ClientsAlike n) (EffectsAlike n) (λ (c : Client). Gone (peer.Client c.serial) why)
-              (λ (c : Client). Gone (peer.Client c.serial) why) _ _
-              (λ c d r. ap (λ s. Gone (peer.Client s) why) r.serial) gone;
-          kept = refl;
-          kept_too = refl;
-        }
+        filter_match (ClientsAlike n) p q same t.clients u.clients a.clients in deed_as
+        (made_both (ClientsAlike n) (act_as n) _ _ _ _ (λ c d r. ap act.Parted r.serial) gone)
+        (rows_alike t.windows u.windows _ _ a.windows
+        (filter_match (ClientsAlike n) (λ c. not (p c)) (λ d. not (q d)) (λ c d r. ap not (same c d r))
+        t.clients u.clients a.clients))
+        (map_both (ClientsAlike n) (EffectsAlike n) _ _ _ _ (λ c d r. ap (λ s. Gone (peer.Client s) why) r.serial) gone)
 
     pub closes_alike : (p q : Window → Bool) (why : Reason)
         → ((w v : Window) → WindowsAlike n w v → q v ≡ p w)
         → DeedsAlike n t.acts u.acts (closes p why t) (closes q why u)
     closes_alike p q why same =
         let gone : Matched (WindowsAlike n) (filter p t.windows) (filter q u.windows) =
-        filter_both (WindowsAlike n) p q same t.windows u.windows a.windows in record {
-          acts = made_both (WindowsAlike n) (act_as n) (λ (w : Window). act.Closed w.serial)
-              (λ (w : Window). act.Closed w.serial) _ _ (λ w v r. ap act.Closed r.serial) gone;
-          tables = rows_alike _ _ _ _
-              (filter_both (WindowsAlike n) (λ w. not (p w)) (λ v. not (q v)) (λ w v r. ap not (same w v r))
-              t.windows u.windows a.windows)
-              (without_both (filter p t.windows) (filter q u.windows) t.clients u.clients gone a.clients);
-          effects = map_both (WindowsAlike n) (EffectsAlike n) (λ (w : Window). Gone (peer.Window w.serial) why)
-              (λ (w : Window). Gone (peer.Window w.serial) why) _ _
-              (λ w v r. ap (λ s. Gone (peer.Window s) why) r.serial) gone;
-          kept = refl;
-          kept_too = refl;
-        }
+        filter_match (WindowsAlike n) p q same t.windows u.windows a.windows in deed_as
+        (made_both (WindowsAlike n) (act_as n) _ _ _ _ (λ w v r. ap act.Closed r.serial) gone)
+        (rows_alike _ _ _ _
+        (filter_match (WindowsAlike n) (λ w. not (p w)) (λ v. not (q v)) (λ w v r. ap not (same w v r))
+        t.windows u.windows a.windows)
+        (without_both (filter p t.windows) (filter q u.windows) t.clients u.clients gone a.clients))
+        (map_both (WindowsAlike n) (EffectsAlike n) _ _ _ _ (λ w v r. ap (λ s. Gone (peer.Window s) why) r.serial) gone)
 
     pub writes_alike : (w v : Window) → WindowsAlike n w v → (what : Writing)
         → DeedsAlike n t.acts u.acts (writes t w what) (writes u v what)
-    writes_alike w v r what = record {
-      acts = refl;
-      tables = put_window_alike _ _ (record {
-        serial = r.serial;
-        number = r.number;
-        title = r.title;
-        terminal = written_alike w v what r.terminal;
-      });
-      effects = tt;
-      kept = refl;
-      kept_too = refl;
-    }
+    writes_alike w v r what = deed_as refl (put_window_alike _ _ (record {
+      serial = r.serial;
+      number = r.number;
+      title = r.title;
+      terminal = written_alike w v what r.terminal;
+    })) tt
 
     pub tells_alike : (x : List ℕ) → DeedsAlike n t.acts u.acts (tells x t) (tells x u)
-    tells_alike x = record {
-      acts = refl;
-      tables = rows_alike t.windows u.windows _ _ a.windows
-          (map_both (ClientsAlike n) (ClientsAlike n) (hearing (message.Text x)) (hearing (message.Text x)) t.clients
-          u.clients (heard_alike (message.Text x)) a.clients);
-      effects = map_both (ClientsAlike n) (EffectsAlike n) (λ (c : Client). Say c.serial x)
-          (λ (c : Client). Say c.serial x) t.clients u.clients
-          (λ c d r. (x, ap (λ s. Say s x) r.serial, Rattle.std.proofs.Common.inl refl)) a.clients;
-      kept = refl;
-      kept_too = refl;
-    }
+    tells_alike x = deed_as refl
+        (rows_alike t.windows u.windows _ _ a.windows
+        (map_both (ClientsAlike n) (ClientsAlike n) _ _ _ _ (heard_alike (message.Text x)) a.clients))
+        (map_both (ClientsAlike n) (EffectsAlike n) _ _ _ _ (λ c d r. (x, ap (λ s. Say s x) r.serial, inl refl))
+        a.clients)

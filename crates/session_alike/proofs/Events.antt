@@ -1,58 +1,35 @@
 -- Each event does the same in sessions that are alike.
-use Rattle.std.proofs.Common.{◌≡◌, ℕ, ◌+◌, ◌<◌, Bool, true, false, List, [], ◌∷◌, Option, Some, None, Ok, Err}
-use Rattle.std.proofs.Common.{Result, refl, ap, sym, ◌∙◌, subst, map, length, arith}
-use Rattle.std.specs.Prelude.{if◌then◌else◌, ◌==◌, ◌&&◌, ◌||◌, nat_lt, unwrap_or}
-use Rattle.std.specs.Option.{is_some, option_map}
-use Rattle.std.proofs.lemmas.Bool.Decides.{nat_tests}
+use Rattle.session_alike.proofs.Vocabulary.{◌≡◌, ℕ, ◌+◌, ◌<◌, true, List, [], ◌∷◌, Option, Some, None, Ok, Err, Result}
+use Rattle.session_alike.proofs.Vocabulary.{refl, ap, sym, ◌∙◌, subst, map, arith, if◌then◌else◌, ◌==◌, nat_lt}
+use Rattle.session_alike.proofs.Vocabulary.{unwrap_or, option_map, nat_tests, UserId, Order, ParseFault, Arrangement}
+use Rattle.session_alike.proofs.Vocabulary.{kept_alone, one_region, reads, writes_all, BothOrNone, Matched, must}
+use Rattle.session_alike.proofs.Vocabulary.{BadSize, Line, NoWindow, UnknownUser, Verdict, answered, commanded}
+use Rattle.session_alike.proofs.Vocabulary.{line_ruling, ruling, Answer, changing, input_of, outcome, with_client_of}
+use Rattle.session_alike.proofs.Vocabulary.{with_window_of, Caller, line_caller, read_line, lowest, Outcome, said_done}
+use Rattle.session_alike.proofs.Vocabulary.{reply_of, Client, Tables, Window, client_at, focused, is_known, window_at}
+use Rattle.session_alike.proofs.Vocabulary.{with_client, terminal_of, Attach, Closed, Command, Detach, Draw, EventValue}
+use Rattle.session_alike.proofs.Vocabulary.{Keys, Open, Output, Resize, Renaming, event_as, layout_as, ClientsAlike}
+use Rattle.session_alike.proofs.Vocabulary.{TablesAlike, TextsAlike, WindowsAlike, EffectsAlike, HasSerials}
+use Rattle.session_alike.proofs.Vocabulary.{RepliesAlike, made_as, append_match, cases_both, if_as, length_match, pick}
 use Rattle.acl.specs.declared.act.Act.TheVariants as act
-use Rattle.acl.specs.declared.act.Object.TheVariants as object
-use Rattle.acl.specs.declared.bits.Bit.TheVariants.{Execute}
-use Rattle.acl.specs.declared.command_name.CommandName.TheVariants.{Screen}
-use Rattle.acl.specs.declared.user_id.UserId.{UserId}
-use Rattle.acl.specs.limits.TheConstants.{WINDOWS}
-use Rattle.acl.specs.Same.{same_user}
-use Rattle.command_lang.specs.declared.command.Command.{Command as Order}
-use Rattle.command_lang.specs.declared.fault.ParseFault.{ParseFault}
-use Rattle.regions.specs.Layouts.{Arrangement, kept_alone, one_region}
-use Rattle.regions.specs.Pages.{has_room}
-use Rattle.terminal_model.specs.Reading.{reads}
-unfoldable use Rattle.terminal_model.specs.Writing.{writes_all}
 use Rattle.terminal_model.specs.Writing as written
-use Rattle.windows_model.specs.Matched.{BothOrNone, Matched}
-use Rattle.session_model.specs.declared.check.Check.TheVariants.{Must as must, Right as right}
 use Rattle.session_model.specs.declared.event.Reason.TheVariants as reason
-use Rattle.session_model.specs.declared.limits.TheConstants.{CLIENTS, SERIALS}
 use Rattle.session_model.specs.declared.message.StatusMessage.TheVariants as message
-use Rattle.session_model.specs.declared.refusal.Refusal.TheVariants.{BadSize, Line, NotMultiuser, NoWindow}
-use Rattle.session_model.specs.declared.refusal.Refusal.TheVariants.{TooManyClients, UnknownUser, Windows}
-use Rattle.session_model.specs.declared.verdict.Verdict.{Verdict}
-use Rattle.session_model.specs.windows_fault.WindowsFault.TheVariants.{BadTitle, Full}
-use Rattle.session_model.specs.Answering.{answered, commanded, line_ruling}
-use Rattle.session_model.specs.Comings.{attach_checks, attached, attaches, has_place, is_client_size, is_let_in}
-use Rattle.session_model.specs.Comings.{is_window_size, new_client, new_window, open_checks, opens, outputs, resized}
-use Rattle.session_model.specs.Commands.{ruling}
-use Rattle.session_model.specs.Deeds.{Answer, changing, entering, input_of}
-use Rattle.session_model.specs.Events.{outcome, with_client_of, with_window_of}
-use Rattle.session_model.specs.Lines.{Caller, line_caller, read_line}
-use Rattle.session_model.specs.Naming.{free_number, is_title, lowest}
-use Rattle.session_model.specs.Outcomes.{Outcome, done as said_done, refused, reply_of}
-use Rattle.session_model.specs.Tables.{Client, Tables, Window, client_at, focused, is_known, window_at, with_client}
-use Rattle.session_model.specs.Terminals.{terminal_of}
-use Rattle.session_model.specs.Trace.{Attach, Closed, Command, Detach, Draw, EventValue, Keys, Open, Output, Resize}
-use Rattle.session_alike.specs.Renaming.{Renaming, event_as, layout_as}
-use Rattle.session_alike.specs.Alike.{ClientsAlike, TablesAlike, TextsAlike, WindowsAlike}
-use Rattle.session_alike.specs.Steps.{EffectsAlike, HasSerials, RepliesAlike, made_as}
 use Rattle.session_alike.proofs.Arranging.{alone_as}
-use Rattle.session_alike.proofs.Changing.{AnswersAlike, DeedsAlike, arranged_alike, closes_alike, declined, done}
-use Rattle.session_alike.proofs.Changing.{entering_as, input_as, parts_alike, put_client_alike, writes_alike}
+use Rattle.session_alike.proofs.Changing.{AnswersAlike, DeedsAlike, arranged_alike, clients_as, closes_alike, declined}
+use Rattle.session_alike.proofs.Changing.{deed_as, done, entering_as, input_as, parts_alike, put_client_alike}
+use Rattle.session_alike.proofs.Changing.{tables_as, writes_alike}
 use Rattle.session_alike.proofs.Checking.{CallersAlike, check_as, serial_as}
 use Rattle.session_alike.proofs.Finding.{client_alike, client_serials, focused_as, known_alike, window_alike}
 use Rattle.session_alike.proofs.Finding.{window_serials}
-use Rattle.session_alike.proofs.Matching.{append_both, length_both}
 use Rattle.session_alike.proofs.Naming.{free_both, given_number_both, lowest_both}
 use Rattle.session_alike.proofs.Outcomes.{OutcomesAlike, finished_alike, passed_alike, refused_alike}
 use Rattle.session_alike.proofs.Rows.{ListedBy}
 use Rattle.session_alike.proofs.Typing.{keys_alike, listed_text, ruling_alike}
+use Rattle.regions.specs.Pages.{has_room}
+use Rattle.session_model.specs.declared.limits.TheConstants.{SERIALS}
+use Rattle.session_model.specs.Comings.{attach_checks, attached, attaches, has_place, is_client_size, is_let_in}
+use Rattle.session_model.specs.Comings.{new_client, new_window, open_checks, opens, outputs, resized}
 
 no_more : (m : ℕ) → m + 0 ≡ m
 no_more m = omega arith
@@ -71,31 +48,18 @@ module _ (n : Renaming) (t u : Tables) (a : TablesAlike n t u) where
       → ((c d : Client) → ClientsAlike n c d → OutcomesAlike n event (F c) (G d))
       → OutcomesAlike n event (with_client_of t client F) (with_client_of u (n.client client) G)
   by_client event client F G same =
-      on (client_at t client) (client_at u (n.client client)) (client_alike n t u a client) where
-        on : (o p : Option Client) → BothOrNone (ClientsAlike n) o p
-            → OutcomesAlike n event
-            (elim o as (λ _. Outcome) [ None ↦ refused t [] NoWindow | Some c ↦ F c ])
-            (elim p as (λ _. Outcome) [ None ↦ refused u [] NoWindow | Some d ↦ G d ])
-        on None None r = refused_alike n t u a event [] [] NoWindow NoWindow refl refl
-        on (Some c) (Some d) r = same c d r
-        on o p r = absurd r
+      cases_both (OutcomesAlike n event) (client_at t client) (client_at u (n.client client))
+      (client_alike n t u a client) (refused_alike n t u a event [] [] NoWindow NoWindow refl refl) same
 
   by_window : (event : EventValue) (window : ℕ) (F G : Window → Outcome)
       → ((w v : Window) → WindowsAlike n w v → OutcomesAlike n event (F w) (G v))
       → OutcomesAlike n event (with_window_of t window F) (with_window_of u (n.window window) G)
   by_window event window F G same =
-      on (window_at t window) (window_at u (n.window window)) (window_alike n t u a window) where
-        on : (o p : Option Window) → BothOrNone (WindowsAlike n) o p
-            → OutcomesAlike n event
-            (elim o as (λ _. Outcome) [ None ↦ refused t [] NoWindow | Some w ↦ F w ])
-            (elim p as (λ _. Outcome) [ None ↦ refused u [] NoWindow | Some v ↦ G v ])
-        on None None r = refused_alike n t u a event [] [] NoWindow NoWindow refl refl
-        on (Some w) (Some v) r = same w v r
-        on o p r = absurd r
+      cases_both (OutcomesAlike n event) (window_at t window) (window_at u (n.window window))
+      (window_alike n t u a window) (refused_alike n t u a event [] [] NoWindow NoWindow refl refl) same
 
   let_in_alike : (user : UserId) → is_let_in u user ≡ is_let_in t user
-  let_in_alike user = ap (λ (x : UserId). same_user x user || u.is_multiuser) a.owner
-      ∙ ap (λ b. same_user t.owner user || b) a.is_multiuser
+  let_in_alike user = cc (a.owner, a.is_multiuser)
 
   -- ---- attaching
 
@@ -111,17 +75,9 @@ module _ (n : Renaming) (t u : Tables) (a : TablesAlike n t u) where
   attach_checks_as : (user : UserId) (rows columns : ℕ) → t.next_client < SERIALS → u.next_client < SERIALS
       → attach_checks u user rows columns ≡ map (check_as n) (attach_checks t user rows columns)
   attach_checks_as user rows columns below also =
-      ap (λ b. must b UnknownUser ∷ must (is_let_in u user) NotMultiuser ∷ must (is_client_size rows columns) BadSize
-      ∷ must (nat_lt (length u.clients) CLIENTS && nat_lt u.next_client SERIALS) TooManyClients ∷ [])
-      (known_alike n t u a user)
-      ∙ ap (λ b. must (is_known t user) UnknownUser ∷ must b NotMultiuser ∷ must (is_client_size rows columns) BadSize
-      ∷ must (nat_lt (length u.clients) CLIENTS && nat_lt u.next_client SERIALS) TooManyClients ∷ [])
-      (let_in_alike user)
-      ∙ ap (λ b. must (is_known t user) UnknownUser ∷ must (is_let_in t user) NotMultiuser ∷ must
-      (is_client_size rows columns) BadSize ∷ must b TooManyClients ∷ [])
-      (ap (λ k. nat_lt k CLIENTS && nat_lt u.next_client SERIALS)
-      (length_both (ClientsAlike n) t.clients u.clients a.clients)
-      ∙ ap (λ b. nat_lt (length t.clients) CLIENTS && b) (serials_left t.next_client u.next_client below also))
+      let as_many = length_match (ClientsAlike n) t.clients u.clients a.clients in
+      let left = serials_left t.next_client u.next_client below also in
+      cc (known_alike n t u a user, let_in_alike user, as_many, left)
 
   -- a client before its page
   abbrev coming : ℕ → UserId → ℕ → ℕ → Option ℕ → Client
@@ -143,18 +99,10 @@ module _ (n : Renaming) (t u : Tables) (a : TablesAlike n t u) where
       → p ≡ option_map n.window o
       → ClientsAlike n (attached s user rows columns o) (attached k user rows columns p)
   attached_as s k user rows columns o p serial window =
-      arranged_alike n (coming s user rows columns o) (coming k user rows columns p) (record {
-        serial = serial;
-        user = refl;
-        rows = refl;
-        columns = refl;
-        keys = refl;
-        layout = ap (λ x. one_region (record { window = x; back = 0 })) window;
-        last = refl;
-        former = refl;
-        message = refl;
-      }) (one_region (record { window = o; back = 0 })) (one_region (record { window = p; back = 0 }))
-      (ap (λ x. one_region (record { window = x; back = 0 })) window)
+      let same = ap (λ x. one_region (record { window = x; back = 0 })) window in
+      arranged_alike n (coming s user rows columns o) (coming k user rows columns p)
+      (clients_as serial refl refl refl refl same refl refl refl) (one_region (record { window = o; back = 0 }))
+      (one_region (record { window = p; back = 0 })) same
 
   new_client_alike : (user : UserId) (rows columns : ℕ)
       → ClientsAlike n (new_client t user rows columns) (new_client u user rows columns)
@@ -163,52 +111,25 @@ module _ (n : Renaming) (t u : Tables) (a : TablesAlike n t u) where
       (serial_as n (lowest t.windows) (lowest u.windows) (lowest_both n t.windows u.windows a.windows))
 
   attaches_alike : (c d : Client) → ClientsAlike n c d → DeedsAlike n t.acts u.acts (attaches t c) (attaches u d)
-  attaches_alike c d r = record {
-    acts = ap (λ s. act.Attached s d.user ∷ entering d.user (focused d)) r.serial
-        ∙ ap (λ (v : UserId). act.Attached (n.client c.serial) v ∷ entering v (focused d)) r.user
-        ∙ ap (λ acts. act.Attached (n.client c.serial) c.user ∷ acts)
-        (ap (entering c.user) (focused_as n c d r.layout) ∙ entering_as n c.user (focused c));
-    tables = record {
-      owner = a.owner;
-      edition = a.edition;
-      is_multiuser = a.is_multiuser;
-      acts = a.acts;
-      windows = a.windows;
-      clients = append_both (ClientsAlike n) t.clients (c ∷ []) u.clients (d ∷ []) a.clients (r, tt);
-      next_windows = a.next_windows;
-      next_clients = λ i. ap n.client (one_more t.next_client i) ∙ a.next_clients (1 + i)
-          ∙ sym (one_more u.next_client i);
-    };
-    effects = tt;
-    kept = refl;
-    kept_too = refl;
-  }
+  attaches_alike c d r = deed_as
+      (cc (r.serial, r.user, focused_as n c d r.layout, entering_as n c.user (focused c)))
+      (tables_as a.owner a.edition a.is_multiuser a.acts a.windows
+      (append_match (ClientsAlike n) t.clients (c ∷ []) u.clients (d ∷ []) a.clients (r, tt)) a.next_windows
+      (λ i. ap n.client (one_more t.next_client i) ∙ a.next_clients (1 + i) ∙ sym (one_more u.next_client i))) tt
 
   -- ---- opening
 
   place_alike : has_place u.windows ≡ has_place t.windows
   place_alike =
-      ap (λ k. nat_lt k WINDOWS && is_some (free_number u.windows))
-      (length_both (WindowsAlike n) t.windows u.windows a.windows)
-      ∙ ap (λ o. nat_lt (length t.windows) WINDOWS && is_some o) (free_both n t.windows u.windows a.windows)
+      let as_many = length_match (WindowsAlike n) t.windows u.windows a.windows in
+      cc (as_many, free_both n t.windows u.windows a.windows)
 
   open_checks_as : (user : UserId) (rows columns keep : ℕ) (title : List ℕ) → t.next_window < SERIALS
       → u.next_window < SERIALS
       → open_checks u user rows columns keep title ≡ map (check_as n) (open_checks t user rows columns keep title)
   open_checks_as user rows columns keep title below also =
-      ap (λ b. must b UnknownUser ∷ right user Execute (object.Command Screen) ∷ must (is_let_in u user) NotMultiuser
-      ∷ must (is_window_size rows columns keep) BadSize
-      ∷ must (has_place u.windows && nat_lt u.next_window SERIALS) (Windows Full)
-      ∷ must (is_title title) (Windows BadTitle) ∷ []) (known_alike n t u a user)
-      ∙ ap (λ b. must (is_known t user) UnknownUser ∷ right user Execute (object.Command Screen) ∷ must b NotMultiuser
-      ∷ must (is_window_size rows columns keep) BadSize
-      ∷ must (has_place u.windows && nat_lt u.next_window SERIALS) (Windows Full)
-      ∷ must (is_title title) (Windows BadTitle) ∷ []) (let_in_alike user)
-      ∙ ap (λ b. must (is_known t user) UnknownUser ∷ right user Execute (object.Command Screen)
-      ∷ must (is_let_in t user) NotMultiuser ∷ must (is_window_size rows columns keep) BadSize ∷ must b (Windows Full)
-      ∷ must (is_title title) (Windows BadTitle) ∷ [])
-      (ap (λ b. b && nat_lt u.next_window SERIALS) place_alike
-      ∙ ap (λ b. has_place t.windows && b) (serials_left t.next_window u.next_window below also))
+      let left = serials_left t.next_window u.next_window below also in
+      cc (known_alike n t u a user, let_in_alike user, place_alike, left)
 
   new_window_alike : (rows columns keep : ℕ) (title : List ℕ)
       → WindowsAlike n (new_window t rows columns keep title) (new_window u rows columns keep title)
@@ -221,49 +142,24 @@ module _ (n : Renaming) (t u : Tables) (a : TablesAlike n t u) where
 
   opens_alike : (user : UserId) (w v : Window) → WindowsAlike n w v
       → DeedsAlike n t.acts u.acts (opens t user w) (opens u user v)
-  opens_alike user w v r = record {
-    acts = ap (λ s. act.Opened user s ∷ []) r.serial;
-    tables = record {
-      owner = a.owner;
-      edition = a.edition;
-      is_multiuser = a.is_multiuser;
-      acts = a.acts;
-      windows = append_both (WindowsAlike n) t.windows (w ∷ []) u.windows (v ∷ []) a.windows (r, tt);
-      clients = a.clients;
-      next_windows = λ i. ap n.window (one_more t.next_window i) ∙ a.next_windows (1 + i)
-          ∙ sym (one_more u.next_window i);
-      next_clients = a.next_clients;
-    };
-    effects = tt;
-    kept = refl;
-    kept_too = refl;
-  }
+  opens_alike user w v r = deed_as (ap (λ s. act.Opened user s ∷ []) r.serial)
+      (tables_as a.owner a.edition a.is_multiuser a.acts
+      (append_match (WindowsAlike n) t.windows (w ∷ []) u.windows (v ∷ []) a.windows (r, tt)) a.clients
+      (λ i. ap n.window (one_more t.next_window i) ∙ a.next_windows (1 + i) ∙ sym (one_more u.next_window i))
+      a.next_clients) tt
 
   -- ---- sizes and output
 
   room_as : (rows columns : ℕ) (l : Arrangement)
       → (if has_room l.shape rows columns then layout_as n l else kept_alone (layout_as n l))
       ≡ layout_as n (if has_room l.shape rows columns then l else kept_alone l)
-  room_as rows columns l = on (has_room l.shape rows columns) where
-    on : (b : Bool)
-        → (if b then layout_as n l else kept_alone (layout_as n l)) ≡ layout_as n (if b then l else kept_alone l)
-    on true = refl
-    on false = alone_as n l
+  room_as rows columns l = cc (alone_as n l, if_as (layout_as n) (has_room l.shape rows columns) l (kept_alone l))
 
   resized_alike : (rows columns : ℕ) (c d : Client) → ClientsAlike n c d
       → ClientsAlike n (resized rows columns c) (resized rows columns d)
-  resized_alike rows columns c d r = record {
-    serial = r.serial;
-    user = r.user;
-    rows = refl;
-    columns = refl;
-    keys = r.keys;
-    layout = ap (λ (l : Arrangement). if has_room l.shape rows columns then l else kept_alone l) r.layout
-        ∙ room_as rows columns c.layout;
-    last = r.last;
-    former = r.former;
-    message = r.message;
-  }
+  resized_alike rows columns c d r = clients_as r.serial r.user refl refl r.keys
+      (ap (λ (l : Arrangement). if has_room l.shape rows columns then l else kept_alone l) r.layout
+      ∙ room_as rows columns c.layout) r.last r.former r.message
 
   reports_alike : (w v : Window) → WindowsAlike n w v → (bytes : List ℕ)
       → (reads (terminal_of v) bytes).reports ≡ (reads (terminal_of w) bytes).reports
@@ -272,17 +168,12 @@ module _ (n : Renaming) (t u : Tables) (a : TablesAlike n t u) where
 
   outputs_alike : (w v : Window) → WindowsAlike n w v → (bytes : List ℕ)
       → DeedsAlike n t.acts u.acts (outputs t w bytes) (outputs u v bytes)
-  outputs_alike w v r bytes = record {
-    acts = refl;
-    tables = (writes_alike n t u a w v r (written.Output bytes)).tables;
-    effects = subst (λ s. Matched (EffectsAlike n) (input_of w.serial (reads (terminal_of w) bytes).reports)
-        (input_of s (reads (terminal_of v) bytes).reports)) (sym r.serial)
-        (subst (λ x. Matched (EffectsAlike n) (input_of w.serial (reads (terminal_of w) bytes).reports)
-        (input_of (n.window w.serial) x)) (sym (reports_alike w v r bytes))
-        (input_as n w.serial (reads (terminal_of w) bytes).reports));
-    kept = refl;
-    kept_too = refl;
-  }
+  outputs_alike w v r bytes = deed_as refl (writes_alike n t u a w v r (written.Output bytes)).tables
+      (subst (λ s. Matched (EffectsAlike n) (input_of w.serial (reads (terminal_of w) bytes).reports)
+      (input_of s (reads (terminal_of v) bytes).reports)) (sym r.serial)
+      (subst (λ x. Matched (EffectsAlike n) (input_of w.serial (reads (terminal_of w) bytes).reports)
+      (input_of (n.window w.serial) x)) (sym (reports_alike w v r bytes))
+      (input_as n w.serial (reads (terminal_of w) bytes).reports)))
 
   -- ---- commands
 
@@ -296,13 +187,11 @@ module _ (n : Renaming) (t u : Tables) (a : TablesAlike n t u) where
       → ((x y : List ℕ) → T x y → TextsAlike n x y) → (vs ws : List Verdict)
       → ws ≡ map (Rattle.session_alike.specs.Renaming.verdict_as n) vs → (x y : Answer)
       → AnswersAlike n T t.acts u.acts x y → OutcomesAlike n event (answered t vs x) (answered u ws y)
-  answered_alike event made T texts vs ws verdicts (Ok d) (Ok e) (done alike ls) =
+  answered_alike event made T texts vs ws verdicts _ _ (done {d = d} {e = e} alike ls) =
       finished_alike n t u a event vs ws (reply_of 0 0 0 d.lists) (reply_of 0 0 0 e.lists) d e verdicts
       (record { taken = refl; made = sym made; number = refl; text = texts_one T texts d.lists e.lists ls }) alike
-  answered_alike event made T texts vs ws verdicts (Err r) (Err s) (declined same) =
+  answered_alike event made T texts vs ws verdicts _ _ (declined {r = r} {s = s} same) =
       refused_alike n t u a event vs ws r s verdicts same
-  answered_alike event made T texts vs ws verdicts (Ok d) (Err s) alike = elim alike [ ]
-  answered_alike event made T texts vs ws verdicts (Err r) (Ok e) alike = elim alike [ ]
 
   line_alike : (event : EventValue) → made_as n event 0 ≡ 0 → (k l : Caller) → CallersAlike n k l
       → (x : Result Order ParseFault)
@@ -316,21 +205,12 @@ module _ (n : Renaming) (t u : Tables) (a : TablesAlike n t u) where
   command_alike : (event : EventValue) → made_as n event 0 ≡ 0 → (user : UserId) (number : Option ℕ) (bytes : List ℕ)
       → OutcomesAlike n event (outcome t (Command user number bytes)) (outcome u (Command user number bytes))
   command_alike event made user number bytes =
-      subst (λ b. OutcomesAlike n event (outcome t (Command user number bytes))
-      (if b then commanded u (line_ruling u (line_caller u user number) (read_line bytes))
-      else refused u [] UnknownUser)) (sym (known_alike n t u a user)) (on (is_known t user)) where
-        on : (b : Bool)
-            → OutcomesAlike n event
-            (if b then commanded t (line_ruling t (line_caller t user number) (read_line bytes))
-            else refused t [] UnknownUser)
-            (if b then commanded u (line_ruling u (line_caller u user number) (read_line bytes))
-            else refused u [] UnknownUser)
-        on true = line_alike event made (line_caller t user number) (line_caller u user number) (record {
-          user = refl;
-          client = refl;
-          window = given_number_both n t.windows u.windows a.windows number;
-        }) (read_line bytes)
-        on false = refused_alike n t u a event [] [] UnknownUser UnknownUser refl refl
+      pick (OutcomesAlike n event) (is_known t user) (is_known u user) (known_alike n t u a user)
+      (line_alike event made (line_caller t user number) (line_caller u user number) (record {
+        user = refl;
+        client = refl;
+        window = given_number_both n t.windows u.windows a.windows number;
+      }) (read_line bytes)) (refused_alike n t u a event [] [] UnknownUser UnknownUser refl refl)
 
   -- ---- events
 
@@ -357,14 +237,8 @@ module _ (n : Renaming) (t u : Tables) (a : TablesAlike n t u) where
       by_client (Resize client rows columns) client _ _ (λ c d r. passed_alike n t u a (Resize client rows columns)
       (must (is_client_size rows columns) BadSize ∷ []) (must (is_client_size rows columns) BadSize ∷ []) said_done
       said_done (changing (with_client t (resized rows columns c))) (changing (with_client u (resized rows columns d)))
-      refl (done_alike (Resize client rows columns) refl) (record {
-        acts = refl;
-        tables = put_client_alike n t u a (resized rows columns c) (resized rows columns d)
-            (resized_alike rows columns c d r);
-        effects = tt;
-        kept = refl;
-        kept_too = refl;
-      }))
+      refl (done_alike (Resize client rows columns) refl) (deed_as refl (put_client_alike n t u a
+      (resized rows columns c) (resized rows columns d) (resized_alike rows columns c d r)) tt))
   outcome_alike (Open user rows columns keep title) left also =
       let w : Window = new_window t rows columns keep title in
       let v : Window = new_window u rows columns keep title in
@@ -390,4 +264,4 @@ module _ (n : Renaming) (t u : Tables) (a : TablesAlike n t u) where
   outcome_alike (Draw client) left also =
       by_client (Draw client) client _ _ (λ c d r. finished_alike n t u a (Draw client) [] [] said_done said_done
       (changing t) (changing u) refl (done_alike (Draw client) refl)
-      (record { acts = refl; tables = a; effects = tt; kept = refl; kept_too = refl }))
+      (deed_as refl a tt))

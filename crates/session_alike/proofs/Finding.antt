@@ -1,33 +1,13 @@
 -- What sessions that are alike answer of rights, windows and clients.
-use Rattle.std.proofs.Common.{◌≡◌, ℕ, zero, suc, not, List, [], ◌∷◌, Option, Some, None, refl, ap, sym}
-use Rattle.std.proofs.Common.{◌∙◌, subst, map, filter}
-use Rattle.std.specs.Prelude.{◌==◌, ◌&&◌, slice_get}
-use Rattle.std.specs.Option.{option_and_then, option_map, option_map_or}
-use Rattle.acl.specs.declared.act.Object.{Object}
-use Rattle.acl.specs.declared.bits.Bit.{Bit}
-use Rattle.acl.specs.declared.edition.Edition.{Edition}
-use Rattle.acl.specs.declared.user_id.UserId.{UserId}
-use Rattle.acl.specs.History.{is_known as is_known_after, leaders_of, may, users_of}
-use Rattle.acl.specs.Same.{same_user}
-use Rattle.regions.specs.declared.shown.Shown.{Shown}
-use Rattle.regions.specs.Layouts.{Arrangement}
-use Rattle.writelock.specs.Holding.{holder}
-use Rattle.windows_model.specs.Matched.{BothOrNone, Matched}
-use Rattle.session_model.specs.Denials.{number_of}
-use Rattle.session_model.specs.Rights.{holder_in, leaders_in, may_in}
-use Rattle.session_model.specs.Tables.{Client, Tables, Window, client_at, focused, focused_window, is_in_focus}
-use Rattle.session_model.specs.Tables.{is_known}
-use Rattle.session_model.specs.Tables.{is_window, known_users, others, shows, window_at}
-use Rattle.session_alike.specs.Renaming.{Renaming, layout_as, object_as, shown_as}
-use Rattle.session_alike.specs.Alike.{ClientsAlike, TablesAlike, WindowsAlike}
+use Rattle.session_alike.proofs.Vocabulary.{◌≡◌, ℕ, not, List, Option, Some, None, refl, ap, sym, ◌∙◌, subst, filter}
+use Rattle.session_alike.proofs.Vocabulary.{◌==◌, slice_get, option_and_then, option_map, Object, Bit, UserId}
+use Rattle.session_alike.proofs.Vocabulary.{same_user, Shown, Arrangement, BothOrNone, Matched, number_of, holder_in}
+use Rattle.session_alike.proofs.Vocabulary.{leaders_in, may_in, Client, Tables, Window, client_at, focused}
+use Rattle.session_alike.proofs.Vocabulary.{focused_window, is_in_focus, is_known, is_window, known_users, others}
+use Rattle.session_alike.proofs.Vocabulary.{shows, window_at, Renaming, layout_as, object_as, shown_as, ClientsAlike}
+use Rattle.session_alike.proofs.Vocabulary.{TablesAlike, WindowsAlike, any_both, read_or, row_both, then_both}
+use Rattle.session_alike.proofs.Vocabulary.{slice_get-map}
 use Rattle.session_alike.proofs.Histories.{client_test, may_as, window_test}
-use Rattle.session_alike.proofs.Matching.{any_both, row_both, then_both}
-
-get_as : {A B : Type 0} (f : A → B) (xs : List A) (i : ℕ) → slice_get (map f xs) i ≡ option_map f (slice_get xs i)
-get_as f [] zero = refl
-get_as f [] (suc i) = refl
-get_as f (x ∷ xs) zero = refl
-get_as f (x ∷ xs) (suc i) = get_as f xs i
 
 module _ (n : Renaming) where
   pub is_window_as : (w : ℕ) (o : Option ℕ) → is_window (n.window w) (option_map n.window o) ≡ is_window w o
@@ -42,10 +22,6 @@ module _ (n : Renaming) where
 
   -- ---- the window in focus
 
-  pub get_shown_as : (l : Arrangement) (i : ℕ)
-      → slice_get (map (shown_as n) l.shown) i ≡ option_map (shown_as n) (slice_get l.shown i)
-  get_shown_as l i = get_as (shown_as n) l.shown i
-
   window_shown : (o : Option Shown)
       → option_and_then (λ (s : Shown). s.window) (option_map (shown_as n) o) ≡ option_map n.window
       (option_and_then (λ (s : Shown). s.window) o)
@@ -55,14 +31,11 @@ module _ (n : Renaming) where
   pub focused_as : (c d : Client) → d.layout ≡ layout_as n c.layout → focused d ≡ option_map n.window (focused c)
   focused_as c d is =
       ap (λ (l : Arrangement). option_and_then (λ (s : Shown). s.window) (slice_get l.shown l.focus)) is
-      ∙ ap (option_and_then (λ (s : Shown). s.window)) (get_shown_as c.layout c.layout.focus)
+      ∙ ap (option_and_then (λ (s : Shown). s.window)) (slice_get-map (shown_as n) c.layout.shown c.layout.focus)
       ∙ window_shown (slice_get c.layout.shown c.layout.focus)
 
   shows_as : (user : UserId) (w : ℕ) (c d : Client) → ClientsAlike n c d → shows user (n.window w) d ≡ shows user w c
-  shows_as user w c d r =
-      ap (λ (v : UserId). same_user v user && is_window (n.window w) (focused d)) r.user
-      ∙ ap (λ b. same_user c.user user && b)
-      (ap (is_window (n.window w)) (focused_as c d r.layout) ∙ is_window_as w (focused c))
+  shows_as user w c d r = cc (r.user, focused_as c d r.layout, is_window_as w (focused c))
 
   pub in_focus_as : (cs ds : List Client) → Matched (ClientsAlike n) cs ds → (user : UserId) (w : ℕ)
       → is_in_focus ds user (n.window w) ≡ is_in_focus cs user w
@@ -72,24 +45,19 @@ module _ (n : Renaming) where
   -- ---- tables
   module _ (t u : Tables) (a : TablesAlike n t u) where
     pub may_alike : (v : UserId) (bit : Bit) (o : Object) → may_in u v bit (object_as n o) ≡ may_in t v bit o
-    may_alike v bit o =
-        ap (λ (e : Edition). may e u.owner u.acts v bit (object_as n o)) a.edition
-        ∙ ap (λ (x : UserId). may t.edition x u.acts v bit (object_as n o)) a.owner
-        ∙ may_as n t.edition t.owner t.acts u.acts a.acts v bit o
+    may_alike v bit o = cc (a.edition, a.owner, may_as n t.edition t.owner t.acts u.acts a.acts v bit o)
 
     pub holder_alike : (w : ℕ) → holder_in u (n.window w) ≡ holder_in t w
-    holder_alike w =
-        ap (λ (e : Edition). holder e u.owner u.acts (n.window w)) a.edition
-        ∙ ap (λ (x : UserId). holder t.edition x u.acts (n.window w)) a.owner ∙ a.acts.holders w
+    holder_alike w = cc (a.edition, a.owner, a.acts.holders w)
 
     pub leaders_alike : (v : UserId) → leaders_in u v ≡ leaders_in t v
-    leaders_alike v = ap (λ (e : Edition). leaders_of e u.acts v) a.edition ∙ a.acts.leaders v
+    leaders_alike v = cc (a.edition, a.acts.leaders v)
 
     pub users_alike : known_users u ≡ known_users t
-    users_alike = ap (λ (x : UserId). users_of x u.acts) a.owner ∙ a.acts.users
+    users_alike = cc (a.owner, a.acts.users)
 
     pub known_alike : (v : UserId) → is_known u v ≡ is_known t v
-    known_alike v = ap (λ (x : UserId). is_known_after x u.acts v) a.owner ∙ a.acts.known v
+    known_alike v = cc (a.owner, a.acts.known v)
 
     pub others_alike : others u ≡ others t
     others_alike =
@@ -117,11 +85,6 @@ module _ (n : Renaming) where
         subst (λ o. BothOrNone (WindowsAlike n) (focused_window t c) (option_and_then (window_at u) o))
         (sym (focused_as c d r.layout)) (window_in (focused c))
 
-    number_one : (o p : Option Window) → BothOrNone (WindowsAlike n) o p
-        → option_map_or (λ (w : Window). w.number) p 0 ≡ option_map_or (λ (w : Window). w.number) o 0
-    number_one None None m = refl
-    number_one (Some w) (Some v) m = m.number
-    number_one o p m = absurd m
-
     pub number_alike : (s : ℕ) → number_of u (n.window s) ≡ number_of t s
-    number_alike s = number_one (window_at t s) (window_at u (n.window s)) (window_alike s)
+    number_alike s = read_or (WindowsAlike n) (λ (w : Window). w.number) (λ (w : Window). w.number) 0 (window_at t s)
+        (window_at u (n.window s)) (window_alike s) (λ w v r. r.number)

@@ -1,25 +1,17 @@
 -- Sessions that are alike stay so, step by step.
-use Rattle.std.proofs.Common.{◌≡◌, ℕ, ◌+◌, arith, refl, List, [], ◌∷◌, Option, Some, None, ap, sym, ◌∙◌, subst}
-use Rattle.std.specs.Prelude.{◌⊎◌}
-use Rattle.terminal_model.specs.Shows.{View}
-use Rattle.windows_model.specs.Matched.{BothOrNone, Matched}
-use Rattle.session_model.specs.declared.event.Effect.{Effect}
-use Rattle.session_model.specs.Events.{outcome}
-use Rattle.session_model.specs.Granted.{granted_view}
-use Rattle.session_model.specs.Run.{HasEffects, IsRunFrom, IsStep, after, drawn, drawn_on, tables_from, with_drawn}
-use Rattle.session_model.specs.Tables.{Client, Tables, client_at, fresh}
-use Rattle.session_model.specs.Trace.{Draw, Entry, EventValue}
-use Rattle.session_alike.specs.Renaming.{Renaming, act_as, event_as, verdict_as}
-use Rattle.session_alike.specs.Alike.{ClientsAlike, TablesAlike, WindowsAlike}
-use Rattle.session_alike.specs.Histories.{HistoriesAlike}
-use Rattle.acl.specs.History.{History}
-use Rattle.session_alike.specs.Steps.{AllEffectsAlike, AllHaveSerials, AllStepsAlike, DrawsAlike, EffectsAlike}
-use Rattle.session_alike.specs.Steps.{HasSerials, IsSameEvent, RepliesAlike, StepsAlike}
-use Rattle.session_alike.proofs.Changing.{put_client_alike}
+use Rattle.session_alike.proofs.Vocabulary.{◌≡◌, ℕ, ◌+◌, arith, refl, List, [], ◌∷◌, Option, Some, None, ap, sym, ◌∙◌}
+use Rattle.session_alike.proofs.Vocabulary.{subst, BothOrNone, Matched, Effect, outcome, granted_view, Client, Tables}
+use Rattle.session_alike.proofs.Vocabulary.{client_at, fresh, Draw, Entry, EventValue, Renaming, act_as, event_as}
+use Rattle.session_alike.proofs.Vocabulary.{verdict_as, ClientsAlike, TablesAlike, WindowsAlike, HistoriesAlike}
+use Rattle.session_alike.proofs.Vocabulary.{History, AllEffectsAlike, AllHaveSerials, AllStepsAlike, DrawsAlike}
+use Rattle.session_alike.proofs.Vocabulary.{EffectsAlike, HasSerials, IsSameEvent, RepliesAlike, StepsAlike}
+use Rattle.session_alike.proofs.Changing.{clients_as, put_client_alike, tables_as}
 use Rattle.session_alike.proofs.Events.{outcome_alike}
 use Rattle.session_alike.proofs.Finding.{client_alike}
 use Rattle.session_alike.proofs.Outcomes.{OutcomesAlike}
 use Rattle.session_alike.proofs.Seeing.{view_alike}
+use Rattle.terminal_model.specs.Shows.{View}
+use Rattle.session_model.specs.Run.{HasEffects, IsRunFrom, IsStep, after, drawn, drawn_on, tables_from, with_drawn}
 
 from_nothing : (i : ℕ) → 0 + i ≡ i
 from_nothing i = omega arith
@@ -30,32 +22,14 @@ module _ (n : Renaming) where
   drawn_this : (fs : List Effect) (x : View) (c d : Client) → ClientsAlike n c d
       → ClientsAlike n (with_drawn fs x c) d
   drawn_this [] x c d r = r
-  drawn_this (f ∷ fs) x c d r = record {
-    serial = r.serial;
-    user = r.user;
-    rows = r.rows;
-    columns = r.columns;
-    keys = r.keys;
-    layout = r.layout;
-    last = r.last;
-    former = r.former;
-    message = r.message;
-  }
+  drawn_this (f ∷ fs) x c d r =
+      clients_as r.serial r.user r.rows r.columns r.keys r.layout r.last r.former r.message
 
   drawn_other : (gs : List Effect) (x : View) (c d : Client) → ClientsAlike n c d
       → ClientsAlike n c (with_drawn gs x d)
   drawn_other [] x c d r = r
-  drawn_other (g ∷ gs) x c d r = record {
-    serial = r.serial;
-    user = r.user;
-    rows = r.rows;
-    columns = r.columns;
-    keys = r.keys;
-    layout = r.layout;
-    last = r.last;
-    former = r.former;
-    message = r.message;
-  }
+  drawn_other (g ∷ gs) x c d r =
+      clients_as r.serial r.user r.rows r.columns r.keys r.layout r.last r.former r.message
 
   drawn_on_alike : (t u : Tables) → TablesAlike n t u → (fs gs : List Effect) (o p : Option Client)
       → BothOrNone (ClientsAlike n) o p → TablesAlike n (drawn_on o fs t) (drawn_on p gs u)
@@ -73,18 +47,9 @@ module _ (n : Renaming) where
   drawn_alike _ t u a fs gs = a
 
   draws_alike : (t u : Tables) → TablesAlike n t u → (client : ℕ) → DrawsAlike n t u client
-  draws_alike t u a client c d at there =
-      on (client_at t client) (client_at u (n.client client)) (client_alike n t u a client) at there where
-        on : (o p : Option Client) → BothOrNone (ClientsAlike n) o p → o ≡ Some c → p ≡ Some d
-            → (c.message ≡ Rattle.session_model.specs.declared.message.StatusMessage.TheVariants.AllClients) ⊎
-            (granted_view u d ≡ granted_view t c)
-        on None None r is was = absurd (cc (is))
-        on (Some x) (Some y) r is was =
-            let e : x ≡ c = cc (is) in
-            let f : y ≡ d = cc (was) in
-            view_alike n t u a c d
-            (subst (λ (z : Client). ClientsAlike n z d) e (subst (λ (z : Client). ClientsAlike n x z) f r))
-        on o p r is was = absurd r
+  draws_alike t u a client c d at there = view_alike n t u a c d
+      (subst (BothOrNone (ClientsAlike n) (Some c)) there
+      (subst (λ o. BothOrNone (ClientsAlike n) o (client_at u (n.client client))) at (client_alike n t u a client)))
 
   effects_alike : (t u : Tables) → TablesAlike n t u → (event : EventValue) (fs gs : List Effect)
       → HasEffects t event fs → HasEffects u (event_as n event) gs
@@ -142,13 +107,7 @@ module _ (n : Renaming) where
       → ((i : ℕ) → n.window i ≡ u.next_window + i) → ((i : ℕ) → n.client i ≡ u.next_client + i)
       → HistoriesAlike n u.edition u.owner h u.acts
       → TablesAlike n (record (fresh u.edition u.owner) { acts = h; is_multiuser = u.is_multiuser }) u
-  begins_alike h u no_windows no_clients windows clients acts = record {
-    owner = refl;
-    edition = refl;
-    is_multiuser = refl;
-    acts = acts;
-    windows = subst (Matched (WindowsAlike n) []) (sym no_windows) tt;
-    clients = subst (Matched (ClientsAlike n) []) (sym no_clients) tt;
-    next_windows = λ i. ap n.window (from_nothing i) ∙ windows i;
-    next_clients = λ i. ap n.client (from_nothing i) ∙ clients i;
-  }
+  begins_alike h u no_windows no_clients windows clients acts = tables_as refl refl refl acts
+      (subst (Matched (WindowsAlike n) []) (sym no_windows) tt)
+      (subst (Matched (ClientsAlike n) []) (sym no_clients) tt)
+      (λ i. ap n.window (from_nothing i) ∙ windows i) (λ i. ap n.client (from_nothing i) ∙ clients i)

@@ -1,20 +1,11 @@
 -- List commands give the same acts on windows under other serials.
-use Rattle.std.proofs.Common.{◌≡◌, Bool, true, false, List, [], ◌∷◌, Option, Some, None, refl, ap, map}
-use Rattle.std.specs.Prelude.{if◌then◌else◌}
+use Rattle.session_alike.proofs.Vocabulary.{◌≡◌, Bool, true, false, List, [], ◌∷◌, Option, Some, None, refl, ap, map}
+use Rattle.session_alike.proofs.Vocabulary.{if◌then◌else◌, Object, Bit, BitChange, MaskEntry, MaskScope, NewLeader}
+use Rattle.session_alike.proofs.Vocabulary.{UserId, among, add_acts, added, change_acts, group_acts, known_acts}
+use Rattle.session_alike.proofs.Vocabulary.{mask_acts, name_acts, name_sets, names_sets, new_acts, scope_acts, sets}
+use Rattle.session_alike.proofs.Vocabulary.{sets_on, user_acts, with_name, Renaming, act_as, object_as, map_append}
 use Rattle.acl.specs.declared.act.Act.TheVariants as act
-use Rattle.acl.specs.declared.act.Object.{Object}
-use Rattle.acl.specs.declared.bits.Bit.{Bit}
-use Rattle.acl.specs.declared.bits.BitChange.{BitChange}
-use Rattle.acl.specs.declared.entries.MaskEntry.{MaskEntry}
-use Rattle.acl.specs.declared.entries.MaskScope.{MaskScope}
 use Rattle.acl.specs.declared.entries.MaskScope.TheVariants as scope
-use Rattle.acl.specs.declared.entries.NewLeader.{NewLeader}
-use Rattle.acl.specs.declared.user_id.UserId.{UserId}
-use Rattle.acl.specs.History.{among}
-use Rattle.acl.specs.Commands.{add_acts, added, change_acts, group_acts, known_acts, mask_acts, name_acts}
-use Rattle.acl.specs.Commands.{name_sets, names_sets, new_acts, scope_acts, sets, sets_on, user_acts, with_name}
-use Rattle.session_alike.specs.Renaming.{Renaming, act_as, object_as}
-use Rattle.session_alike.proofs.Matching.{map_append}
 
 module _ (n : Renaming) where
   sets_on_as : (u : UserId) (changes : List BitChange) (o : Object)

@@ -1,27 +1,19 @@
 -- Histories that answer alike do so after the same act.
-use Rattle.std.proofs.Common.{◌≡◌, ℕ, Bool, true, false, not, List, [], ◌∷◌, Option, Some, None, refl, ap, sym, ◌∙◌}
-use Rattle.std.proofs.Common.{map, filter, arith}
-use Rattle.std.specs.Prelude.{if◌then◌else◌, ◌==◌, ◌&&◌, ◌||◌, unwrap_or, is_none}
-use Rattle.std.specs.List.{list_any}
-use Rattle.std.proofs.lemmas.Bool.Decides.{nat_tests}
-use Rattle.acl.specs.declared.act.Act.{Act}
+use Rattle.session_alike.proofs.Vocabulary.{◌≡◌, ℕ, Bool, true, false, not, List, [], ◌∷◌, Option, Some, None, refl, ap}
+use Rattle.session_alike.proofs.Vocabulary.{sym, ◌∙◌, map, filter, arith, if◌then◌else◌, ◌==◌, ◌&&◌, ◌||◌, unwrap_or}
+use Rattle.session_alike.proofs.Vocabulary.{list_any, nat_tests, Act, Object, Bit, Write, Edition, UserId, History}
+use Rattle.session_alike.proofs.Vocabulary.{followed_by, decided, decides_known, decides_mask, decides_open}
+use Rattle.session_alike.proofs.Vocabulary.{decides_preset, decision, greeting, has, latest, leaders_after, leaders_of}
+use Rattle.session_alike.proofs.Vocabulary.{mask, may, opening, users_after, users_of, same_bit, same_object, same_user}
+use Rattle.session_alike.proofs.Vocabulary.{Renaming, act_as, object_as, HistoriesAlike, client_as, if_as}
 use Rattle.acl.specs.declared.act.Act.TheVariants as act
-use Rattle.acl.specs.declared.act.LockMode.{LockMode}
-use Rattle.acl.specs.declared.act.Object.{Object}
 use Rattle.acl.specs.declared.act.Object.TheVariants as object
+use Rattle.acl.specs.declared.act.PresetKind.TheVariants as preset
+use Rattle.acl.specs.declared.act.LockMode.{LockMode}
 use Rattle.acl.specs.declared.act.PresetKind.{PresetKind}
-use Rattle.acl.specs.declared.bits.Bit.{Bit}
-use Rattle.acl.specs.declared.bits.Bit.TheVariants.{Write}
-use Rattle.acl.specs.declared.edition.Edition.{Edition}
-use Rattle.acl.specs.declared.user_id.UserId.{UserId}
-use Rattle.acl.specs.History.{History, followed_by, decided, decides_known, decides_mask, decides_open}
-use Rattle.acl.specs.History.{decides_preset, decision, greeting, has, is_known, is_open, leaders_after, leaders_of}
-use Rattle.acl.specs.History.{mask, may, opening, preset_of, users_after, users_of}
-use Rattle.acl.specs.Same.{same_bit, same_object, same_user}
-use Rattle.writelock.specs.Holding.{clients_after, clients_of, decides_default, default_of, ends, given, has_client}
-use Rattle.writelock.specs.Holding.{holder, is_auto, is_off, is_on, kept, loses_last, mode_after, mode_of, or_else}
-use Rattle.session_alike.specs.Renaming.{Renaming, act_as, object_as}
-use Rattle.session_alike.specs.Histories.{HistoriesAlike, client_as}
+use Rattle.acl.specs.History.{is_known}
+use Rattle.writelock.specs.Holding.{clients_after, clients_of, decides_default, ends, given, holder, is_off, kept}
+use Rattle.writelock.specs.Holding.{loses_last, mode_after, mode_of}
 
 -- ---- serials
 
@@ -112,41 +104,30 @@ module _ (n : Renaming) (edition : Edition) (owner : UserId) where
         (filter (λ (c : ℕ × UserId). not (c.0 == client)) cs)
     left [] = refl
     left (c ∷ cs) =
-        ap (λ b. if not b then client_as n c ∷ filter (λ (d : ℕ × UserId). not (d.0 == n.client client))
-        (map (client_as n) cs)
-        else filter (λ (d : ℕ × UserId). not (d.0 == n.client client)) (map (client_as n) cs))
-        (client_test n c.0 client)
-        ∙ ap (λ ds. if not (c.0 == client) then client_as n c ∷ ds else ds) (left cs)
-        ∙ on (not (c.0 == client)) where
-          on : (b : Bool)
-              → (if b then client_as n c ∷ map (client_as n) (filter (λ (d : ℕ × UserId). not (d.0 == client)) cs)
-              else map (client_as n) (filter (λ (d : ℕ × UserId). not (d.0 == client)) cs)) ≡ map (client_as n)
-              (if b then c ∷ filter (λ (d : ℕ × UserId). not (d.0 == client)) cs
-              else filter (λ (d : ℕ × UserId). not (d.0 == client)) cs)
-          on true = refl
-          on false = refl
+        let others = filter (λ (d : ℕ × UserId). not (d.0 == client)) cs in
+        let here = if_as (map (client_as n)) (not (c.0 == client)) (c ∷ others) others in
+        cc (client_test n c.0 client, left cs, here)
   clients_as (act.Known v) cs = refl
   clients_as _ cs = refl
+
+  may_by : (h g : History) → ((u : UserId) → leaders_of edition g u ≡ leaders_of edition h u)
+      → ((u : UserId) (bit : Bit) (o : Object) → has owner g u bit (object_as n o) ≡ has owner h u bit o)
+      → (u : UserId) (bit : Bit) (o : Object)
+      → may edition owner g u bit (object_as n o) ≡ may edition owner h u bit o
+  may_by h g leaders entries u bit o =
+      let led = any_as (λ leader. has owner h leader bit o) (λ leader. has owner g leader bit (object_as n o))
+      (leaders_of edition h u) (λ leader. entries leader bit o) in
+      cc (entries u bit o, leaders u, led)
 
   -- ---- what it says after histories that answer alike
   module _ (h g : History) (s : HistoriesAlike n edition owner h g) where
     pub may_as : (u : UserId) (bit : Bit) (o : Object)
         → may edition owner g u bit (object_as n o) ≡ may edition owner h u bit o
-    may_as u bit o =
-        ap (λ b. (same_user owner u || b) || list_any (λ leader. has owner g leader bit (object_as n o))
-        (leaders_of edition g u)) (s.entries u bit o)
-        ∙ ap (λ ls. (same_user owner u || has owner h u bit o) || list_any
-        (λ leader. has owner g leader bit (object_as n o)) ls) (s.leaders u)
-        ∙ ap (λ b. (same_user owner u || has owner h u bit o) || b)
-        (any_as (λ leader. has owner h leader bit o) (λ leader. has owner g leader bit (object_as n o))
-        (leaders_of edition h u) (λ leader. s.entries leader bit o))
+    may_as = may_by h g s.leaders s.entries
 
     greeting_as : (bit : Bit) (o : Object) → greeting g bit (object_as n o) ≡ greeting h bit o
-    greeting_as bit (object.Window w) =
-        ap (λ b. decided b (preset_of g Rattle.acl.specs.declared.act.PresetKind.TheVariants.Windows bit)) (s.opened w)
-        ∙ ap (decided (is_open h w)) (s.presets Rattle.acl.specs.declared.act.PresetKind.TheVariants.Windows bit)
-    greeting_as bit (object.Command c) =
-        ap Some (s.presets Rattle.acl.specs.declared.act.PresetKind.TheVariants.Commands bit)
+    greeting_as bit (object.Window w) = cc (s.opened w, s.presets preset.Windows bit)
+    greeting_as bit (object.Command c) = ap Some (s.presets preset.Commands bit)
 
     opening_as : (by u : UserId) (bit : Bit) → opening owner g by u bit ≡ opening owner h by u bit
     opening_as by u bit = on (same_user by u) refl where
@@ -154,24 +135,20 @@ module _ (n : Renaming) (edition : Edition) (owner : UserId) where
           → (if b then Some true else decided (is_known owner g u) (mask g by u bit)) ≡
           (if b then Some true else decided (is_known owner h u) (mask h by u bit))
       on true is = refl
-      on false is = ap (λ b. decided b (mask g by u bit)) (s.known u)
-          ∙ ap (decided (is_known owner h u)) (s.masks by u bit is)
+      on false is = cc (s.known u, s.masks by u bit is)
 
     decision_as : (a : Act) (u : UserId) (bit : Bit) (o : Object)
         → decision owner (act_as n a) g u bit (object_as n o) ≡ decision owner a h u bit o
     decision_as (act.Known v) u bit o = ap (λ x. if same_user v u then x else None) (greeting_as bit o)
     decision_as (act.Set v c place value) u bit o =
         ap (λ b. decided (same_user v u && same_bit c bit && b) value) (object_test place o)
-    decision_as (act.Opened by w) u bit o =
-        ap (λ b. if b then opening owner g by u bit else None) (object_test (object.Window w) o)
-        ∙ ap (λ x. if same_object (object.Window w) o then x else None) (opening_as by u bit)
+    decision_as (act.Opened by w) u bit o = cc (object_test (object.Window w) o, opening_as by u bit)
     decision_as (act.Gone v) u bit o = refl
     decision_as _ u bit o = refl
 
     mode_as : (a : Act) (w : ℕ) (m : LockMode) → mode_after (act_as n a) g (n.window w) m ≡ mode_after a h w m
     mode_as (act.Mode by v mode) w m = ap (λ b. if b then mode else m) (window_test n v w)
-    mode_as (act.Opened by v) w m = ap (λ b. if b then default_of g else m) (window_test n v w)
-        ∙ ap (λ x. if v == w then x else m) s.default
+    mode_as (act.Opened by v) w m = cc (window_test n v w, s.default)
     mode_as (act.Known v) w m = refl
     mode_as _ w m = refl
 
@@ -184,19 +161,12 @@ module _ (n : Renaming) (edition : Edition) (owner : UserId) where
 
     loses_as : (client : ℕ) (u : UserId) → loses_last g (n.client client) u ≡ loses_last h client u
     loses_as client u =
-        ap (λ cs. list_any (λ (c : ℕ × UserId). same_user c.1 u) cs && not (list_any
-        (λ (c : ℕ × UserId). same_user c.1 u) (clients_after (act.Parted (n.client client)) cs))) s.clients
-        ∙ ap (λ b. b && not (list_any (λ (c : ℕ × UserId). same_user c.1 u)
-        (clients_after (act.Parted (n.client client)) (map (client_as n) (clients_of h)))))
-        (has_client_as u (clients_of h))
-        ∙ ap (λ b. has_client h u && not b)
-        (ap (list_any (λ (c : ℕ × UserId). same_user c.1 u)) (clients_as (act.Parted client) (clients_of h))
-        ∙ has_client_as u (clients_after (act.Parted client) (clients_of h)))
+        let after = has_client_as u (clients_after (act.Parted client) (clients_of h)) in
+        cc (s.clients, has_client_as u (clients_of h), clients_as (act.Parted client) (clients_of h), after)
 
     ends_as : (a : Act) (u : UserId) (w : ℕ) → ends (act_as n a) g u (n.window w) ≡ ends a h u w
     ends_as (act.Mode by v mode) u w = ap (λ b. b && is_off mode) (window_test n v w)
-    ends_as (act.Left v x) u w = ap (λ b. same_user v u && b && is_auto (mode_of g (n.window w))) (window_test n x w)
-        ∙ ap (λ m. same_user v u && x == w && is_auto m) (s.modes w)
+    ends_as (act.Left v x) u w = cc (window_test n x w, s.modes w)
     ends_as (act.Set v Write (object.Window x) false) u w = ap (λ b. same_user v u && b) (window_test n x w)
     ends_as (act.Parted client) u w = loses_as client u
     ends_as (act.Closed x) u w = window_test n x w
@@ -206,14 +176,8 @@ module _ (n : Renaming) (edition : Edition) (owner : UserId) where
     given_as : (a : Act) (w : ℕ) (held : Option UserId)
         → given edition owner (act_as n a) g (n.window w) held ≡ given edition owner a h w held
     given_as (act.Mode by v mode) w held = ap (λ b. decided (b && not (is_off mode)) by) (window_test n v w)
-    given_as (act.Opened by v) w held = ap (λ b. decided (b && is_on (default_of g)) by) (window_test n v w)
-        ∙ ap (λ m. decided (v == w && is_on m) by) s.default
-    given_as (act.Entered u v) w held =
-        ap (λ b. decided (b && is_auto (mode_of g (n.window w)) && is_none held && may edition owner g u Write
-        (object.Window (n.window w))) u) (window_test n v w)
-        ∙ ap (λ m. decided (v == w && is_auto m && is_none held && may edition owner g u Write
-        (object.Window (n.window w))) u) (s.modes w)
-        ∙ ap (λ b. decided (v == w && is_auto (mode_of h w) && is_none held && b) u) (may_as u Write (object.Window w))
+    given_as (act.Opened by v) w held = cc (window_test n v w, s.default)
+    given_as (act.Entered u v) w held = cc (window_test n v w, s.modes w, may_as u Write (object.Window w))
     given_as (act.Known v) w held = refl
     given_as _ w held = refl
 
@@ -222,57 +186,34 @@ module _ (n : Renaming) (edition : Edition) (owner : UserId) where
         (a ∷ h) u Write (object.Window w))
         → kept edition owner (act_as n a) g (n.window w) held ≡ kept edition owner a h w held
     kept_as a w None may_so = refl
-    kept_as a w (Some u) may_so =
-        ap (λ b. if b || not (may edition owner (act_as n a ∷ g) u Write (object.Window (n.window w))) then None
-        else Some u) (ends_as a u w)
-        ∙ ap (λ b. if ends a h u w || not b then None else Some u) (may_so u)
+    kept_as a w (Some u) may_so = cc (ends_as a u w, may_so u)
 
     -- ---- an act
 
     rights_after : (a : Act) (u : UserId) (bit : Bit) (o : Object)
         → has owner (act_as n a ∷ g) u bit (object_as n o) ≡ has owner (a ∷ h) u bit o
-    rights_after a u bit o = ap (λ x. unwrap_or x (has owner g u bit (object_as n o))) (decision_as a u bit o)
-        ∙ ap (unwrap_or (decision owner a h u bit o)) (s.entries u bit o)
+    rights_after a u bit o = cc (decision_as a u bit o, s.entries u bit o)
 
     led_after : (a : Act) (u : UserId) → leaders_of edition (act_as n a ∷ g) u ≡ leaders_of edition (a ∷ h) u
     led_after a u = leaders_as a u (leaders_of edition g u) ∙ ap (leaders_after edition a u) (s.leaders u)
 
-    may_after : (a : Act) (u : UserId) (bit : Bit) (o : Object)
-        → may edition owner (act_as n a ∷ g) u bit (object_as n o) ≡ may edition owner (a ∷ h) u bit o
-    may_after a u bit o =
-        ap (λ b. (same_user owner u || b) || list_any (λ leader. has owner (act_as n a ∷ g) leader bit (object_as n o))
-        (leaders_of edition (act_as n a ∷ g) u)) (rights_after a u bit o)
-        ∙ ap (λ ls. (same_user owner u || has owner (a ∷ h) u bit o) || list_any
-        (λ leader. has owner (act_as n a ∷ g) leader bit (object_as n o)) ls) (led_after a u)
-        ∙ ap (λ b. (same_user owner u || has owner (a ∷ h) u bit o) || b)
-        (any_as (λ leader. has owner (a ∷ h) leader bit o)
-        (λ leader. has owner (act_as n a ∷ g) leader bit (object_as n o))
-        (leaders_of edition (a ∷ h) u) (λ leader. rights_after a leader bit o))
-
     pub alike_after : (a : Act) → HistoriesAlike n edition owner (a ∷ h) (act_as n a ∷ g)
     alike_after a = record {
       users = users_as a (users_of owner g) ∙ ap (users_after a) s.users;
-      known = λ u. ap (λ d. same_user owner u || unwrap_or d
-          (Rattle.acl.specs.History.latest (decides_known u) false g)) (known_as u a)
-          ∙ or_later (same_user owner u) (decides_known u a)
-          (Rattle.acl.specs.History.latest (decides_known u) false h)
-          (Rattle.acl.specs.History.latest (decides_known u) false g) (s.known u);
+      known = λ u. ap (λ d. same_user owner u || unwrap_or d (latest (decides_known u) false g)) (known_as u a)
+          ∙ or_later (same_user owner u) (decides_known u a) (latest (decides_known u) false h)
+          (latest (decides_known u) false g) (s.known u);
       leaders = led_after a;
       entries = rights_after a;
-      masks = λ by u bit other. ap (λ d. unwrap_or d (mask g by u bit)) (mask_as by u bit a)
-          ∙ ap (unwrap_or (decides_mask by u bit a)) (s.masks by u bit other);
-      presets = λ kind bit. ap (λ d. unwrap_or d (preset_of g kind bit)) (preset_as kind bit a)
-          ∙ ap (unwrap_or (decides_preset kind bit a)) (s.presets kind bit);
-      opened = λ w. ap (λ d. unwrap_or d (is_open g (n.window w))) (open_as w a)
-          ∙ ap (unwrap_or (decides_open w a)) (s.opened w);
-      default = ap (λ d. unwrap_or d (default_of g)) (default_as a) ∙ ap (unwrap_or (decides_default a)) s.default;
-      modes = λ w. mode_as a w (mode_of g (n.window w)) ∙ ap (mode_after a h w) (s.modes w);
-      holders = λ w. ap (λ held. or_else (given edition owner (act_as n a) g (n.window w) held)
-          (kept edition owner (act_as n a) g (n.window w) held)) (s.holders w)
-          ∙ ap (λ x. or_else x (kept edition owner (act_as n a) g (n.window w) (holder edition owner h w)))
-          (given_as a w (holder edition owner h w))
-          ∙ ap (or_else (given edition owner a h w (holder edition owner h w)))
-          (kept_as a w (holder edition owner h w) (λ u. may_after a u Write (object.Window w)));
+      masks = λ by u bit other. cc (mask_as by u bit a, s.masks by u bit other);
+      presets = λ kind bit. cc (preset_as kind bit a, s.presets kind bit);
+      opened = λ w. cc (open_as w a, s.opened w);
+      default = cc (default_as a, s.default);
+      modes = λ w. cc (mode_as a w (mode_of g (n.window w)), s.modes w);
+      holders = λ w.
+          let kept = kept_as a w (holder edition owner h w)
+          (λ u. may_by (a ∷ h) (act_as n a ∷ g) (led_after a) (rights_after a) u Write (object.Window w)) in
+          cc (s.holders w, given_as a w (holder edition owner h w), kept);
       clients = ap (clients_after (act_as n a)) s.clients ∙ clients_as a (clients_of h);
     }
 

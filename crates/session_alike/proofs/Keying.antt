@@ -1,11 +1,9 @@
 -- The same keys give the same after keys at whose end the same is open.
-use Rattle.std.proofs.Common.{◌≡◌, ℕ, ◌+◌, List, [], ◌∷◌, ◌++◌, refl, ap, sym, ◌∙◌, append_assoc, drop, length, take}
-use Rattle.std.specs.Prelude.{unwrap_or}
-use Rattle.std.specs.List.{list_any, range_with_len}
-use Rattle.keys.specs.Grammar.{Item, Rest, items, nothing, rest_step, with_front}
-unfoldable use Rattle.keys.specs.Grammar.{items_from}
-use Rattle.session_model.specs.Keying.{completes, is_command, items_behind, taken}
-use Rattle.session_alike.proofs.Matching.{find_same}
+use Rattle.session_alike.proofs.Vocabulary.{◌≡◌, ℕ, ◌+◌, List, [], ◌∷◌, ◌++◌, refl, ap, sym, ◌∙◌, append_assoc, drop}
+use Rattle.session_alike.proofs.Vocabulary.{length, take, unwrap_or, list_any, range_with_len, Item, Rest, items}
+use Rattle.session_alike.proofs.Vocabulary.{nothing, rest_step, with_front, items_from, completes, is_command}
+use Rattle.session_alike.proofs.Vocabulary.{items_behind, taken, find_same}
+use Rattle.std.proofs.Math.Seq.{drop-append_seam}
 
 from_both : (r : Rest) (xs ys : List ℕ)
     → items_from r (xs ++ ys) ≡ with_front (items_from r xs).0 (items_from (items_from r xs).1 ys)
@@ -17,15 +15,10 @@ from_both r (x ∷ xs) ys =
     (sym (append_assoc (rest_step r x).0 (items_from (rest_step r x).1 xs).0
     (items_from (items_from (rest_step r x).1 xs).1 ys).0))
 
-drop_front : {A : Type 0} (xs ys : List A) → drop (length xs) (xs ++ ys) ≡ ys
-drop_front [] [] = refl
-drop_front [] (y ∷ ys) = refl
-drop_front (x ∷ xs) ys = drop_front xs ys
-
 behind_from : (past keys : List ℕ) → items_behind past keys ≡ (items_from (items past).1 keys).0
 behind_from past keys =
     ap (λ (x : List Item × Rest). drop (length (items past).0) x.0) (from_both nothing past keys)
-    ∙ drop_front (items past).0 (items_from (items past).1 keys).0
+    ∙ drop-append_seam (items past).0 (items_from (items past).1 keys).0
 
 pub rest_from : (past keys : List ℕ) → (items (past ++ keys)).1 ≡ (items_from (items past).1 keys).1
 rest_from past keys = ap (λ (x : List Item × Rest). x.1) (from_both nothing past keys)

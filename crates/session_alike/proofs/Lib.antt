@@ -1,3 +1,4 @@
+pub mod Vocabulary
 pub mod Histories
 pub mod Matching
 pub mod Finding

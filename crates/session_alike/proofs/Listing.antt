@@ -1,25 +1,17 @@
 -- Texts of sessions that are alike say the same, but for the serials of clients.
-use Rattle.std.proofs.Common.{◌≡◌, ℕ, Bool, List, [], ◌∷◌, ◌++◌, Option, Some, None, refl, ap, ◌∙◌, map}
-use Rattle.std.specs.Prelude.{if◌then◌else◌, codes, decimal}
-use Rattle.std.specs.Option.{option_map}
-use Rattle.acl.specs.Names.{name_of}
+use Rattle.session_alike.proofs.Vocabulary.{◌≡◌, ℕ, Bool, List, [], ◌∷◌, ◌++◌, Option, Some, None, refl, ap, ◌∙◌, map}
+use Rattle.session_alike.proofs.Vocabulary.{if◌then◌else◌, codes, decimal, option_map, name_of, Read, UserId, Refusal}
+use Rattle.session_alike.proofs.Vocabulary.{Client, Tables, Window, focused, window_at, client_item, clients_text}
+use Rattle.session_alike.proofs.Vocabulary.{denied_text, focus_text, in_order, letter, missing_text, separated, text_of}
+use Rattle.session_alike.proofs.Vocabulary.{window_item, windows_text, Renaming, denied_as, refusal_as, ClientsAlike}
+use Rattle.session_alike.proofs.Vocabulary.{ListsAlike, TablesAlike, WindowsAlike, item_as, line_of, cases_both}
+use Rattle.session_alike.proofs.Vocabulary.{made_both, mapped_match}
 use Rattle.acl.specs.declared.act.Object.TheVariants as object
-use Rattle.acl.specs.declared.bits.Bit.TheVariants.{Read}
-use Rattle.acl.specs.declared.user_id.UserId.{UserId}
-use Rattle.windows_model.specs.Matched.{BothOrNone}
-use Rattle.session_model.specs.declared.refusal.Denied.{Denied}
 use Rattle.session_model.specs.declared.refusal.Denied.TheVariants as denied
-use Rattle.session_model.specs.declared.refusal.Refusal.{Refusal}
 use Rattle.session_model.specs.declared.refusal.Refusal.TheVariants as refusal
-use Rattle.session_model.specs.Rights.{may_in}
-use Rattle.session_model.specs.Tables.{Client, Tables, Window, focused, is_window, window_at}
-use Rattle.session_model.specs.Texts.{client_item, clients_text, denied_text, focus_text, in_order, letter}
-use Rattle.session_model.specs.Texts.{missing_text, number_text, separated, text_of, window_item, windows_text}
-use Rattle.session_alike.specs.Renaming.{Renaming, denied_as, refusal_as}
-use Rattle.session_alike.specs.Alike.{ClientsAlike, ListsAlike, TablesAlike, WindowsAlike, item_as, line_of}
 use Rattle.session_alike.proofs.Finding.{focused_as, is_window_as, may_alike, window_alike}
-use Rattle.session_alike.proofs.Matching.{made_both, read_both}
 use Rattle.session_alike.proofs.Naming.{order_both}
+use Rattle.session_model.specs.declared.refusal.Denied.{Denied}
 
 abbrev window_line : ℕ → Bool → Bool → List ℕ → List ℕ
 window_line number is_focus is_read title =
@@ -56,44 +48,26 @@ module _ (n : Renaming) where
     line_alike : (user : UserId) (focus : Option ℕ) (w v : Window) → WindowsAlike n w v
         → window_item u user (option_map n.window focus) v ≡ window_item t user focus w
     line_alike user focus w v r =
-        ap (λ m. window_line m (is_window v.serial (option_map n.window focus))
-        (may_in u user Read (object.Window v.serial)) v.title) r.number
-        ∙ ap (λ s. window_line w.number (is_window s (option_map n.window focus))
-        (may_in u user Read (object.Window s)) v.title) r.serial
-        ∙ ap (λ b. window_line w.number b (may_in u user Read (object.Window (n.window w.serial))) v.title)
-        (is_window_as n w.serial focus)
-        ∙ ap (λ b. window_line w.number (is_window w.serial focus) b v.title)
-        (may_alike n t u a user Read (object.Window w.serial))
-        ∙ ap (window_line w.number (is_window w.serial focus) (may_in t user Read (object.Window w.serial))) r.title
+        let read = may_alike n t u a user Read (object.Window w.serial) in
+        cc (r.number, r.serial, is_window_as n w.serial focus, read, r.title)
 
     pub windows_text_alike : (user : UserId) (focus : Option ℕ)
         → windows_text u user (option_map n.window focus) ≡ windows_text t user focus
     windows_text_alike user focus =
         ap (separated (codes "  "))
-        (read_both (WindowsAlike n) (window_item t user focus) (window_item u user (option_map n.window focus))
-        (in_order t.windows) (in_order u.windows) (line_alike user focus)
+        (mapped_match (WindowsAlike n) (window_item t user focus) (window_item u user (option_map n.window focus))
+        (line_alike user focus) (in_order t.windows) (in_order u.windows)
         (order_both n t.windows u.windows a.windows))
 
     -- ---- clients
 
-    number_text_one : (o p : Option Window) → BothOrNone (WindowsAlike n) o p → number_text p ≡ number_text o
-    number_text_one None None m = refl
-    number_text_one (Some w) (Some v) m = ap decimal m.number
-    number_text_one o p m = absurd m
-
     focus_text_alike : (o : Option ℕ) → focus_text u (option_map n.window o) ≡ focus_text t o
     focus_text_alike None = refl
-    focus_text_alike (Some s) = number_text_one (window_at t s) (window_at u (n.window s)) (window_alike n t u a s)
+    focus_text_alike (Some s) = cases_both (λ x y. y ≡ x) (window_at t s) (window_at u (n.window s))
+        (window_alike n t u a s) refl (λ w v r. ap decimal r.number)
 
     client_line : (c d : Client) → ClientsAlike n c d → client_item u d ≡ line_of (item_as n (item_of t c))
-    client_line c d r =
-        ap (λ s. decimal s ++ (codes " " ++ rest_of u d)) r.serial
-        ∙ ap (λ (v : UserId). decimal (n.client c.serial)
-        ++ (codes " " ++ (name_of v ++ (codes " " ++ focus_text u (focused d))))) r.user
-        ∙ ap (λ o. decimal (n.client c.serial) ++ (codes " " ++ (name_of c.user ++ (codes " " ++ focus_text u o))))
-        (focused_as n c d r.layout)
-        ∙ ap (λ text. decimal (n.client c.serial) ++ (codes " " ++ (name_of c.user ++ (codes " " ++ text))))
-        (focus_text_alike (focused c))
+    client_line c d r = cc (r.serial, r.user, focused_as n c d r.layout, focus_text_alike (focused c))
 
     pub clients_text_alike : ListsAlike n (clients_text t) (clients_text u)
     clients_text_alike = record {

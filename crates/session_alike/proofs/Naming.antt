@@ -1,40 +1,26 @@
 -- The same words name the same windows, users and objects in sessions that are alike.
-use Rattle.std.proofs.Common.{◌≡◌, ℕ, Bool, true, false, not, List, [], ◌∷◌, ◌++◌, Option, Some, None, refl, ap, sym}
-use Rattle.std.proofs.Common.{◌∙◌}
-use Rattle.std.proofs.Common.{subst, map, filter}
-use Rattle.std.specs.Prelude.{if◌then◌else◌, ◌==◌, nat_eq, nat_lt}
-use Rattle.std.specs.List.{flat_map, list_any, range_with_len}
-use Rattle.std.specs.Option.{option_and_then, option_map, option_or}
-use Rattle.std.specs.Str.{bytes_eq}
-use Prim.Native.Char.{code}
-use Rattle.acl.specs.declared.act.Object.{Object}
+use Rattle.session_alike.proofs.Vocabulary.{◌≡◌, ℕ, false, not, List, [], ◌∷◌, ◌++◌, Option, Some, None, refl, ap, ◌∙◌}
+use Rattle.session_alike.proofs.Vocabulary.{map, filter, if◌then◌else◌, ◌==◌, nat_eq, nat_lt, flat_map, list_any}
+use Rattle.session_alike.proofs.Vocabulary.{range_with_len, option_and_then, option_map, option_or, bytes_eq, Object}
+use Rattle.session_alike.proofs.Vocabulary.{MaskEntry, MaskScope, BitChange, UserId, BothOrNone, Matched, is_taken}
+use Rattle.session_alike.proofs.Vocabulary.{mask_entries, entries_of, every_command, every_window, free_number}
+use Rattle.session_alike.proofs.Vocabulary.{has_number, higher, highest, is_wide, item_objects, lower, lowest, names_of}
+use Rattle.session_alike.proofs.Vocabulary.{objects_of, scopes_of, spelled, wide_objects, window_after, window_before}
+use Rattle.session_alike.proofs.Vocabulary.{window_named, with_number, Tables, Window, by_number, in_order, Renaming}
+use Rattle.session_alike.proofs.Vocabulary.{object_as, TablesAlike, WindowsAlike, any_both, filter_match, find_match}
+use Rattle.session_alike.proofs.Vocabulary.{find_same, made_both, map_append, or_both, pick, read_one, read_or}
 use Rattle.acl.specs.declared.act.Object.TheVariants as object
-use Rattle.acl.specs.declared.command_name.CommandName.{CommandName}
-use Rattle.acl.specs.declared.entries.MaskEntry.{MaskEntry}
-use Rattle.acl.specs.declared.entries.MaskScope.{MaskScope}
 use Rattle.acl.specs.declared.entries.MaskScope.TheVariants as scope
-use Rattle.acl.specs.declared.bits.BitChange.{BitChange}
-use Rattle.acl.specs.declared.user_id.UserId.{UserId}
-use Rattle.command_lang.specs.declared.command.Mask.{Mask}
-use Rattle.command_lang.specs.declared.command.Users.{Users}
 use Rattle.command_lang.specs.declared.command.Users.TheVariants as users
-use Rattle.command_lang.specs.Names.{all_names, command_named}
-use Rattle.windows_model.specs.declared.limits.TheConstants.{WINDOWS}
-use Rattle.windows_model.specs.Matched.{BothOrNone, Matched}
-use Rattle.session_model.specs.Commands.{is_taken, mask_entries}
-use Rattle.session_model.specs.Naming.{entries_of, every_command, every_window, free_number, has_number, higher}
-use Rattle.session_model.specs.Naming.{highest}
-use Rattle.session_model.specs.Naming.{is_wide, item_objects, lower, lowest, names_of, objects_of, scopes_of, spelled}
-use Rattle.session_model.specs.Naming.{wide_objects, window_after, window_before, window_named, with_number}
-use Rattle.session_model.specs.Tables.{Tables, Window}
-use Rattle.session_model.specs.Texts.{by_number, in_order}
-use Rattle.session_alike.specs.Renaming.{Renaming, object_as}
-use Rattle.session_alike.specs.Alike.{TablesAlike, WindowsAlike}
-use Rattle.session_alike.proofs.Checking.{if_as}
+use Rattle.session_alike.proofs.Checking.{needed_as}
 use Rattle.session_alike.proofs.Finding.{others_alike}
 use Rattle.session_alike.proofs.Histories.{window_test}
-use Rattle.session_alike.proofs.Matching.{any_both, filter_both, find_both, find_same, made_both, map_append, or_both}
-use Rattle.session_alike.proofs.Matching.{read_one}
+use Prim.Native.Char.{code}
+use Rattle.acl.specs.declared.command_name.CommandName.{CommandName}
+use Rattle.command_lang.specs.declared.command.Mask.{Mask}
+use Rattle.command_lang.specs.declared.command.Users.{Users}
+use Rattle.command_lang.specs.Names.{all_names, command_named}
+use Rattle.windows_model.specs.declared.limits.TheConstants.{WINDOWS}
 
 abbrev scoped : Mask → List MaskScope → List MaskEntry
 scoped m ss = flat_map (λ s. map (λ (b : BitChange). record { scope = s; bit = b.bit; value = b.value }) m.bits) ss
@@ -53,28 +39,20 @@ module _ (n : Renaming) where
 
   pub below : (w v : Window) → WindowsAlike n w v → (x y : Window) → WindowsAlike n x y
       → nat_lt v.number y.number ≡ nat_lt w.number x.number
-  below w v r x y s = ap (λ m. nat_lt m y.number) r.number ∙ ap (nat_lt w.number) s.number
+  below w v r x y s = cc (r.number, s.number)
 
   numbered_both : (ws vs : List Window) → All ws vs → (m : ℕ) → One (with_number ws m) (with_number vs m)
-  numbered_both ws vs m k = find_both (WindowsAlike n) (has_number k) (has_number k) (number_test k) ws vs m
+  numbered_both ws vs m k = find_match (WindowsAlike n) (has_number k) (has_number k) (number_test k) ws vs m
 
   pub given_number_both : (ws vs : List Window) → All ws vs → (o : Option ℕ)
       → One (option_and_then (with_number ws) o) (option_and_then (with_number vs) o)
   given_number_both ws vs m None = tt
   given_number_both ws vs m (Some k) = numbered_both ws vs m k
 
-  choice : (b c : Bool) (x y w v : Window) → c ≡ b → WindowsAlike n x y → WindowsAlike n w v
-      → One (if b then Some x else Some w) (if c then Some y else Some v)
-  choice b c x y w v same s r = subst (λ d. One (if b then Some x else Some w) (if d then Some y else Some v))
-      (sym same) (on b) where
-        on : (b : Bool) → One (if b then Some x else Some w) (if b then Some y else Some v)
-        on true = s
-        on false = r
-
   lower_both : (w v : Window) → WindowsAlike n w v → (o p : Option Window) → One o p → One (lower w o) (lower v p)
   lower_both w v r None None m = r
   lower_both w v r (Some x) (Some y) m =
-      choice (nat_lt x.number w.number) (nat_lt y.number v.number) x y w v (below x y m w v r) m r
+      pick One (nat_lt x.number w.number) (nat_lt y.number v.number) (below x y m w v r) m r
   lower_both w v r o p m = absurd m
 
   pub lowest_both : (ws vs : List Window) → All ws vs → One (lowest ws) (lowest vs)
@@ -85,7 +63,7 @@ module _ (n : Renaming) where
   higher_both : (w v : Window) → WindowsAlike n w v → (o p : Option Window) → One o p → One (higher w o) (higher v p)
   higher_both w v r None None m = r
   higher_both w v r (Some x) (Some y) m =
-      choice (nat_lt w.number x.number) (nat_lt v.number y.number) x y w v (below w v r x y m) m r
+      pick One (nat_lt w.number x.number) (nat_lt v.number y.number) (below w v r x y m) m r
   higher_both w v r o p m = absurd m
 
   highest_both : (ws vs : List Window) → All ws vs → One (highest ws) (highest vs)
@@ -104,7 +82,7 @@ module _ (n : Renaming) where
   titled_both : (word : List ℕ) (ws vs : List Window) → All ws vs
       → All (filter (λ (w : Window). bytes_eq w.title word) ws) (filter (λ (w : Window). bytes_eq w.title word) vs)
   titled_both word ws vs m =
-      filter_both (WindowsAlike n) (λ (w : Window). bytes_eq w.title word) (λ (w : Window). bytes_eq w.title word)
+      filter_match (WindowsAlike n) (λ (w : Window). bytes_eq w.title word) (λ (w : Window). bytes_eq w.title word)
       (λ w v r. ap (λ title. bytes_eq title word) r.title) ws vs m
 
   pub named_both : (ws vs : List Window) → All ws vs → (word : List ℕ)
@@ -123,7 +101,7 @@ module _ (n : Renaming) where
       or_both (WindowsAlike n) (lowest (filter (λ (x : Window). nat_lt w.number x.number) ws)) (lowest ws)
       (lowest (filter (λ (x : Window). nat_lt v.number x.number) vs)) (lowest vs)
       (lowest_both _ _
-      (filter_both (WindowsAlike n) (λ (x : Window). nat_lt w.number x.number)
+      (filter_match (WindowsAlike n) (λ (x : Window). nat_lt w.number x.number)
       (λ (x : Window). nat_lt v.number x.number) (λ x y s. below w v r x y s) ws vs m))
       (lowest_both ws vs m)
   after_both ws vs m o p r = absurd r
@@ -135,7 +113,7 @@ module _ (n : Renaming) where
       or_both (WindowsAlike n) (highest (filter (λ (x : Window). nat_lt x.number w.number) ws)) (highest ws)
       (highest (filter (λ (x : Window). nat_lt x.number v.number) vs)) (highest vs)
       (highest_both _ _
-      (filter_both (WindowsAlike n) (λ (x : Window). nat_lt x.number w.number)
+      (filter_match (WindowsAlike n) (λ (x : Window). nat_lt x.number w.number)
       (λ (x : Window). nat_lt x.number v.number) (λ x y s. below x y s w v r) ws vs m))
       (highest_both ws vs m)
   before_both ws vs m o p r = absurd r
@@ -145,14 +123,8 @@ module _ (n : Renaming) where
   placed_both : (w v : Window) → WindowsAlike n w v → (ws vs : List Window) → All ws vs
       → All (by_number w ws) (by_number v vs)
   placed_both w v r [] [] m = (r, tt)
-  placed_both w v r (x ∷ ws) (y ∷ vs) m = subst
-      (λ b. All (if nat_lt w.number x.number then w ∷ x ∷ ws else x ∷ by_number w ws)
-      (if b then v ∷ y ∷ vs else y ∷ by_number v vs)) (sym (below w v r x y m.0))
-      (on (nat_lt w.number x.number) (placed_both w v r ws vs m.1)) where
-        on : (b : Bool) → All (by_number w ws) (by_number v vs)
-            → All (if b then w ∷ x ∷ ws else x ∷ by_number w ws) (if b then v ∷ y ∷ vs else y ∷ by_number v vs)
-        on true rest = (r, m)
-        on false rest = (m.0, rest)
+  placed_both w v r (x ∷ ws) (y ∷ vs) m = pick All (nat_lt w.number x.number) (nat_lt v.number y.number)
+      (below w v r x y m.0) (r, m) (m.0, placed_both w v r ws vs m.1)
   placed_both w v r ws vs m = absurd m
 
   pub order_both : (ws vs : List Window) → All ws vs → All (in_order ws) (in_order vs)
@@ -193,26 +165,18 @@ module _ (n : Renaming) where
     wide_alike item =
         map_append (object_as n) (if list_any (nat_eq (code "#")) item then every_window t else [])
         (if list_any (nat_eq (code "?")) item then every_command else []) _ _
-        (if_as (object_as n) (list_any (nat_eq (code "#")) item) (every_window t) (every_window u) windows_alike)
-        (if_as (object_as n) (list_any (nat_eq (code "?")) item) every_command every_command (commands_as all_names))
+        (needed_as (object_as n) (list_any (nat_eq (code "#")) item) (every_window t) (every_window u) windows_alike)
+        (needed_as (object_as n) (list_any (nat_eq (code "?")) item) every_command every_command
+        (commands_as all_names))
 
     item_alike : (item : List ℕ) → item_objects u item ≡ option_map (map (object_as n)) (item_objects t item)
-    item_alike item = on (is_wide item) where
-      on : (b : Bool)
-          → (if b then Some (wide_objects u item)
-          else option_or (option_map (λ c. object.Command c ∷ []) (command_named item))
-          (option_map (λ (w : Window). object.Window w.serial ∷ []) (window_named u.windows item)))
-          ≡ option_map (map (object_as n))
-          (if b then Some (wide_objects t item)
-          else option_or (option_map (λ c. object.Command c ∷ []) (command_named item))
-          (option_map (λ (w : Window). object.Window w.serial ∷ []) (window_named t.windows item)))
-      on true = ap Some (wide_alike item)
-      on false =
-          command_or (command_named item)
-          (option_map (λ (w : Window). object.Window w.serial ∷ []) (window_named t.windows item)) _
-          (read_one (WindowsAlike n) (map (object_as n)) (λ (w : Window). object.Window w.serial ∷ [])
-          (λ (w : Window). object.Window w.serial ∷ []) (window_named t.windows item) (window_named u.windows item)
-          (λ w v r. ap (λ s. object.Window s ∷ []) r.serial) (named_both t.windows u.windows a.windows item))
+    item_alike item = pick (λ o p. p ≡ option_map (map (object_as n)) o) (is_wide item) (is_wide item) refl
+        (ap Some (wide_alike item))
+        (command_or (command_named item)
+        (option_map (λ (w : Window). object.Window w.serial ∷ []) (window_named t.windows item)) _
+        (read_one (WindowsAlike n) (map (object_as n)) (λ (w : Window). object.Window w.serial ∷ [])
+        (λ (w : Window). object.Window w.serial ∷ []) (window_named t.windows item) (window_named u.windows item)
+        (λ w v r. ap (λ s. object.Window s ∷ []) r.serial) (named_both t.windows u.windows a.windows item)))
 
     pub objects_alike : (items : List (List ℕ))
         → objects_of u items ≡ option_map (map (object_as n)) (objects_of t items)
@@ -240,18 +204,10 @@ module _ (n : Renaming) where
 
     pub masks_alike : (ms : List Mask) → mask_entries u ms ≡ mask_entries t ms
     masks_alike [] = refl
-    masks_alike (m ∷ ms) = ap (λ es. es ++ mask_entries u ms) (entries_alike m)
-        ∙ ap (λ es. entries_of t m ++ es) (masks_alike ms)
-
-    taken_one : (w v : Window) → WindowsAlike n w v → (o p : Option Window) → One o p
-        → Rattle.std.specs.Option.option_map_or (λ (x : Window). not (x.serial == v.serial)) p false
-        ≡ Rattle.std.specs.Option.option_map_or (λ (x : Window). not (x.serial == w.serial)) o false
-    taken_one w v r None None m = refl
-    taken_one w v r (Some x) (Some y) m =
-        ap not (ap (λ s. s == v.serial) m.serial ∙ ap (λ s. n.window x.serial == s) r.serial
-        ∙ window_test n x.serial w.serial)
-    taken_one w v r o p m = absurd m
+    masks_alike (m ∷ ms) = cc (entries_alike m, masks_alike ms)
 
     pub taken_alike : (w v : Window) → WindowsAlike n w v → (m : ℕ) → is_taken u v m ≡ is_taken t w m
-    taken_alike w v r m = taken_one w v r (with_number t.windows m) (with_number u.windows m)
+    taken_alike w v r m = read_or (WindowsAlike n) (λ (x : Window). not (x.serial == w.serial))
+        (λ (x : Window). not (x.serial == v.serial)) false (with_number t.windows m) (with_number u.windows m)
         (numbered_both t.windows u.windows a.windows m)
+        (λ x y s. cc (s.serial, r.serial, window_test n x.serial w.serial))

@@ -1,30 +1,16 @@
 -- A deed that is done, and the leaving that it causes, leave sessions alike.
-use Rattle.std.proofs.Common.{◌≡◌, ℕ, Bool, true, false, List, [], ◌∷◌, ◌++◌, Option, Some, None, refl, ap}
-use Rattle.std.proofs.Common.{sym, ◌∙◌, subst, map}
-use Rattle.std.specs.Prelude.{if◌then◌else◌, ◌||◌}
-use Rattle.std.specs.Option.{option_map}
-use Rattle.acl.specs.declared.act.Act.{Act}
+use Rattle.session_alike.proofs.Vocabulary.{◌≡◌, ℕ, List, [], ◌∷◌, ◌++◌, Option, Some, None, refl, ap, sym, ◌∙◌, subst}
+use Rattle.session_alike.proofs.Vocabulary.{map, ◌||◌, option_map, Act, History, followed_by, Matched, Check, Refusal}
+use Rattle.session_alike.proofs.Vocabulary.{Verdict, first_fault, verdicts, Deed, Outcome, finished, left_acts}
+use Rattle.session_alike.proofs.Vocabulary.{left_acts_of, refused, where_passed, Client, Tables, focused, is_in_focus}
+use Rattle.session_alike.proofs.Vocabulary.{EventValue, Reply, Renaming, act_as, refusal_as, verdict_as, ClientsAlike}
+use Rattle.session_alike.proofs.Vocabulary.{TablesAlike, HistoriesAlike, EffectsAlike, RepliesAlike, cases_as, if_as}
+use Rattle.session_alike.proofs.Vocabulary.{map_append}
 use Rattle.acl.specs.declared.act.Act.TheVariants as act
-use Rattle.acl.specs.declared.user_id.UserId.{UserId}
-use Rattle.acl.specs.History.{History, followed_by}
-use Rattle.windows_model.specs.Matched.{Matched}
-use Rattle.session_model.specs.declared.check.Check.{Check}
-use Rattle.session_model.specs.declared.refusal.Refusal.{Refusal}
-use Rattle.session_model.specs.declared.verdict.Verdict.{Verdict}
-use Rattle.session_model.specs.Checks.{first_fault, verdicts}
-use Rattle.session_model.specs.Deeds.{Deed}
-use Rattle.session_model.specs.Outcomes.{Outcome, finished, left_acts, left_acts_of, refused, where_passed}
-use Rattle.session_model.specs.Tables.{Client, Tables, focused, is_in_focus}
-use Rattle.session_model.specs.Trace.{EventValue, Reply}
-use Rattle.session_alike.specs.Renaming.{Renaming, act_as, refusal_as, verdict_as}
-use Rattle.session_alike.specs.Alike.{ClientsAlike, TablesAlike}
-use Rattle.session_alike.specs.Histories.{HistoriesAlike}
-use Rattle.session_alike.specs.Steps.{EffectsAlike, RepliesAlike}
-use Rattle.session_alike.proofs.Changing.{DeedsAlike}
+use Rattle.session_alike.proofs.Changing.{DeedsAlike, tables_as}
 use Rattle.session_alike.proofs.Checking.{check_as, fault_alike, verdicts_alike}
 use Rattle.session_alike.proofs.Finding.{focused_as, in_focus_as}
 use Rattle.session_alike.proofs.Histories.{all_alike}
-use Rattle.session_alike.proofs.Matching.{map_append}
 
 pub record OutcomesAlike (n : Renaming) (event : EventValue) (o p : Outcome) : Type 0 where
   pub reply : RepliesAlike n event o.reply p.reply
@@ -36,11 +22,6 @@ pub record OutcomesAlike (n : Renaming) (event : EventValue) (o p : Outcome) : T
 module _ (n : Renaming) where
   -- ---- leaving
 
-  gone_as : (b : Bool) (user : UserId) (w : ℕ)
-      → (if b then [] else act.Left user (n.window w) ∷ []) ≡ map (act_as n) (if b then [] else act.Left user w ∷ [])
-  gone_as true user w = refl
-  gone_as false user w = refl
-
   leaver_alike : (c d : Client) → ClientsAlike n c d → (cs ds xs ys : List Client) → Matched (ClientsAlike n) cs ds
       → Matched (ClientsAlike n) xs ys
       → left_acts_of d (focused d) ds ys ≡ map (act_as n) (left_acts_of c (focused c) cs xs)
@@ -49,13 +30,9 @@ module _ (n : Renaming) where
       on : (o : Option ℕ) → left_acts_of d (option_map n.window o) ds ys ≡ map (act_as n) (left_acts_of c o cs xs)
       on None = refl
       on (Some w) =
-          ap (λ (v : UserId). if is_in_focus ds v (n.window w) || is_in_focus ys v (n.window w) then []
-          else act.Left v (n.window w) ∷ []) r.user
-          ∙ ap (λ b. if b || is_in_focus ys c.user (n.window w) then [] else act.Left c.user (n.window w) ∷ [])
-          (in_focus_as n cs ds m c.user w)
-          ∙ ap (λ b. if is_in_focus cs c.user w || b then [] else act.Left c.user (n.window w) ∷ [])
-          (in_focus_as n xs ys k c.user w)
-          ∙ gone_as (is_in_focus cs c.user w || is_in_focus xs c.user w) c.user w
+          let stays = is_in_focus cs c.user w || is_in_focus xs c.user w in
+          let goes = if_as (map (act_as n)) stays [] (act.Left c.user w ∷ []) in
+          cc (r.user, in_focus_as n cs ds m c.user w, in_focus_as n xs ys k c.user w, goes)
 
   left_alike : (cs ds xs ys : List Client) → Matched (ClientsAlike n) cs ds → Matched (ClientsAlike n) xs ys
       → left_acts ds ys ≡ map (act_as n) (left_acts cs xs)
@@ -71,19 +48,11 @@ module _ (n : Renaming) where
   acts_alike : (t u : Tables) (h g : History) (acts others : List Act) → TablesAlike n t u → t.acts ≡ h → u.acts ≡ g
       → others ≡ map (act_as n) acts
       → TablesAlike n (record t { acts = followed_by h acts }) (record u { acts = followed_by g others })
-  acts_alike t u h g acts others a kept kept_too same = record {
-    owner = a.owner;
-    edition = a.edition;
-    is_multiuser = a.is_multiuser;
-    acts = subst (λ x. HistoriesAlike n t.edition t.owner (followed_by x acts) (followed_by g others)) kept
-        (subst (λ x. HistoriesAlike n t.edition t.owner (followed_by t.acts acts) (followed_by x others)) kept_too
-        (subst (λ xs. HistoriesAlike n t.edition t.owner (followed_by t.acts acts) (followed_by u.acts xs)) (sym same)
-        (all_alike n t.edition t.owner t.acts u.acts acts a.acts)));
-    windows = a.windows;
-    clients = a.clients;
-    next_windows = a.next_windows;
-    next_clients = a.next_clients;
-  }
+  acts_alike t u h g acts others a kept kept_too same = tables_as a.owner a.edition a.is_multiuser
+      (subst (λ x. HistoriesAlike n t.edition t.owner (followed_by x acts) (followed_by g others)) kept
+      (subst (λ x. HistoriesAlike n t.edition t.owner (followed_by t.acts acts) (followed_by x others)) kept_too
+      (subst (λ xs. HistoriesAlike n t.edition t.owner (followed_by t.acts acts) (followed_by u.acts xs)) (sym same)
+      (all_alike n t.edition t.owner t.acts u.acts acts a.acts)))) a.windows a.clients a.next_windows a.next_clients
 
   module _ (t u : Tables) (a : TablesAlike n t u) (event : EventValue) where
     pub finished_alike : (vs ws : List Verdict) (r s : Reply) (d e : Deed) → ws ≡ map (verdict_as n) vs
@@ -112,17 +81,6 @@ module _ (n : Renaming) where
         → OutcomesAlike n event (where_passed t cs r d) (where_passed u ds s e)
     passed_alike cs ds r s d e checks replies alike =
         subst (λ xs. OutcomesAlike n event (where_passed t cs r d) (where_passed u xs s e)) (sym checks)
-        (subst (λ x. OutcomesAlike n event (where_passed t cs r d) (elim x as (λ _. Outcome) [
-          | Some q ↦ refused u (verdicts u (map (check_as n) cs)) q
-          | None ↦ finished u (verdicts u (map (check_as n) cs)) s e
-        ])) (sym (fault_alike n t u a cs)) (on (first_fault t cs))) where
-          on : (x : Option Refusal)
-              → OutcomesAlike n event (elim x as (λ _. Outcome) [
-                | Some q ↦ refused t (verdicts t cs) q
-                | None ↦ finished t (verdicts t cs) r d
-              ]) (elim (option_map (refusal_as n) x) as (λ _. Outcome) [
-                | Some q ↦ refused u (verdicts u (map (check_as n) cs)) q
-                | None ↦ finished u (verdicts u (map (check_as n) cs)) s e
-              ])
-          on (Some q) = refused_alike (verdicts t cs) _ q _ (verdicts_alike n t u a cs) refl
-          on None = finished_alike (verdicts t cs) _ r s d e (verdicts_alike n t u a cs) replies alike
+        (cases_as (OutcomesAlike n event) (refusal_as n) _ (first_fault t cs) _ (fault_alike n t u a cs)
+        (finished_alike (verdicts t cs) _ r s d e (verdicts_alike n t u a cs) replies alike)
+        (λ q. refused_alike (verdicts t cs) _ q _ (verdicts_alike n t u a cs) refl))

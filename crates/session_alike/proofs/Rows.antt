@@ -1,58 +1,39 @@
 -- Each command does the same in sessions that are alike.
-use Rattle.std.proofs.Common.{◌≡◌, ℕ, ◌-◌, Bool, true, false, not, List, [], ◌∷◌, ◌++◌, Option, Some, None, Ok, refl}
-use Rattle.std.proofs.Common.{ap, sym, ◌∙◌, subst, length}
-use Rattle.std.specs.Prelude.{◌==◌, nat_lt, codes, slice_get, slice_set, unwrap_or}
-use Rattle.std.specs.Option.{option_and_then, option_map}
+use Rattle.session_alike.proofs.Vocabulary.{◌≡◌, ℕ, ◌-◌, Bool, true, false, not, List, [], ◌∷◌, ◌++◌, Option, Some}
+use Rattle.session_alike.proofs.Vocabulary.{None, Ok, refl, ap, sym, ◌∙◌, subst, length, ◌==◌, nat_lt, codes, slice_set}
+use Rattle.session_alike.proofs.Vocabulary.{option_and_then, option_map, UserId, mask_acts, mask_fault, name_of}
+use Rattle.session_alike.proofs.Vocabulary.{named_by, same_user, Order, Shown, Way, Arrangement, kept_alone, next_focus}
+use Rattle.session_alike.proofs.Vocabulary.{remove_focused, split_fault, split_focused, BothOrNone, Matched, Size, Acl}
+use Rattle.session_alike.proofs.Vocabulary.{NoWindow, Regions, Windows, caller_client, coding_of, does, focus_of}
+use Rattle.session_alike.proofs.Vocabulary.{mask_entries, on_client, on_window, way_of, Answer, Deed, arranges}
+use Rattle.session_alike.proofs.Vocabulary.{changing, fits, focused_box, former_of, input_of, is_of, selects, showing}
+use Rattle.session_alike.proofs.Vocabulary.{shown_in_focus, tells, given, refused_if, unless, Refusal, Caller}
+use Rattle.session_alike.proofs.Vocabulary.{new_leader_of, Client, Tables, Window, client_at, focused, known_users}
+use Rattle.session_alike.proofs.Vocabulary.{window_at, with_layout, windows_text, Renaming, layout_as, refusal_as}
+use Rattle.session_alike.proofs.Vocabulary.{shown_as, ClientsAlike, ListsAlike, TablesAlike, WindowsAlike, EffectsAlike}
+use Rattle.session_alike.proofs.Vocabulary.{then_both, cases_as}
 use Rattle.acl.specs.declared.act.Act.TheVariants as act
-use Rattle.acl.specs.declared.faults.AclFault.{AclFault}
-use Rattle.acl.specs.declared.user_id.UserId.{UserId}
-use Rattle.acl.specs.Commands.{mask_acts, mask_fault}
-use Rattle.acl.specs.Names.{name_of, named_by}
-use Rattle.acl.specs.Same.{same_user}
-use Rattle.command_lang.specs.declared.command.Command.{Command as Order}
 use Rattle.command_lang.specs.declared.command.Command.TheVariants as command
-use Rattle.regions.specs.declared.fault.RegionFault.TheVariants.{LastRegion, TooSmall}
-use Rattle.regions.specs.declared.rect.Rect.{Rect}
-use Rattle.regions.specs.declared.shown.Shown.{Shown}
-use Rattle.regions.specs.declared.way.Way.{Way}
-use Rattle.regions.specs.Layouts.{Arrangement, empty, kept_alone, next_focus, remove_focused, split_fault}
-use Rattle.regions.specs.Layouts.{split_focused}
-use Rattle.regions.specs.Pages.{box_of}
-use Rattle.regions.specs.Shapes.{boxes}
 use Rattle.terminal_model.specs.Writing as written
-use Rattle.windows_model.specs.Matched.{BothOrNone, Matched}
-use Rattle.session_model.specs.declared.event.Effect.TheVariants.{Size}
 use Rattle.session_model.specs.declared.event.Reason.TheVariants as reason
-use Rattle.session_model.specs.declared.refusal.Refusal.TheVariants.{Acl, NoWindow, Regions, Windows}
 use Rattle.session_model.specs.windows_fault.WindowsFault.TheVariants as fault
-use Rattle.session_model.specs.Commands.{caller_client, coding_of, does, focus_of}
-use Rattle.session_model.specs.Commands.{mask_entries, on_client, on_window, way_of}
-use Rattle.session_model.specs.Deeds.{Answer, Deed, arranges, changing, fits, focused_box}
-use Rattle.session_model.specs.Deeds.{former_of, input_of, is_of, selects, showing, shown_in_focus, tells}
-unfoldable use Rattle.session_model.specs.Deeds.{given, refused_if, unless}
-use Rattle.session_model.specs.declared.refusal.Refusal.{Refusal}
-use Rattle.session_model.specs.Lines.{Caller}
-use Rattle.session_model.specs.Naming.{new_leader_of}
-use Rattle.session_model.specs.Tables.{Client, Tables, Window, client_at, focused, known_users, window_at, with_layout}
-use Rattle.session_model.specs.Texts.{windows_text}
-use Rattle.session_alike.specs.Renaming.{Renaming, layout_as, refusal_as, shown_as}
-use Rattle.session_alike.specs.Alike.{ClientsAlike, ListsAlike, TablesAlike, WindowsAlike}
-use Rattle.session_alike.specs.Steps.{EffectsAlike}
 use Rattle.session_alike.proofs.Answering.{given_alike, refused_alike, same_one, unless_alike}
 use Rattle.session_alike.proofs.Arranging as arrangement
-use Rattle.session_alike.proofs.Changing.{AnswersAlike, DeedsAlike, acting_alike, arranged_alike, closes_alike, done}
-use Rattle.session_alike.proofs.Changing.{enters_alike, input_as, listing_alike, mode_alike, parts_alike}
+use Rattle.session_alike.proofs.Changing.{AnswersAlike, DeedsAlike, acting_alike, arranged_alike, closes_alike, deed_as}
+use Rattle.session_alike.proofs.Changing.{done, enters_alike, input_as, listing_alike, mode_alike, parts_alike}
 use Rattle.session_alike.proofs.Changing.{put_client_alike, put_window_alike, tells_alike, writes_alike}
 use Rattle.session_alike.proofs.Checking.{CallersAlike, serial_as}
 use Rattle.session_alike.proofs.Finding.{client_alike, client_serials, focused_as, window_in, window_serials}
 use Rattle.session_alike.proofs.Granting.{group_acts_as, mask_acts_as}
 use Rattle.session_alike.proofs.Listing.{clients_text_alike, windows_text_alike}
-use Rattle.session_alike.proofs.Matching.{then_both}
 use Rattle.session_alike.proofs.Naming.{after_both, before_both, every_alike, masks_alike, named_both, names_alike}
 use Rattle.session_alike.proofs.Naming.{objects_alike, taken_alike}
 use Rattle.session_alike.proofs.Lists.{Same, adding, changes_alike, group_fault_alike, known_fault_alike}
 use Rattle.session_alike.proofs.Lists.{leaders_named_alike, mask_fault_alike, no_list, quits_alike, removes_alike}
 use Rattle.session_alike.proofs.Lists.{setting}
+use Rattle.acl.specs.declared.faults.AclFault.{AclFault}
+use Rattle.regions.specs.declared.fault.RegionFault.TheVariants.{LastRegion, TooSmall}
+use Rattle.regions.specs.declared.rect.Rect.{Rect}
 
 -- what a command lists: only the lists of `displays` differ, in the serials of clients
 abbrev pub ListedBy : Renaming → Order → List ℕ → List ℕ → Type 0
@@ -70,13 +51,8 @@ module _ (n : Renaming) (t u : Tables) (a : TablesAlike n t u) where
 
   module _ (c d : Client) (r : ClientsAlike n c d) where
     arranges_alike : (l m : Arrangement) → m ≡ layout_as n l → D (arranges t c l) (arranges u d m)
-    arranges_alike l m same = record {
-      acts = refl;
-      tables = put_client_alike n t u a (with_layout l c) (with_layout m d) (arranged_alike n c d r l m same);
-      effects = tt;
-      kept = refl;
-      kept_too = refl;
-    }
+    arranges_alike l m same = deed_as refl
+        (put_client_alike n t u a (with_layout l c) (with_layout m d) (arranged_alike n c d r l m same)) tt
 
     showing_as : (s x : Shown) → x ≡ shown_as n s → showing d x ≡ layout_as n (showing c s)
     showing_as s x same =
@@ -85,8 +61,7 @@ module _ (n : Renaming) (t u : Tables) (a : TablesAlike n t u) where
         ∙ arrangement.put_as n c.layout s
 
     in_focus_alike : shown_in_focus d ≡ shown_as n (shown_in_focus c)
-    in_focus_alike = ap (λ (l : Arrangement). unwrap_or (slice_get l.shown l.focus) empty) r.layout
-        ∙ arrangement.in_focus_as n c.layout
+    in_focus_alike = cc (r.layout, arrangement.in_focus_as n c.layout)
 
     selects_alike : (w v : Window) → WindowsAlike n w v → D (selects t c w) (selects u d v)
     selects_alike w v s =
@@ -96,40 +71,23 @@ module _ (n : Renaming) (t u : Tables) (a : TablesAlike n t u) where
         (ap (λ x. record { window = Some x; back = 0 }) s.serial))
 
     former_alike : former_of d ≡ option_map n.window (former_of c)
-    former_alike =
-        ap (λ o. elim o as (λ _. Option ℕ) [ None ↦ d.last | Some w ↦ d.former ]) (focused_as n c d r.layout)
-        ∙ on (focused c) where
-          on : (o : Option ℕ)
-              → elim (option_map n.window o) as (λ _. Option ℕ) [ None ↦ d.last | Some w ↦ d.former ]
-              ≡ option_map n.window (elim o as (λ _. Option ℕ) [ None ↦ c.last | Some w ↦ c.former ])
-          on None = r.last
-          on (Some w) = r.former
+    former_alike = cases_as (λ x y. y ≡ option_map n.window x) n.window (λ w. d.former) (focused c) (focused d)
+        (focused_as n c d r.layout) r.last (λ w. r.former)
 
     split_alike : (way : Way) → split_fault way d.layout d.rows d.columns ≡ split_fault way c.layout c.rows c.columns
     split_alike way =
-        ap (λ (l : Arrangement). split_fault way l d.rows d.columns) r.layout
-        ∙ arrangement.fault_as n way c.layout d.rows d.columns
-        ∙ ap (λ rows. split_fault way c.layout rows d.columns) r.rows
-        ∙ ap (split_fault way c.layout c.rows) r.columns
+        cc (r.layout, arrangement.fault_as n way c.layout d.rows d.columns, r.rows, r.columns)
 
     box_alike : focused_box d ≡ focused_box c
-    box_alike =
-        ap (λ (l : Arrangement). slice_get (boxes l.shape (box_of d.rows d.columns)) l.focus) r.layout
-        ∙ ap (λ rows. slice_get (boxes c.layout.shape (box_of rows d.columns)) c.layout.focus) r.rows
-        ∙ ap (λ columns. slice_get (boxes c.layout.shape (box_of c.rows columns)) c.layout.focus) r.columns
+    box_alike = cc (r.layout, r.rows, r.columns)
 
   fits_alike : (w v : Window) → WindowsAlike n w v → (box : Rect) → A (fits t w box) (fits u v box)
   fits_alike w v r box =
       let d : D (Rattle.session_model.specs.Deeds.writes t w (written.Size (box.rows - 1) box.columns))
       (Rattle.session_model.specs.Deeds.writes u v (written.Size (box.rows - 1) box.columns)) =
       writes_alike n t u a w v r (written.Size (box.rows - 1) box.columns) in
-      refused_alike n Same t.acts u.acts (nat_lt (box.rows - 1) 2) _ refl (Regions TooSmall) _ _ (done (record {
-        acts = refl;
-        tables = d.tables;
-        effects = (ap (λ s. Size s (box.rows - 1) box.columns) r.serial, tt);
-        kept = refl;
-        kept_too = refl;
-      }) tt)
+      refused_alike n Same t.acts u.acts (nat_lt (box.rows - 1) 2) _ refl (Regions TooSmall) _ _
+      (done (deed_as refl d.tables (ap (λ s. Size s (box.rows - 1) box.columns) r.serial, tt)) tt)
 
   -- ---- the rows
   module _ (k l : Caller) (r : CallersAlike n k l) where
@@ -167,27 +125,19 @@ module _ (n : Renaming) (t u : Tables) (a : TablesAlike n t u) where
           on (Some client) = serial_as n k.window l.window r.window
 
     windows_listed : windows_text u l.user (focus_of l) ≡ windows_text t k.user (focus_of k)
-    windows_listed =
-        ap (λ (v : UserId). windows_text u v (focus_of l)) r.user ∙ ap (windows_text u k.user) focus_in
-        ∙ windows_text_alike n t u a k.user (focus_of k)
+    windows_listed = cc (r.user, focus_in, windows_text_alike n t u a k.user (focus_of k))
 
     typed_in : (bytes : List ℕ) (w v : Window) → WindowsAlike n w v
         → D (record (changing t) { effects = input_of w.serial bytes })
         (record (changing u) { effects = input_of v.serial bytes })
-    typed_in bytes w v s = record {
-      acts = refl;
-      tables = a;
-      effects = subst (λ x. Matched (EffectsAlike n) (input_of w.serial bytes) (input_of x bytes)) (sym s.serial)
-          (input_as n w.serial bytes);
-      kept = refl;
-      kept_too = refl;
-    }
+    typed_in bytes w v s = deed_as refl a
+        (subst (λ x. Matched (EffectsAlike n) (input_of w.serial bytes) (input_of x bytes)) (sym s.serial)
+        (input_as n w.serial bytes))
 
     put_alike : (x y : Window) → WindowsAlike n x y
         → D (changing (Rattle.session_model.specs.Tables.with_window t x))
         (changing (Rattle.session_model.specs.Tables.with_window u y))
-    put_alike x y s =
-        record { acts = refl; tables = put_window_alike n t u a x y s; effects = tt; kept = refl; kept_too = refl }
+    put_alike x y s = deed_as refl (put_window_alike n t u a x y s) tt
 
     -- a fault of a name or a group, or acts
     unless_so : (o p : Option AclFault) → p ≡ o → (d e : Deed) → A (Ok d) (Ok e) → A (unless Acl o d) (unless Acl p e)
@@ -219,7 +169,7 @@ module _ (n : Renaming) (t u : Tables) (a : TablesAlike n t u) where
         (done (acting_alike n t u a _ _ (ap (λ (v : UserId). mask_acts v (mask_entries u masks)) r.user
         ∙ ap (mask_acts k.user) (masks_alike n t u a masks) ∙ mask_acts_as n k.user (mask_entries t masks))) tt)
     does_alike (command.Multiuser true) =
-        done (record { acts = refl; tables = mode_alike n t u a true; effects = tt; kept = refl; kept_too = refl }) tt
+        done (deed_as refl (mode_alike n t u a true) tt) tt
     does_alike (command.Multiuser false) =
         done (parts_alike n (record t { is_multiuser = false }) (record u { is_multiuser = false })
         (mode_alike n t u a false) (λ c. not (is_of t.owner c)) (λ c. not (is_of u.owner c)) reason.SingleUser

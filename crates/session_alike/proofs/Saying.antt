@@ -1,26 +1,14 @@
 -- What was said in a step is said again in neither session, or in both.
-use Rattle.std.proofs.Common.{◌≡◌, ℕ, ◌+◌, ◌/◌, ◌%◌, ◌<◌, zero, suc, Bool, true, false, not, List, [], ◌∷◌, ◌++◌}
-use Rattle.std.proofs.Common.{refl, ap}
-use Rattle.std.proofs.Common.{sym, ◌∙◌, inl, inr, map, arith}
-use Rattle.std.specs.Prelude.{if◌then◌else◌, ◌==◌, ◌&&◌, codes, decimal, nat_lt}
-use Rattle.std.specs.List.{list_any}
-use Rattle.std.specs.Str.{bytes_eq}
+use Rattle.session_alike.proofs.Vocabulary.{◌≡◌, ℕ, ◌+◌, ◌/◌, ◌%◌, ◌<◌, zero, suc, Bool, true, false, not, List, []}
+use Rattle.session_alike.proofs.Vocabulary.{◌∷◌, ◌++◌, refl, ap, ◌∙◌, inl, inr, map, arith, if◌then◌else◌, ◌==◌, codes}
+use Rattle.session_alike.proofs.Vocabulary.{decimal, nat_lt, list_any, bytes_eq, nat_tests, Matched, Effect, Say}
+use Rattle.session_alike.proofs.Vocabulary.{Refusal, says_same, unsaid, behind, text_of, Renaming, effect_as}
+use Rattle.session_alike.proofs.Vocabulary.{TextsAlike, item_as, line_of, listed, EffectsAlike, any_both, filter_match}
+use Rattle.session_model.specs.declared.refusal.Refusal.TheVariants as refusal
+use Rattle.session_alike.proofs.Histories.{client_test}
 use Rattle.std.specs.Fmt.{digit_glyph, digits_onto}
 unfoldable use Rattle.std.specs.Fmt.{digits}
-use Rattle.std.proofs.lemmas.Bool.Decides.{nat_tests}
 use Rattle.std.proofs.lemmas.Slice.Eq.{bytes_eq-Decides}
-use Rattle.windows_model.specs.Matched.{Matched}
-use Rattle.session_model.specs.declared.event.Effect.{Effect}
-use Rattle.session_model.specs.declared.event.Effect.TheVariants.{Say}
-use Rattle.session_model.specs.declared.refusal.Refusal.{Refusal}
-use Rattle.session_model.specs.declared.refusal.Refusal.TheVariants as refusal
-use Rattle.session_model.specs.Answering.{says_same, unsaid}
-use Rattle.session_model.specs.Texts.{behind, text_of}
-use Rattle.session_alike.specs.Renaming.{Renaming, effect_as}
-use Rattle.session_alike.specs.Alike.{TextsAlike, item_as, line_of, listed}
-use Rattle.session_alike.specs.Steps.{EffectsAlike}
-use Rattle.session_alike.proofs.Histories.{client_test}
-use Rattle.session_alike.proofs.Matching.{any_both, filter_both}
 
 -- ---- a list of clients doesn't begin with a letter, and a refusal does
 
@@ -93,24 +81,19 @@ module _ (n : Renaming) where
   refusal_text : (x y z : List ℕ) → TextsAlike n x y → (r : Refusal) → z ≡ text_of r → bytes_eq y z ≡ bytes_eq x z
   refusal_text x y z (inl same) r is = ap (λ w. bytes_eq w z) same
   refusal_text x y z (inr lists) r is =
-      ap (λ w. bytes_eq w z) lists.other ∙ ap (bytes_eq (listed (map (item_as n) lists.items))) is
-      ∙ other_text (listed (map (item_as n) lists.items)) (text_of r) (listed_low (map (item_as n) lists.items))
-      (refusal_high r)
-      ∙ sym
-      (ap (λ w. bytes_eq w z) lists.this ∙ ap (bytes_eq (listed lists.items)) is
-      ∙ other_text (listed lists.items) (text_of r) (listed_low lists.items) (refusal_high r))
+      let items = map (item_as n) lists.items in
+      let this = other_text (listed lists.items) (text_of r) (listed_low lists.items) (refusal_high r) in
+      let other = other_text (listed items) (text_of r) (listed_low items) (refusal_high r) in
+      cc (lists.other, lists.this, is, this, other)
 
   said_same : (e f : Effect) → EffectsAlike n e f → (s g : Effect) → TypedAlike n s g
       → says_same f g ≡ says_same e s
-  said_same (Say a x) f m (Say b z) g k =
-      ap (λ p. says_same p g) m.1 ∙ ap (says_same (Say (n.client a) m.0)) k.2
-      ∙ ap (λ p. p && bytes_eq m.0 z) (client_test n a b)
-      ∙ ap (λ q. (a == b) && q) (refusal_text x m.0 z m.2 k.0 k.1)
+  said_same (Say a x) f m (Say b z) g k = cc (m.1, k.2, client_test n a b, refusal_text x m.0 z m.2 k.0 k.1)
   said_same (Say a x) f m s g k = ap (λ p. says_same p g) m.1 ∙ ap (says_same (Say (n.client a) m.0)) k
   said_same e f m s g k = ap (λ p. says_same p g) m
 
   pub unsaid_both : (said other : List Effect) → Matched (TypedAlike n) said other → (es fs : List Effect)
       → Matched (EffectsAlike n) es fs → Matched (EffectsAlike n) (unsaid said es) (unsaid other fs)
   unsaid_both said other m es fs k =
-      filter_both (EffectsAlike n) (λ e. not (list_any (says_same e) said)) (λ e. not (list_any (says_same e) other))
+      filter_match (EffectsAlike n) (λ e. not (list_any (says_same e) said)) (λ e. not (list_any (says_same e) other))
       (λ e f r. ap not (any_both (TypedAlike n) (says_same e) (says_same f) (said_same e f r) said other m)) es fs k

@@ -1,40 +1,26 @@
 -- Keys do the same in sessions that are alike.
-use Rattle.std.proofs.Common.{◌≡◌, ℕ, List, [], ◌∷◌, ◌++◌, Option, Some, None, Ok, Err, Result, inl, inr, refl, ap}
-use Rattle.std.proofs.Common.{sym, ◌∙◌}
-use Rattle.std.proofs.Common.{subst, map, length, take}
-use Rattle.std.specs.Option.{option_map}
-use Rattle.acl.specs.declared.user_id.UserId.{UserId}
-use Rattle.command_lang.specs.declared.command.Command.{Command as Order}
+use Rattle.session_alike.proofs.Vocabulary.{◌≡◌, ℕ, List, [], ◌∷◌, ◌++◌, Option, Some, None, Ok, Err, Result, inl, inr}
+use Rattle.session_alike.proofs.Vocabulary.{refl, ap, sym, ◌∙◌, subst, map, length, take, option_map, UserId, Order}
+use Rattle.session_alike.proofs.Vocabulary.{ParseFault, Item, bound, line, BothOrNone, Matched, Input, Say}
+use Rattle.session_alike.proofs.Vocabulary.{StatusMessage, Refusal, Ordered, by_line, by_ruling, input_in, keyed}
+use Rattle.session_alike.proofs.Vocabulary.{keys_outcome, message_of, ordered, reading, says, says_why, told, types}
+use Rattle.session_alike.proofs.Vocabulary.{typing_verdicts, line_ruling, unsaid, with_listed, checks, first_fault}
+use Rattle.session_alike.proofs.Vocabulary.{typing_checks, verdicts, Ruling, ruling, Answer, Deed, changing, hearing}
+use Rattle.session_alike.proofs.Vocabulary.{command_item, items_behind, taken, typed_bytes, Caller, caller_of}
+use Rattle.session_alike.proofs.Vocabulary.{read_line, Outcome, finished, reply_of, Client, Tables, Window, client_at}
+use Rattle.session_alike.proofs.Vocabulary.{focused_window, with_client, text_of, EventValue, Renaming, refusal_as}
+use Rattle.session_alike.proofs.Vocabulary.{verdict_as, ClientsAlike, TablesAlike, TextsAlike, WindowsAlike}
+use Rattle.session_alike.proofs.Vocabulary.{EffectsAlike, made_as, append_match, cases_as, cases_both, map_append}
+use Rattle.session_alike.proofs.Vocabulary.{weaker_match}
 use Rattle.command_lang.specs.declared.command.Command.TheVariants as command
-use Rattle.command_lang.specs.declared.fault.ParseFault.{ParseFault}
-use Rattle.keys.specs.Grammar.{Item, bound, line}
-use Rattle.windows_model.specs.Matched.{BothOrNone, Matched}
-use Rattle.session_model.specs.declared.event.Effect.TheVariants.{Input, Say}
-use Rattle.session_model.specs.declared.message.StatusMessage.{StatusMessage}
 use Rattle.session_model.specs.declared.message.StatusMessage.TheVariants as message
-use Rattle.session_model.specs.declared.refusal.Refusal.{Refusal}
-use Rattle.session_model.specs.Answering.{Ordered, by_line, by_ruling, input_in, keyed, keys_outcome}
-use Rattle.session_model.specs.Answering.{message_of, ordered, reading, says, says_why, told, types, typing_verdicts}
-use Rattle.session_model.specs.Answering.{line_ruling, unsaid, with_listed}
-use Rattle.session_model.specs.Checks.{checks, first_fault, typing_checks, verdicts}
-use Rattle.session_model.specs.Commands.{Ruling, does, ruling}
-use Rattle.session_model.specs.Deeds.{Answer, Deed, changing, hearing}
-use Rattle.session_model.specs.Keying.{command_item, items_behind, taken, typed_bytes}
-use Rattle.session_model.specs.Lines.{Caller, caller_of, read_line}
-use Rattle.session_model.specs.Outcomes.{Outcome, finished, reply_of}
-use Rattle.session_model.specs.Tables.{Client, Tables, Window, client_at, focused_window, with_client}
-use Rattle.session_model.specs.Texts.{text_of}
-use Rattle.session_model.specs.Trace.{EventValue}
-use Rattle.session_alike.specs.Renaming.{Renaming, refusal_as, verdict_as}
-use Rattle.session_alike.specs.Alike.{ClientsAlike, TablesAlike, TextsAlike, WindowsAlike}
-use Rattle.session_alike.specs.Steps.{EffectsAlike, made_as}
-use Rattle.session_alike.proofs.Changing.{AnswersAlike, DeedsAlike, declined, done, heard_alike, put_client_alike}
+use Rattle.session_alike.proofs.Changing.{AnswersAlike, DeedsAlike, clients_as, declined, deed_as, done, heard_alike}
+use Rattle.session_alike.proofs.Changing.{put_client_alike}
 use Rattle.session_alike.proofs.Checking.{CallersAlike, check_as, checks_alike, fault_alike, typing_as, verdicts_alike}
 use Rattle.session_alike.proofs.Finding.{client_alike, focus_alike}
 use Rattle.session_alike.proofs.Keying.{behind_same, rest_same, taken_same}
 use Rattle.session_alike.proofs.Listing.{text_same}
 use Rattle.session_alike.proofs.Lists.{Same}
-use Rattle.session_alike.proofs.Matching.{append_both, map_append, weaken_both}
 use Rattle.session_alike.proofs.Outcomes.{OutcomesAlike, finished_alike}
 use Rattle.session_alike.proofs.Rows.{ListedBy, does_alike}
 use Rattle.session_alike.proofs.Saying.{TypedAlike, typed_alike, unsaid_both}
@@ -62,28 +48,17 @@ module _ (n : Renaming) where
         → RulingsAlike (ListedBy n c) (ruling t k c) (ruling u l c)
     ruling_alike k l r c = record {
       verdicts = ap (verdicts u) (checks_alike n t u a k l r c) ∙ verdicts_alike n t u a (checks t k c);
-      answer = subst (λ x. AnswersAlike n (ListedBy n c) t.acts u.acts (ruling t k c).answer
-          (elim x as (λ _. Answer) [ Some q ↦ Err q | None ↦ does u l c ]))
-          (sym (ap (first_fault u) (checks_alike n t u a k l r c) ∙ fault_alike n t u a (checks t k c)))
-          (on (first_fault t (checks t k c)));
-    } where
-      on : (x : Option Refusal)
-          → AnswersAlike n (ListedBy n c) t.acts u.acts
-          (elim x as (λ _. Answer) [ Some q ↦ Err q | None ↦ does t k c ])
-          (elim (option_map (refusal_as n) x) as (λ _. Answer) [ Some q ↦ Err q | None ↦ does u l c ])
-      on (Some q) = declined refl
-      on None = does_alike n t u a k l r c
+      answer = cases_as (AnswersAlike n (ListedBy n c) t.acts u.acts) (refusal_as n) _ (first_fault t (checks t k c)) _
+          (ap (first_fault u) (checks_alike n t u a k l r c) ∙ fault_alike n t u a (checks t k c))
+          (does_alike n t u a k l r c) (λ q. declined refl);
+    }
 
     -- ---- messages
 
     told_alike : (client : ℕ) (m : StatusMessage) → TablesAlike n (told t client m) (told u (n.client client) m)
-    told_alike client m = on (client_at t client) (client_at u (n.client client)) (client_alike n t u a client) where
-      on : (o p : Option Client) → BothOrNone (ClientsAlike n) o p
-          → TablesAlike n (elim o as (λ _. Tables) [ None ↦ t | Some c ↦ with_client t (hearing m c) ])
-          (elim p as (λ _. Tables) [ None ↦ u | Some d ↦ with_client u (hearing m d) ])
-      on None None r = a
-      on (Some c) (Some d) r = put_client_alike n t u a (hearing m c) (hearing m d) (heard_alike n m c d r)
-      on o p r = absurd r
+    told_alike client m =
+        cases_both (TablesAlike n) (client_at t client) (client_at u (n.client client)) (client_alike n t u a client) a
+        (λ c d r. put_client_alike n t u a (hearing m c) (hearing m d) (heard_alike n m c d r))
 
     told_acts : (x : Tables) (client : ℕ) (m : StatusMessage) → (told x client m).acts ≡ x.acts
     told_acts x client m = on (client_at x client) where
@@ -149,38 +124,17 @@ module _ (n : Renaming) where
           })
 
       pub types_alike : (bytes : List ℕ) → TypingAlike (types t c bytes) (types u d bytes)
-      types_alike [] = record {
-        deed = record { acts = refl; tables = a; effects = tt; kept = refl; kept_too = refl };
-        said = tt;
-      }
+      types_alike [] = record { deed = deed_as refl a tt; said = tt }
       types_alike (b ∷ bytes) =
-          subst (λ x. TypingAlike (types t c (b ∷ bytes)) (elim x as (λ _. Deed) [
-            | Some q ↦ says_why u d.serial q
-            | None ↦ record (changing u) { effects = input_in (focused_window u d) (b ∷ bytes) }
-          ])) (sym typing_fault) (on (first_fault t (typing_checks c.user (focused_window t c)))) where
-            inputs : Matched (TypedAlike n) (input_in (focused_window t c) (b ∷ bytes))
-                (input_in (focused_window u d) (b ∷ bytes))
-            inputs = input_both (focused_window t c) (focused_window u d) (b ∷ bytes) (focus_alike n t u a c d r)
-
-            on : (x : Option Refusal)
-                → TypingAlike (elim x as (λ _. Deed) [
-                  | Some q ↦ says_why t c.serial q
-                  | None ↦ record (changing t) { effects = input_in (focused_window t c) (b ∷ bytes) }
-                ]) (elim (option_map (refusal_as n) x) as (λ _. Deed) [
-                  | Some q ↦ says_why u d.serial q
-                  | None ↦ record (changing u) { effects = input_in (focused_window u d) (b ∷ bytes) }
-                ])
-            on (Some q) = refused_typing q
-            on None = record {
-              deed = record {
-                acts = refl;
-                tables = a;
-                effects = weaken_both (TypedAlike n) (EffectsAlike n) _ _ (typed_alike n) inputs;
-                kept = refl;
-                kept_too = refl;
-              };
-              said = inputs;
-            }
+          let inputs : Matched (TypedAlike n) (input_in (focused_window t c) (b ∷ bytes))
+          (input_in (focused_window u d) (b ∷ bytes)) =
+          input_both (focused_window t c) (focused_window u d) (b ∷ bytes) (focus_alike n t u a c d r) in
+          cases_as TypingAlike (refusal_as n) _ (first_fault t (typing_checks c.user (focused_window t c))) _
+          typing_fault
+          (record {
+            deed = deed_as refl a (weaker_match (TypedAlike n) (EffectsAlike n) (typed_alike n) _ _ inputs);
+            said = inputs;
+          }) refused_typing
 
   -- ---- what a command that came by keys does
 
@@ -201,7 +155,7 @@ module _ (n : Renaming) where
       (says_alike d.tables e.tables alike.tables client (m x) x y (texts x y ls)) in record {
         acts = alike.acts;
         tables = s.tables;
-        effects = append_both (EffectsAlike n) d.effects _ e.effects _ alike.effects s.effects;
+        effects = append_match (EffectsAlike n) d.effects _ e.effects _ alike.effects s.effects;
         kept = s.kept ∙ alike.kept;
         kept_too = s.kept_too ∙ alike.kept_too;
       }
@@ -212,12 +166,9 @@ module _ (n : Renaming) where
       → ((x y : List ℕ) → T x y → m y ≡ m x) → ((x y : List ℕ) → T x y → TextsAlike n x y) → (x y : Answer)
       → AnswersAlike n T t.acts u.acts x y
       → DeedsAlike n t.acts u.acts (keyed t client m x) (keyed u (n.client client) m y)
-  keyed_alike t u a T client m messages texts (Ok d) (Ok e) (done alike ls) =
+  keyed_alike t u a T client m messages texts _ _ (done {d = d} {e = e} alike ls) =
       listed_alike t u T client m messages texts d e alike d.lists e.lists ls
-  keyed_alike t u a T client m messages texts (Err r) (Err s) (declined same) =
-      says_why_alike t u a client r s same
-  keyed_alike t u a T client m messages texts (Ok d) (Err s) alike = elim alike [ ]
-  keyed_alike t u a T client m messages texts (Err r) (Ok e) alike = elim alike [ ]
+  keyed_alike t u a T client m messages texts _ _ (declined {r = r} {s = s} same) = says_why_alike t u a client r s same
 
   module _ (t u : Tables) (a : TablesAlike n t u) (c d : Client) (r : ClientsAlike n c d) where
     caller_as : CallersAlike n (caller_of t c) (caller_of u d)
@@ -244,10 +195,7 @@ module _ (n : Renaming) where
 
     nothing_ordered : OrdersAlike t u (record { verdicts = []; deed = changing t })
         (record { verdicts = []; deed = changing u })
-    nothing_ordered = record {
-      verdicts = refl;
-      deed = record { acts = refl; tables = a; effects = tt; kept = refl; kept_too = refl };
-    }
+    nothing_ordered = record { verdicts = refl; deed = deed_as refl a tt }
 
     pub ordered_alike : (o : Option Item) → OrdersAlike t u (ordered t c o) (ordered u d o)
     ordered_alike (Some (bound order)) = by_line_alike (Ok order)
@@ -259,17 +207,8 @@ module _ (n : Renaming) where
 
   pub reading_alike : (bytes : List ℕ) (c d : Client) → ClientsAlike n c d
       → ClientsAlike n (reading bytes c) (reading bytes d)
-  reading_alike bytes c d r = record {
-    serial = r.serial;
-    user = r.user;
-    rows = r.rows;
-    columns = r.columns;
-    keys = rest_same c.keys d.keys r.keys bytes;
-    layout = r.layout;
-    last = r.last;
-    former = r.former;
-    message = refl;
-  }
+  reading_alike bytes c d r = clients_as r.serial r.user r.rows r.columns
+      (rest_same c.keys d.keys r.keys bytes) r.layout r.last r.former refl
 
   -- what is done with keys that complete these items
   abbrev done_with : Tables → Client → List ℕ → List Item → Outcome
@@ -307,7 +246,7 @@ module _ (n : Renaming) where
         (record { taken = refl; made = sym made; number = refl; text = tt }) (record {
           acts = order.deed.acts;
           tables = order.deed.tables;
-          effects = append_both (EffectsAlike n) x.effects _ y.effects _ typing.deed.effects
+          effects = append_match (EffectsAlike n) x.effects _ y.effects _ typing.deed.effects
               (unsaid_both n x.effects y.effects typing.said o.deed.effects p.deed.effects order.deed.effects);
           kept = order.deed.kept ∙ typing.deed.kept;
           kept_too = order.deed.kept_too ∙ typing.deed.kept_too;

@@ -16,6 +16,7 @@ pub mod Leaving
 pub mod Giving
 pub mod Legal
 pub mod Trails
+pub mod Named
 pub mod Later
 pub mod Staging
 pub mod Ending

@@ -26,6 +26,7 @@ use Rattle.trail_again.proofs.Leading.{Brings, IsRead, events}
 use Rattle.trail_again.proofs.Leaving.{closed_left, openers_left}
 use Rattle.hub.specs.Judging.{CanFollow}
 use Rattle.trail_rights.specs.Marks.{entries_in}
+use Rattle.trail_again.proofs.Named.{IfOther, IsNaming, all_named, known_named, others_named}
 use Rattle.trail_again.proofs.Trails.{acts_of, good_follow, marked_acts}
 use Rattle.trail_again.proofs.Legal.{lawful, lawful_first}
 use Rattle.trail_again.proofs.Masking.{bit_said}
@@ -119,15 +120,17 @@ module _ (edition : Edition) (owner : UserId) (acts from : History) (s : SetupSt
       (masked_stage edition owner acts from s others l named h2 second) third_masks
 
 restores : (edition : Edition) (owner : UserId) (trail : List Act) (from : History) (s : SetupState) (file : List ℕ)
-    → CanFollow edition owner [] trail → Restores edition owner (followed_by [] trail) from s file
-restores edition owner trail from s file can named after put read =
+    → CanFollow edition owner [] trail → AllByRecursion IsNaming trail
+    → Restores edition owner (followed_by [] trail) from s file
+restores edition owner trail from s file can naming after put read =
     let acts : History = followed_by [] trail in
     let good = lawful edition owner trail [] (lawful_first edition owner) can in
     let others : List UserId = good.0 in
     let l = good.1 in
-    let has : AllByRecursion HasName others = subst (λ (us : List UserId). AllByRecursion HasName
-    (others_of us)) l.users
-    named in
+    let named : AllByRecursion (IfOther owner) (owner ∷ others) =
+    subst (AllByRecursion (IfOther owner)) l.users (known_named owner trail naming) in
+    let has : AllByRecursion HasName others = others_named owner others named.1
+    (from_members (λ u. same_user owner u ≡ false) others (λ u is. not_owner owner others u l.apart is)) in
     let parts : PutsAll (parts_for edition owner acts from (record { state = s; users = owner ∷ others }) others)
     [] file =
     subst (λ (us : List UserId). PutsAll
@@ -144,7 +147,7 @@ restores edition owner trail from s file can named after put read =
     )
 
 pub setup_restores : SetupRestores
-setup_restores w edition owner said from s file watched =
+setup_restores w edition owner said bytes rest from s file watched read =
     subst (λ (h : History). Restores edition owner h from s file) (sym (marked_acts said []))
     (restores edition owner (acts_of (entries_in said)) from s file
-    (good_follow edition owner (entries_in said) [] watched.read.judged.good))
+    (good_follow edition owner (entries_in said) [] watched.read.judged.good) (all_named said bytes rest read))

@@ -73,7 +73,7 @@ is_there false x y e = cc
 pub is_a_name : (u : UserId) → HasName u → is_name (name_of u) ≡ true
 is_a_name u named = is_there _ _ _ named
 
-bytes_of_name : (word : List ℕ) → is_name word ≡ true → list_all is_name_byte word ≡ true
+pub bytes_of_name : (word : List ℕ) → is_name word ≡ true → list_all is_name_byte word ≡ true
 bytes_of_name word is = grind (arith, nat_tests)
 
 first_of_name : (word : List ℕ) → is_name word ≡ true → begins_with_letter word ≡ true

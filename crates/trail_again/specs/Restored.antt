@@ -1,6 +1,5 @@
 -- What a new session has that took the lines of a setup.
 use Rattle.std.specs.Prelude.{◌≡◌, ◌&&◌, Bool, true, false, List, [], ℕ, None, map}
-use Rattle.std.specs.List.{AllByRecursion}
 use Rattle.acl.specs.declared.act.Object.TheVariants.{Command}
 use Rattle.acl.specs.declared.act.PresetKind.{PresetKind}
 use Rattle.acl.specs.declared.bits.Bit.{Bit}
@@ -9,7 +8,6 @@ use Rattle.acl.specs.declared.edition.Edition.{Edition}
 use Rattle.acl.specs.declared.user_id.UserId.{UserId}
 use Rattle.acl.specs.History.{History, among, has, leaders_of, mask, may, preset_of, users_of}
 use Rattle.acl.specs.Same.{same_user}
-use Rattle.line_fields.specs.Sayable.{IsNamed}
 use Rattle.program_words.specs.SetupLines.{commands_in, first_fault, line_of}
 use Rattle.session.specs.Setup.{SetsUp, StopsAt, command_of}
 use Rattle.session.specs.declared.setup_file.Beginning.{Beginning}
@@ -21,9 +19,10 @@ use Rattle.trail_setup.specs.Giving.{PutsAll}
 use Rattle.trail_setup.specs.Keeping.{IsAfter}
 use Rattle.writelock.specs.Holding.{default_of}
 use Rattle.trail_setup.specs.Masks.{has_on_all}
-use Rattle.trail_setup.specs.Setup.{others_of, setup_parts}
+use Rattle.trail_setup.specs.Setup.{setup_parts}
 use Rattle.trail_setup.specs.declared.state.SetupState.{SetupState}
 use Rattle.trail_lines.specs.Entries.{Said}
+use Rattle.trail_lines.specs.Halting.{AreRead}
 use Rattle.trail_rights.specs.Marks.{acts_in, marked_after}
 use Rattle.trail_rights.specs.Watching.{HasWatched}
 use Rattle.trail_rights.specs.declared.watch.Watch.{Watch}
@@ -55,21 +54,21 @@ pub record IsRestored (edition : Edition) (owner : UserId) (acts from : History)
   pub presets : (kind : PresetKind) (bit : Bit) → preset_of now kind bit ≡ preset_of from kind bit
   pub default : default_of now ≡ default_of from
 
--- If each user has a name, and the file is the setup of these acts and of a state after `from`, a new session of the
--- same edition and owner takes each of its lines, unless one is too long. Then nobody has joined, and it is multiuser.
+-- If the file is the setup of these acts and of a state after `from`, a new session of the same edition and owner takes
+-- each of its lines, unless one is too long. Then nobody has joined, and it is multiuser.
 abbrev pub Restores : Edition → UserId → (acts from : History) → SetupState → List ℕ → Type 0
 Restores edition owner acts from s file =
-    AllByRecursion IsNamed (others_of (users_of owner acts)) → IsAfter s from
+    IsAfter s from
     → PutsAll (setup_parts edition owner acts from s) [] file → first_fault (commands_in file) ≡ None
     → (now : History)
     × AreTaken (fresh edition owner) (map (command_of owner) (commands_in file)) (session_after edition owner now)
     × IsRestored edition owner acts from s now
 
--- for the acts of all entries that a watch has read, each of which is legal
+-- for the acts of all entries that a watch has read of a trail's file, each of which is legal
 abbrev pub SetupRestores : Type 0
 SetupRestores =
-    (w : Watch) (edition : Edition) (owner : UserId) (said : List Said) (from : History) (s : SetupState)
-    (file : List ℕ) → HasWatched w edition owner said
+    (w : Watch) (edition : Edition) (owner : UserId) (said : List Said) (bytes rest : List ℕ) (from : History)
+    (s : SetupState) (file : List ℕ) → HasWatched w edition owner said → AreRead said bytes rest
     → Restores edition owner (acts_in (marked_after [] said)) from s file
 
 -- If tables take the lines of a beginning, the session that has taken them has the tables to which they lead, and no

@@ -4,10 +4,10 @@
 
 ghost use Rattle.trail_again.specs.Restored.{BeginsAsTaken, SetupRestores};
 
-/// A new session of the same edition and owner refuses no line of a setup's file, if each user of the trail has a name
-/// and no line is too long. Then the same users are known, in the same order, with the same leaders, in the same
-/// order. Each user but the owner has on each command what their entry had. Masks are the closed masks; presets and
-/// the default lock are those of the setup; the session is multiuser, and nobody has joined it.
+/// A new session of the same edition and owner refuses no line of the setup of a trail's file, if no line is too long.
+/// Then the same users are known, in the same order, with the same leaders, in the same order. Each user but the owner
+/// has on each command what their entry had. Masks are the closed masks; presets and the default lock are those of the
+/// setup; the session is multiuser, and nobody has joined it.
 pub fn setup_restores()
     ensures { SetupRestores }
 {}

@@ -1,6 +1,9 @@
 //! Why a file isn't read to its end, as the program tells it.
 
+use client_words::put_visible;
+use std::alloc::Global;
 use std::io::{self, ErrorKind, Write};
+use std::str;
 
 /// Why a file isn't read to its end.
 #[derive(Clone, Copy)]
@@ -34,8 +37,15 @@ fn write_unopened<W: Write>(error: io::Error, path: &str, output: &mut W) -> io:
 }
 
 impl TrailFault {
-    /// Writes what happened, the path, and what to do.
-    pub fn write<W: Write>(self, path: &str, output: &mut W) -> io::Result<()> {
+    /// Writes what happened, the path, and what to do. Control characters of the path are escaped.
+    pub fn write<W: Write>(self, alloc: Global, path: &str, output: &mut W) -> io::Result<()> {
+        let mut visible = Vec::new(alloc);
+        put_visible(path.as_bytes(), &mut visible)?;
+        self.write_visible(str::from_utf8(visible.as_slice()).unwrap_or("?"), output)
+    }
+
+    /// Writes what happened, the path as it is, and what to do.
+    fn write_visible<W: Write>(self, path: &str, output: &mut W) -> io::Result<()> {
         output.write_all(b"mux-trail: ")?;
         match self {
             TrailFault::NotOpened(error) => write_unopened(error, path, output),

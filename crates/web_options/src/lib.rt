@@ -2,9 +2,7 @@
 #![tactic(auto)]
 
 mod fault;
-mod links;
 mod options;
 
 pub use fault::WebFault;
-pub use links::{Linked, take_link};
 pub use options::{Listen, WebOptions, look_for_paths, origins_of, site_of};

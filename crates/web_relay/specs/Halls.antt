@@ -95,6 +95,11 @@ HallHears old new = (came : ReadOutcome) × HallHearsAs came old new
 abbrev pub IsHallToHear : Hall → Type 0
 IsHallToHear hall = (hall.is_ready ≡ true) × (hall.is_lost ≡ false)
 
+-- a hall that may have more to hear
+abbrev pub IsBusyHall : Option Hall → Type 0
+IsBusyHall None = ⊥
+IsBusyHall (Some hall) = IsHallToHear hall
+
 -- what waits for the server may be written, and the connection may have ended
 pub record HallWrites (old new : Hall) : Type 0 where
   pub asked : IsRest old.client.client.outgoing new.client.client.outgoing

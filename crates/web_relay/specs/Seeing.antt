@@ -36,11 +36,12 @@ SitsIn found old begins new =
     × (((found ≡ old.hall) × (new ≡ mid) × (begins ≡ false))
     ⊎ ((found ≢ old.hall) × (new ≡ seated_afresh found mid) × (begins ≡ is_none old.hall)))
 
--- Only a browser that watches sits, in a hall for its size.
+-- Only an open page that watches sits, in a hall for its size.
 pub record Seats (watcher : Option Watcher) (now : Duration) (halls : Halls) (old : Relay) (begins : Bool)
     (after : Halls) (new : Relay) : Type 0 where
-  pub apart : (IsWatcher old.visitor.identity → ⊥) → (new ≡ old) × (after ≡ halls) × (begins ≡ false)
-  pub sits : (rows columns : ℕ) → old.visitor.identity ≡ Watching rows columns
+  pub apart : (IsWatcher old.visitor.identity × IsOpen old.visitor → ⊥)
+      → (new ≡ old) × (after ≡ halls) × (begins ≡ false)
+  pub sits : (rows columns : ℕ) → old.visitor.identity ≡ Watching rows columns → IsOpen old.visitor
       → (found : Option HallNumber) × Enters watcher now (rows, columns) halls found after × SitsIn found old begins new
 
 -- ---- a page

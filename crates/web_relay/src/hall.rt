@@ -51,7 +51,7 @@ impl Hall {
     }
 
     // Whether the server may have sent something.
-    fn is_to_hear(&self) -> bool
+    pub(crate) fn is_to_hear(&self) -> bool
         ensures { IsTrue result ↔ IsHallToHear self.now }
     {
         self.is_ready && !self.is_lost

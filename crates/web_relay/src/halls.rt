@@ -4,7 +4,8 @@ ghost use Rattle.std.specs.Prelude.{◌≡◌, ◌≢◌, ◌⊎◌, ◌<◌, �
 ghost use Rattle.std.specs.String.{string_bytes};
 ghost use Rattle.slab.specs.Slab.{get, slab_len};
 ghost use Rattle.web_relay.specs.Halls.{AtBoth, AtEach, Chooses, Closes, Enters, HallTurns, HasNone, HasSize};
-ghost use Rattle.web_relay.specs.Halls.{IsBetterOf, IsStandIn, IsStuck, IsStuckAt, Opens, OpensBy, Renews, heeds, number_at};
+ghost use Rattle.web_relay.specs.Halls.{IsBetterOf, IsBusyHall, IsStandIn, IsStuck, IsStuckAt, Opens, OpensBy, Renews};
+ghost use Rattle.web_relay.specs.Halls.{heeds, number_at};
 ghost use Rattle.web_relay.specs.Places.{changed_at};
 
 use crate::hall::Hall;
@@ -80,7 +81,8 @@ pub struct Halls {
 impl Halls {
     /// No page yet.
     pub fn new(alloc: Global, choice: Option<String>) -> Halls
-        ensures { result.list.slots ≡ [] }
+        ensures list { result.list.slots ≡ [] }
+        ensures choice { result.choice ≡ choice }
     {
         Halls {
             alloc,
@@ -282,6 +284,21 @@ impl Halls {
         'places: for place in 0..self.list.capacity() {
             turn_at(&mut self.list, place, buffer);
         }
+    }
+
+    /// The place of a hall that may have more to hear.
+    pub fn busy(&self) -> Option<usize>
+        ensures some { IfSome result (λ place. IsBusyHall (get self.now.list place)) }
+        ensures none { result ≡ None → (place : ℕ) → IsBusyHall (get self.now.list place) → ⊥ }
+    {
+        'halls: for place in 0..self.list.capacity() {
+            if let Some(hall) = self.list.get(place) {
+                if hall.is_to_hear() {
+                    return Some(place);
+                }
+            }
+        }
+        None
     }
 
     // Closes the hall at this place if it is over.

@@ -53,7 +53,7 @@ fn sit(found: Option<HallNumber>, relay: &mut Relay) -> bool
 }
 
 impl Halls {
-    /// Seats a browser that watches in the hall of its size. Of the page of another hall it was sent nothing. Returns
+    /// Seats an open page that watches in the hall of its size. Of the page of another hall it was sent nothing. Returns
     /// whether it has just begun to watch.
     pub fn seat<R: Net>(&mut self, rt: &R, around: Around<'_>, relay: &mut Relay) -> bool
         ensures { Seats around.entry.site.now.watcher around.entry.now self.old relay.old result self.new relay.new }
@@ -61,6 +61,9 @@ impl Halls {
         let Identity::Watching(rows, columns) = *relay.visitor.identity() else {
             return false;
         };
+        if !relay.visitor.is_open() {
+            return false;
+        }
         let found = self.enter(rt, around, (rows, columns));
         sit(found, relay)
     }

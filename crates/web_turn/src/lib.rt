@@ -1,0 +1,11 @@
+//! The loop of `mux-web`: which browsers it lets in, what it reads of each in a turn, passes on to its own client and
+//! shows it, and when it lets one go.
+#![tactic(auto)]
+
+mod bridge;
+mod links;
+mod log;
+mod turning;
+
+pub use bridge::{Bridge, BridgeOptions, WebHost, serve};
+pub use log::{WebLog, start_log};
