@@ -7,7 +7,7 @@ use crate::reading::serve;
 use crate::shared::{SharedPeer, start_thread};
 use crate::writing::send;
 use crate::{PeerHost, Source};
-use client_peer::{Meeting, PeerTask, SessionMark};
+use client_peer::{Comeback, Meeting, PeerTask, SessionMark};
 use client_words::{Arguments, PeerFault};
 use std::alloc::Global;
 use std::fs::{File, Files};
@@ -22,10 +22,6 @@ use std::{fs, thread};
 const SHORTLY: u64 = 10;
 
 const PAUSE: u64 = 50;
-
-// How many tries a client lets pass while windows come back: one that comes before them shows none. A window lets so
-// many pass until the server that made the socket has marked its session.
-const HELD: u32 = 60;
 
 // How often a window looks for the mark of its first server.
 const LEARNING: u32 = 20;
@@ -118,15 +114,6 @@ pub fn start<R: PeerHost + Threads + Wait>(
     Ok(())
 }
 
-// How many tries a peer that comes back has let pass.
-#[derive(Drop)]
-struct Comeback {
-    /// While windows come back.
-    held: u32,
-    /// While the mark beside the socket may be that of an earlier server.
-    older: u32,
-}
-
 // Whether the next server must not be told a window's page, since a command has cleared it, or this isn't known.
 // SOCKET.restoring has a line for each such window, with its user and the number that it had.
 fn is_hidden<R: Files<File = File> + AllocGlobal>(
@@ -154,59 +141,40 @@ fn has_line(lines: &[u8], wanted: &[u8]) -> bool {
     false
 }
 
-impl Comeback {
-    // Whether a client lets windows go first: one that comes before them shows none.
-    fn lets_pass<R: Files<File = File> + AllocGlobal>(
-        &mut self,
-        rt: &R,
-        arguments: &Arguments<'_>,
-    ) -> bool {
-        let passes = arguments.subcommand.is_attach()
-            && self.held < HELD
-            && is_beside(rt, arguments, ".pending");
-        self.held = if passes { self.held.wrapping_add(1) } else { 0 };
-        passes
+// What comes of what the peer met. A window waits for a mark of the server that made the socket, but not for long.
+fn judge<R: PeerHost + Wait + Files<File = File> + AllocGlobal>(
+    rt: &R,
+    shared: &SharedPeer,
+    arguments: &Arguments<'_>,
+    comeback: &mut Comeback,
+    met: Meeting,
+) {
+    let is_here = met == Meeting::Older && is_beside(rt, arguments, "");
+    if !comeback.waits(met, is_here) && met != Meeting::Same {
+        shared.seat.lock(rt).peer.stay_away(met);
     }
+}
 
-    // What comes of what the peer met. A window waits for a mark of the server that made the socket, but not for long.
-    fn judge<R: PeerHost + Wait + Files<File = File> + AllocGlobal>(
-        &mut self,
-        rt: &R,
-        shared: &SharedPeer,
-        arguments: &Arguments<'_>,
-        met: Meeting,
-    ) {
-        let waits = met == Meeting::Older && self.older < HELD;
-        self.older = match met {
-            Meeting::Older if is_beside(rt, arguments, "") => self.older.wrapping_add(1),
-            _ => 0,
-        };
-        if met != Meeting::Same && !waits {
-            shared.seat.lock(rt).peer.stay_away(met);
-        }
+// Opens a window again in a server that has let it in. What stands beside the socket is that server's by now.
+fn reopen<R: PeerHost + Wait + Files<File = File> + AllocGlobal>(
+    rt: &R,
+    shared: &SharedPeer,
+    arguments: &Arguments<'_>,
+    comeback: &mut Comeback,
+) {
+    let mark = mark_of(rt, arguments);
+    let mut seat = shared.seat.lock(rt);
+    let number = seat.peer.page_number;
+    let opened = seat.peer.reopen(&mark, is_hidden(rt, arguments, number));
+    if let Err(fault) = opened {
+        seat.peer.end_by(Err(fault));
     }
-
-    // Opens a window again in a server that has let it in. What stands beside the socket is that server's by now.
-    fn reopen<R: PeerHost + Wait + Files<File = File> + AllocGlobal>(
-        &mut self,
-        rt: &R,
-        shared: &SharedPeer,
-        arguments: &Arguments<'_>,
-    ) {
-        let mark = mark_of(rt, arguments);
-        let mut seat = shared.seat.lock(rt);
-        let number = seat.peer.page_number;
-        let opened = seat.peer.reopen(&mark, is_hidden(rt, arguments, number));
-        if let Err(fault) = opened {
-            seat.peer.end_by(Err(fault));
-        }
-        drop(seat);
-        shared.work.notify_all();
-        if let Ok(met) = opened {
-            self.judge(rt, shared, arguments, met);
-            if met == Meeting::Older {
-                thread::sleep(rt, Duration::from_millis(PAUSE));
-            }
+    drop(seat);
+    shared.work.notify_all();
+    if let Ok(met) = opened {
+        judge(rt, shared, arguments, comeback, met);
+        if met == Meeting::Older {
+            thread::sleep(rt, Duration::from_millis(PAUSE));
         }
     }
 }
@@ -238,11 +206,12 @@ fn come_back<R: PeerHost + Threads + Wait + Files<File = File> + AllocGlobal>(
     comeback: &mut Comeback,
 ) -> Result<(), PeerFault> {
     thread::sleep(rt, Duration::from_millis(PAUSE));
-    if comeback.lets_pass(rt, arguments) {
+    let is_pending = arguments.subcommand.is_attach() && is_beside(rt, arguments, ".pending");
+    if comeback.lets_pass(is_pending) {
         return Ok(());
     }
     let met = shared.begin(rt, &mark_of(rt, arguments));
-    comeback.judge(rt, shared, arguments, met);
+    judge(rt, shared, arguments, comeback, met);
     if met != Meeting::Same {
         return Ok(());
     }
@@ -282,12 +251,12 @@ pub fn wait<R: PeerHost + Threads + Wait + Files<File = File> + AllocGlobal, I: 
 ) -> PeerEnding {
     let began = Instant::now(rt).ok();
     let mut sources = sources;
-    let mut comeback = Comeback { held: 0, older: 0 };
+    let mut comeback = Comeback::new();
     for _ in rt.forever() {
         match look(rt, shared, began) {
             PeerTask::Wait | PeerTask::WaitShortly => {}
             PeerTask::Send => send(rt, shared),
-            PeerTask::Reopen => comeback.reopen(rt, shared, arguments),
+            PeerTask::Reopen => reopen(rt, shared, arguments, &mut comeback),
             PeerTask::Begin => {
                 // Input that is sent may end the server, so the first try comes before it.
                 let is_known = arguments.again == 0 || learn(rt, shared, arguments, 1);
