@@ -29,6 +29,10 @@ const VERSION: &[u8] = b"0.1.0";
 /// What is wrong with a trail's file.
 #[derive(Debug, Drop, Error)]
 pub enum JournalFault {
+    #[error("can't make it: no such folder: make its folder, or set another --trail")]
+    NoFolder,
+    #[error("can't make it: it is there already: set another --trail")]
+    Exists,
     #[error("can't make it: {0}: set another --trail")]
     NotMade(io::Error),
     /// Its disk is full.
@@ -58,6 +62,8 @@ impl JournalFault {
     // The fault of a file that can't be made.
     fn of_making(error: io::Error) -> JournalFault {
         match error.kind() {
+            ErrorKind::NotFound => JournalFault::NoFolder,
+            ErrorKind::AlreadyExists => JournalFault::Exists,
             ErrorKind::StorageFull | ErrorKind::QuotaExceeded => JournalFault::NoRoom(error),
             _ => JournalFault::NotMade(error),
         }
