@@ -43,13 +43,13 @@ pub presses_read : (old new : Peer) (t : Typing) (times : Timers) (typed : List 
 presses_read old new t times typed same p =
     let middle : Peer = record old { typing = record old.typing { leave = t.leave; reads = t.reads }; times = times } in
     let q : Presses middle new typed =
-        subst (λ (s : Typing). Presses (record old { typing = s; times = times }) new typed) same p in record {
+    subst (λ (s : Typing). Presses (record old { typing = s; times = times }) new typed) same p in record {
       sends = λ seat none. q.sends (record { client = seat.client; here = seat.here; shown = seat.shown }) none;
       follows = λ seat none fits.
           q.follows (record { client = seat.client; here = seat.here; shown = seat.shown }) none fits;
       assisted = λ seat is.
           let a : SendsAssisted middle new typed =
-              q.assisted (record { client = seat.client; here = seat.here; shown = seat.shown }) is in record {
+          q.assisted (record { client = seat.client; here = seat.here; shown = seat.shown }) is in record {
             sent = a.sent;
             frames = a.frames;
             assists = record { put = a.assists.put; added = a.assists.added; stands = a.assists.stands };

@@ -1,5 +1,5 @@
 -- What a peer does next.
-use Rattle.std.specs.Prelude.{◌≡◌, ◌⊎◌, ℕ, true, false, Some, None, IsSome}
+use Rattle.std.specs.Prelude.{◌≡◌, ◌⊎◌, true, false, None, IsSome}
 use Rattle.client_typing.specs.Following.{Rests}
 use Rattle.client_peer.specs.declared.looking.PeerTask.{PeerTask}
 use Rattle.client_peer.specs.declared.looking.PeerTask.TheVariants as task

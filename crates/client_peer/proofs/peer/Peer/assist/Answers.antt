@@ -1,5 +1,5 @@
 use Rattle.std.proofs.Common.{◌≡◌, refl, sym, inl, List, ℕ, subst}
-use Rattle.client_typing.specs.Assisting.{Assists, IsAssisted}
+use Rattle.client_typing.specs.Assisting.{Assists}
 use Rattle.client_typing.specs.declared.typing.Typing.{Typing}
 use Rattle.client_peer.specs.declared.peer.Peer.{Peer}
 use Rattle.client_peer.specs.Typing.{MayAsk}

@@ -1,4 +1,4 @@
-use Rattle.std.proofs.Common.{◌+◌, ◌∙◌, sym, arith}
+use Rattle.std.proofs.Common.{◌∙◌, sym, arith}
 use Rattle.client_peer.specs.Showing.{StopsAt}
 use Rattle.client_peer.proofs.Closing.{closed_same, closed_then}
 use Rattle.client_peer.proofs.Passing.{passes_same, passes_then, stops_then, on_err_given}

@@ -1,4 +1,4 @@
-use Rattle.std.proofs.Common.{rules, ℕ, List, Option, sym, subst}
+use Rattle.std.proofs.Common.{rules, true, ℕ, List, Option, sym, subst}
 use Rattle.client_words.specs.declared.leaving.LeaveReader.{LeaveReader}
 use Rattle.client_typing.specs.Following.{LetsThrough}
 use Rattle.client_peer.specs.declared.peer.Peer.{Peer}
@@ -11,7 +11,7 @@ returns c =
     let old : Peer = c.args.self.now in
     let new : Peer = c.press.new.self in
     let middle : Peer =
-        record old { typing = c.read.new.self; times = record c.args.self.now.times { has_typed = true } } in
+    record old { typing = c.read.new.self; times = record c.args.self.now.times { has_typed = true } } in
     record {
       typed = c.read.new.out.items;
       through =
