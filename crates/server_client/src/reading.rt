@@ -9,6 +9,7 @@ use crate::shared::{PeerSeat, SharedPeer, is_open};
 use attach_proto::{LONGEST, Why};
 use client_words::{PeerFault, RefusedPart};
 use std::alloc::Global;
+use std::fs::{File, Files};
 use std::io::{ErrorKind, Read};
 use std::os::unix::net::UnixStream;
 use std::sync::{Arc, Wait};
@@ -18,7 +19,7 @@ use std::time::Duration;
 const LOOK: u64 = 250;
 
 // Connects, and lends the connection to the other threads.
-fn connect<R: PeerHost + Wait>(
+fn connect<R: PeerHost + Wait + Files<File = File> + AllocGlobal>(
     rt: &R,
     shared: &SharedPeer,
     door: &Door,
@@ -107,7 +108,7 @@ fn wait_for_room<R: PeerHost + Wait>(rt: &R, shared: &SharedPeer, stream: &UnixS
 }
 
 // Reads until the connection ends. Returns how it did.
-fn read_all<R: PeerHost + Wait>(
+fn read_all<R: PeerHost + Wait + Files<File = File> + AllocGlobal>(
     rt: &R,
     shared: &SharedPeer,
     door: &Door,
@@ -127,7 +128,11 @@ fn read_all<R: PeerHost + Wait>(
 }
 
 /// Serves one connection, until it ends.
-pub fn serve<R: PeerHost + Wait>(rt: &R, shared: &SharedPeer, door: &Door) {
+pub fn serve<R: PeerHost + Wait + Files<File = File> + AllocGlobal>(
+    rt: &R,
+    shared: &SharedPeer,
+    door: &Door,
+) {
     let end = read_all(rt, shared, door);
     shared.seat.lock(rt).peer.end_by(end);
     shared.tell();

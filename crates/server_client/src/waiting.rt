@@ -2,16 +2,15 @@
 
 use crate::attach::Sources;
 use crate::ending::PeerEnding;
-use crate::opening::{Door, another_door};
+use crate::opening::{Door, another_door, mark_of};
 use crate::reading::serve;
 use crate::shared::{SharedPeer, start_thread};
 use crate::writing::send;
 use crate::{PeerHost, Source};
-use client_peer::{Comeback, Meeting, PeerTask, SessionMark};
+use client_peer::{Comeback, Meeting, PeerTask};
 use client_words::{Arguments, PeerFault};
 use std::alloc::Global;
 use std::fs::{File, Files};
-use std::os::unix::fs::MetadataExt;
 use std::sync::{Arc, Wait};
 use std::thread::Threads;
 use std::time::{Duration, Instant};
@@ -56,33 +55,6 @@ fn look<R: PeerHost + Wait>(rt: &R, shared: &SharedPeer, began: Option<Instant>)
     task
 }
 
-// What stands beside the socket about the session that is served there. A mark is made anew for each server, so one
-// that is older than the socket isn't this server's.
-fn mark_of<R: Files<File = File> + AllocGlobal>(rt: &R, arguments: &Arguments<'_>) -> SessionMark {
-    let mut mark = SessionMark {
-        name: Vec::new(rt.alloc()),
-        is_current: false,
-    };
-    if let Ok(path) = format!(in rt.alloc(); "{}.session", arguments.socket)
-        && let Ok(name) = fs::read(rt, path.as_str())
-    {
-        mark.name = name;
-        mark.is_current = is_as_new(rt, path.as_str(), arguments.socket);
-    }
-    mark
-}
-
-// Whether a file was written no earlier than another one.
-fn is_as_new<R: Files<File = File>>(rt: &R, path: &str, other: &str) -> bool {
-    match (fs::metadata(rt, path), fs::metadata(rt, other)) {
-        (Ok(it), Ok(other)) if it.mtime() == other.mtime() => {
-            it.mtime_nsec() >= other.mtime_nsec()
-        }
-        (Ok(it), Ok(other)) => it.mtime() > other.mtime(),
-        _ => false,
-    }
-}
-
 // Whether there is a file beside the socket: .again after a planned end of a server that starts again,
 // .pending while windows of the session before come back.
 fn is_beside<R: Files<File = File> + AllocGlobal>(
@@ -105,7 +77,7 @@ fn has_place<R: Files<File = File>>(rt: &R, arguments: &Arguments<'_>) -> bool {
 }
 
 /// Connects in a thread of its own, since that may take long.
-pub fn start<R: PeerHost + Threads + Wait>(
+pub fn start<R: PeerHost + Threads + Wait + Files<File = File> + AllocGlobal>(
     rt: &R,
     shared: &Arc<SharedPeer, Global>,
     door: Door,
@@ -162,7 +134,7 @@ fn reopen<R: PeerHost + Wait + Files<File = File> + AllocGlobal>(
     arguments: &Arguments<'_>,
     comeback: &mut Comeback,
 ) {
-    let mark = mark_of(rt, arguments);
+    let mark = mark_of(rt, arguments.socket);
     let mut seat = shared.seat.lock(rt);
     let number = seat.peer.page_number;
     let opened = seat.peer.reopen(&mark, is_hidden(rt, arguments, number));
@@ -188,7 +160,7 @@ fn learn<R: PeerHost + Wait + Files<File = File> + AllocGlobal>(
     tries: u32,
 ) -> bool {
     for _ in 0..tries {
-        let mark = mark_of(rt, arguments);
+        let mark = mark_of(rt, arguments.socket);
         if arguments.subcommand.is_attach() || mark.is_current || mark.name.is_empty() {
             shared.learn(rt, mark);
             return true;
@@ -210,7 +182,8 @@ fn come_back<R: PeerHost + Threads + Wait + Files<File = File> + AllocGlobal>(
     if comeback.lets_pass(is_pending) {
         return Ok(());
     }
-    let met = shared.begin(rt, &mark_of(rt, arguments));
+    let mark = mark_of(rt, arguments.socket);
+    let met = shared.begin(rt, &mark);
     judge(rt, shared, arguments, comeback, met);
     if met != Meeting::Same {
         return Ok(());
@@ -218,7 +191,7 @@ fn come_back<R: PeerHost + Threads + Wait + Files<File = File> + AllocGlobal>(
     let seat = shared.seat.lock(rt);
     let size = (seat.peer.rows, seat.peer.columns);
     drop(seat);
-    start(rt, shared, another_door(rt, arguments, size)?)
+    start(rt, shared, another_door(rt, arguments, size, mark.name)?)
 }
 
 // Asks whether the peer comes back after its connection has ended, and lets it.
