@@ -1,4 +1,6 @@
+pub mod Assisting
 pub mod Closing
 pub mod Handing
+pub mod Hearing
 pub mod Passing
 pub mod Sending

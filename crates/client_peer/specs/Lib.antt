@@ -1,6 +1,9 @@
 pub mod Ending
+pub mod Hearing
+pub mod Looking
 pub mod Meeting
 pub mod Showing
 pub mod Reopening
+pub mod Returning
 pub mod Sending
 pub mod Typing

@@ -4,6 +4,7 @@ use Rattle.attach_proto.specs.declared.kind.Kind.TheVariants.{Keys}
 use Rattle.attach_proto.specs.declared.message.Message.TheVariants.{Resize}
 use Rattle.attach_proto.specs.Spelling.{spelling}
 use Rattle.client_words.specs.declared.arguments.Subcommand.TheVariants.{Window}
+use Rattle.client_typing.specs.Assisting.{Assists}
 use Rattle.client_typing.specs.Fitting.{fit_keys}
 use Rattle.client_typing.specs.Following.{LetsThrough, Follows, Rests}
 use Rattle.client_peer.specs.declared.peer.Peer.{Peer}
@@ -16,12 +17,26 @@ pub record IsSeated (p : Peer) : Type 0 where
   pub here : p.loss ≡ None
   pub shown : p.is_helping ≡ false
 
+-- the page is asked for at most
+abbrev pub MayAsk : Peer → List ℕ → List ℕ → Type 0
+MayAsk p before after = (after ≡ before) ⊎ (after ≡ before ++ spelling (Resize p.rows p.columns))
+
+-- What a client with keys of its own makes of keys is put down whole and in order. When its view comes back to the
+-- end, the page is asked for.
+pub record SendsAssisted (old new : Peer) (typed : List ℕ) : Type 0 where
+  pub sent : List ℕ
+  pub frames : List ℕ
+  pub assists : Assists old.typing typed [] new.typing sent
+  pub sends : Sends old.frames.items frames Keys sent
+  pub asks : MayAsk old frames new.frames.items
+
 -- What a client's user types is put down whole and in order. With --fit it is followed, so that `fit` comes between
 -- two keys. While no server is there, it is dropped; while the help is shown, the page is asked for instead.
 pub record Presses (old new : Peer) (typed : List ℕ) : Type 0 where
   pub sends : IsSeated old → old.typing.assists ≡ false → Sends old.frames.items new.frames.items Keys typed
   pub follows : IsSeated old → old.typing.assists ≡ false → old.fits ≡ true
       → Follows old.typing.keys typed new.typing.keys
+  pub assisted : IsSeated old → old.typing.assists ≡ true → SendsAssisted old new typed
   pub lost : IsSome old.loss → new.frames ≡ old.frames
   pub helped : old.loss ≡ None → old.is_helping ≡ true
       → (new.is_helping ≡ false) × (new.frames.items ≡ old.frames.items ++ spelling (Resize old.rows old.columns))

@@ -11,6 +11,6 @@ mod taking;
 mod typing;
 
 pub use looking::PeerTask;
-pub use meeting::{Meeting, SessionMark};
+pub use meeting::{Comeback, Meeting, SessionMark};
 pub use outgoing::Batch;
 pub use peer::Peer;

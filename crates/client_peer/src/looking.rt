@@ -1,8 +1,10 @@
 //! What a peer does by itself, as time goes by.
 
-ghost use Rattle.std.specs.Prelude.{◌≡◌, ◌↔◌, true, false, IsSome, IsTrue};
+ghost use Rattle.std.specs.Prelude.{◌≡◌, ◌↔◌, true, false, None, IsSome, IsTrue, option_map, string_bytes};
+ghost use Rattle.client_peer.specs.Returning.{may_return, is_refused, is_unknown, ComesBack, AtLoss};
 ghost use Rattle.client_peer.specs.Sending.{HasServer};
 ghost use Rattle.client_peer.specs.Typing.{Fits};
+ghost use Rattle.client_peer.specs.Looking.{DoesNext, IsDue};
 
 use crate::notice::NoticeStage;
 use crate::peer::Peer;
@@ -89,21 +91,45 @@ pub enum PeerTask {
     End,
 }
 
+// Whether an end is one after which the server may come back.
+fn may_return(end: Result<Why, PeerFault>, is_planned: bool, is_refused: bool) -> bool
+    ensures { result ≡ may_return end is_planned is_refused }
+{
+    match end {
+        Ok(Why::Quit) => is_planned,
+        Ok(_) => false,
+        Err(PeerFault::Gone(Why::TrailFull)) => true,
+        Err(PeerFault::Gone(Why::Fault)) => is_refused,
+        Err(PeerFault::Ended | PeerFault::NoServer | PeerFault::NoToken | PeerFault::Refused(..)) =>
+            true,
+        Err(_) => false,
+    }
+}
+
 impl Peer {
     /// Looks at the time, in milliseconds, and says what is to be done next.
-    pub fn look(&mut self, now: u64) -> PeerTask {
+    pub fn look(&mut self, now: u64) -> PeerTask
+        ensures { DoesNext self.new result }
+    {
         self.look_at_leaving(now);
         if let Some(left) = self.times.left_at {
             return self.look_left(now, left);
         }
         self.look_at_loss(now);
+        if self.is_late(now) {
+            self.end_by(Err(PeerFault::NoAnswer));
+        }
         if self.end.is_some() {
             return self.look_at_end(now);
         }
-        if self.is_late(now) {
-            self.end_by(Err(PeerFault::NoAnswer));
-            return PeerTask::WaitShortly;
-        }
+        self.look_open(now)
+    }
+
+    // What is to be done while the connection is open.
+    fn look_open(&mut self, now: u64) -> PeerTask
+        requires { (self.old.end ≡ None) × (self.old.times.left_at ≡ None) }
+        ensures { DoesNext self.new result }
+    {
         if self.is_to_begin(now) {
             self.times.has_begun = true;
             return PeerTask::Begin;
@@ -149,7 +175,10 @@ impl Peer {
         }
     }
 
-    fn look_left(&self, now: u64, left: u64) -> PeerTask {
+    fn look_left(&self, now: u64, left: u64) -> PeerTask
+        requires { IsSome self.now.times.left_at }
+        ensures { DoesNext self.now result }
+    {
         if self.end.is_some() || self.is_lost() || now.saturating_sub(left) >= ANSWER {
             PeerTask::End
         } else if self.can_send() {
@@ -160,7 +189,9 @@ impl Peer {
     }
 
     // Gives up a server that doesn't come back in time.
-    fn look_at_loss(&mut self, now: u64) {
+    fn look_at_loss(&mut self, now: u64)
+        ensures { AtLoss self.old now self.new }
+    {
         let (again, waited) = (self.times.again, now.saturating_sub(self.times.lost_at));
         let gives_up = self.is_lost() && again < u16::MAX && waited >= u64::from(again) * 1000;
         self.is_final |= gives_up;
@@ -169,7 +200,10 @@ impl Peer {
         }
     }
 
-    fn look_at_end(&mut self, now: u64) -> PeerTask {
+    fn look_at_end(&mut self, now: u64) -> PeerTask
+        requires { IsSome self.old.end }
+        ensures { DoesNext self.new result }
+    {
         if !self.is_final {
             return PeerTask::Ask;
         }
@@ -201,7 +235,10 @@ impl Peer {
             && (self.is_welcome || self.typing.can_leave() && now >= WELCOME)
     }
 
-    fn look_at_notice(&mut self, now: u64) {
+    fn look_at_notice(&mut self, now: u64)
+        ensures lasts { (self.new.end ≡ self.old.end) × (self.new.times.left_at ≡ self.old.times.left_at) }
+        ensures reopening { self.new.is_reopening ≡ self.old.is_reopening }
+    {
         let has_typed = self.times.has_typed;
         self.times.has_typed = false;
         match self.notice.stage {
@@ -209,7 +246,8 @@ impl Peer {
             NoticeStage::New => self.notice.stage = NoticeStage::Due(now.saturating_add(HIDDEN)),
             NoticeStage::Due(at) if now >= at && !self.is_cut && !self.is_covered => {
                 self.notice.stage = NoticeStage::Shown(now);
-                let _ = self.put_notice();
+                self.notice.is_hidden = true;
+                self.keep_notice();
             }
             NoticeStage::Shown(at) if has_typed && now.saturating_sub(at) >= READ => {
                 self.notice.stage = NoticeStage::Nothing;
@@ -221,7 +259,9 @@ impl Peer {
 
     // Gives the window in focus its region's size, once the terminal's stays the same and the session waits for no key.
     fn look_at_fit(&mut self, now: u64)
-        ensures { Fits self.old self.new }
+        ensures fits { Fits self.old self.new }
+        ensures lasts { (self.new.end ≡ self.old.end) × (self.new.times.left_at ≡ self.old.times.left_at) }
+        ensures reopening { self.new.is_reopening ≡ self.old.is_reopening }
     {
         if !self.times.wants_fit || !self.is_welcome {
             return;
@@ -252,7 +292,9 @@ impl Peer {
     }
 
     // Whether something is to be done after a time, without news.
-    fn waits_for_time(&self) -> bool {
+    fn waits_for_time(&self) -> bool
+        ensures { IsDue self.now → result ≡ true }
+    {
         let has_notice = matches!(self.notice.stage, NoticeStage::New | NoticeStage::Due(_));
         let waits_for_input = self.typing.can_leave() && !self.times.has_begun;
         let is_asked = (self.subcommand.is_command() || self.subcommand.is_ping())
@@ -265,53 +307,49 @@ impl Peer {
             || self.is_lost()
     }
 
-    // Whether an end is one after which the server may come back. One that was planned is followed by another server. A
-    // peer that tries to come back may be refused for a while, but not for ever if it isn't known any more.
-    fn may_return(&self, end: Result<Why, PeerFault>, is_planned: bool) -> bool {
-        match end {
-            Ok(why) => why == Why::Quit && is_planned,
-            Err(PeerFault::Gone(Why::TrailFull)) => true,
-            Err(PeerFault::Gone(Why::Fault)) => !self.is_welcome && !self.is_unknown(),
-            Err(
-                PeerFault::Ended
-                | PeerFault::NoServer
-                | PeerFault::NoToken
-                | PeerFault::Refused(..),
-            ) => true,
-            Err(_) => false,
-        }
+    // Whether the server refused the peer, and may let it in later: not a client whose user isn't known any more.
+    fn is_refused(&self) -> bool
+        ensures { result ≡ is_refused self.now }
+    {
+        !self.is_welcome && !(self.subcommand.is_attach() && self.is_unknown())
     }
 
-    fn is_unknown(&self) -> bool {
-        matches!(&self.said, Some(said) if said.as_str().starts_with("unknown user"))
-            && self.subcommand.is_attach()
+    fn is_unknown(&self) -> bool
+        ensures { result ≡ is_unknown (option_map string_bytes self.now.said) }
+    {
+        match &self.said {
+            Some(said) => said.as_bytes().starts_with(b"unknown user".as_slice()),
+            None => false,
+        }
     }
 
     /// Decides whether the peer comes back, after its connection has ended: if the socket's folder is
     /// there, for some seconds from the first loss on. It says so once. Until then no server has a window.
     pub fn comes_back(&mut self, now: u64, is_planned: bool, has_place: bool) -> bool
+        ensures comes { ComesBack self.old now is_planned has_place result self.new }
         ensures leaves { result ≡ true → HasServer self.new → ⊥ }
-        ensures last { self.old.is_final ≡ true → result ≡ false }
     {
         let Some(end) = self.end else {
             return false;
         };
-        let may_return = has_place && self.may_return(end, is_planned);
+        let may_return = has_place && may_return(end, is_planned, self.is_refused());
         self.is_final |= self.times.again == 0 || !self.was_welcome || !may_return;
-        if !self.is_final && self.loss.is_none() {
+        if self.is_final {
+            return false;
+        }
+        if self.loss.is_none() {
             self.loss = Some(end);
             self.times.lost_at = now;
             self.tell_loss();
-        }
-        if self.is_final {
-            return false;
         }
         self.is_welcome = false;
         true
     }
 
     // Says on a client's terminal that its server is gone. CAN ends what may have been cut.
-    fn tell_loss(&mut self) {
+    fn tell_loss(&mut self)
+        ensures { self.new ≡ record self.old { bytes = self.new.bytes; notice = self.new.notice } }
+    {
         if !self.subcommand.is_attach() {
             return;
         }

@@ -1,6 +1,6 @@
 //! What a client writes to its terminal of its own: a line at the bottom, and its help.
 
-ghost use Rattle.std.specs.Prelude.{◌≡◌};
+ghost use Rattle.std.specs.Prelude.{◌≡◌, OnErr};
 ghost use Rattle.client_peer.specs.Meeting.{StaysClosed};
 ghost use Rattle.client_peer.specs.Showing.{Keeps};
 
@@ -15,6 +15,8 @@ use std::io::Write;
 pub struct Notice {
     pub text: Vec<u8>,
     pub stage: NoticeStage,
+    /// A draw came since the text was put down, and may have written over it.
+    pub is_hidden: bool,
 }
 
 /// A text is shown a moment after it came, so that a draw that comes with it doesn't hide it.
@@ -33,6 +35,7 @@ impl Notice {
         Notice {
             text: Vec::new(alloc),
             stage: NoticeStage::Nothing,
+            is_hidden: false,
         }
     }
 }
@@ -85,6 +88,7 @@ impl Peer {
     pub fn hear_later(&mut self, text: &str) -> Result<(), PeerFault>
         ensures keeps { Keeps self.old self.new }
         ensures closed { StaysClosed self.old self.new }
+        ensures same { self.new ≡ record self.old { notice = self.new.notice } }
     {
         let mut meaning = Vec::new(self.alloc);
         if self.typing.assists {
@@ -114,24 +118,41 @@ impl Peer {
         self.notice = Notice {
             text: visible,
             stage: NoticeStage::New,
+            is_hidden: false,
         };
         Ok(())
     }
 
     /// Puts the text down. The terminal's place and rendition are saved and restored (DECSC, DECRC), and
     /// reverse on this line is used by no draw.
-    pub fn put_notice(&mut self) -> Result<(), PeerFault> {
+    pub fn put_notice(&mut self) -> Result<(), PeerFault>
+        ensures err { OnErr result (Keeps self.old self.new) }
+        ensures same { self.new ≡ record self.old { bytes = self.new.bytes } }
+    {
         let columns = usize::from(self.columns).saturating_sub(1);
-        write!(self.bytes, "\x1b7\x1b[{};1H\x1b[0;7m", self.rows)?;
-        self.bytes
-            .extend_from_slice(cut(&self.notice.text, columns))?;
-        self.bytes.extend_from_slice(b"\x1b[m\x1b[K\x1b8")?;
-        Ok(())
+        let mut line = Vec::new(self.alloc);
+        write!(line, "\x1b7\x1b[{};1H\x1b[0;7m", self.rows)?;
+        line.extend_from_slice(cut(&self.notice.text, columns))?;
+        line.extend_from_slice(b"\x1b[m\x1b[K\x1b8")?;
+        self.put(&line)
+    }
+
+    /// Puts the text down again if a whole draw has come since it was shown, so that it is read until a key takes it
+    /// away.
+    pub fn keep_notice(&mut self)
+        ensures { self.new ≡ record self.old { bytes = self.new.bytes; notice = self.new.notice } }
+    {
+        let is_shown = matches!(self.notice.stage, NoticeStage::Shown(_));
+        if is_shown && self.notice.is_hidden && !self.is_cut && !self.is_covered {
+            // Without memory it comes with the next draw.
+            self.notice.is_hidden = self.put_notice().is_err();
+        }
     }
 
     /// Shows the help, unless a draw is half written. It consists of functions that draws use.
     pub fn help(&mut self) -> Result<(), PeerFault>
-        ensures { self.new.typing ≡ self.old.typing }
+        ensures typing { self.new.typing ≡ self.old.typing }
+        ensures frames { self.new.frames.items ≡ self.old.frames.items }
     {
         if self.is_cut || self.is_covered {
             return Ok(());

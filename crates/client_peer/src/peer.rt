@@ -4,7 +4,7 @@ ghost use Rattle.std.specs.Prelude.{◌≡◌, ◌↔◌, ◌++◌, [], false, t
 ghost use Rattle.attach_proto.specs.Spelling.{spelling};
 ghost use Rattle.draw_check.specs.Places.{place_after};
 ghost use Rattle.client_peer.specs.Ending.{ending_of};
-ghost use Rattle.client_peer.specs.Meeting.{Meets};
+ghost use Rattle.client_peer.specs.Meeting.{Meets, IsFresh};
 ghost use Rattle.client_peer.specs.Sending.{HasServer};
 ghost use Rattle.client_peer.specs.Showing.{BeginsAnew};
 ghost use Rattle.client_peer.specs.declared.meeting.Meeting.TheVariants.{Same};
@@ -146,6 +146,7 @@ impl Peer {
     pub fn begin(&mut self, mark: &SessionMark) -> Meeting
         ensures meets { Meets self.old mark.now result }
         ensures begins { result ≡ Same → BeginsAnew self.old self.new }
+        ensures fresh { result ≡ Same → IsFresh self.old self.new }
         ensures leaves { result ≡ Same → HasServer self.new → ⊥ }
         ensures stays { (result ≡ Same → ⊥) → self.new ≡ self.old }
     {
@@ -158,6 +159,7 @@ impl Peer {
 
     fn begin_anew(&mut self)
         ensures begins { BeginsAnew self.old self.new }
+        ensures fresh { IsFresh self.old self.new }
         ensures leaves { HasServer self.new → ⊥ }
     {
         self.cut_off();
@@ -178,7 +180,12 @@ impl Peer {
 
     // Puts down CAN if something was drawn.
     fn cut_off(&mut self)
-        ensures { BeginsAnew self.old self.new }
+        ensures begins { BeginsAnew self.old self.new }
+        ensures same { self.new ≡ record self.old {
+          bytes = self.new.bytes;
+          draws = self.new.draws;
+          has_drawn = self.new.has_drawn;
+        } }
     {
         if self.has_drawn && self.bytes.push(0x18).is_ok() {
             self.draws = DrawCheck::new();

@@ -1,9 +1,12 @@
 //! Sorts the messages that come from the server.
 
-ghost use Rattle.std.specs.Prelude.{◌≡◌, ◌++◌, [], Ok, Err, Some, OnOk, OnErr, IfOk};
+ghost use Rattle.std.specs.Prelude.{◌≡◌, ◌++◌, ◌∷◌, ◌||◌, [], Ok, Err, Some, None, true, false, OnOk, OnErr, IfOk};
 ghost use Rattle.client_words.specs.declared.arguments.Subcommand.TheVariants.{Attach, Ping};
+ghost use Rattle.client_words.specs.Visible.{visible};
 ghost use Rattle.client_words.specs.declared.fault.PeerFault.TheVariants.{Ended};
 ghost use Rattle.client_peer.specs.Ending.{end_for};
+ghost use Rattle.client_peer.specs.Hearing.{Shows, Says, LetsIn, Delivers, Hears, HearsFirst};
+ghost use Rattle.client_peer.specs.Hearing.{HearsRead, gone_in};
 ghost use Rattle.client_peer.specs.Meeting.{Meets, Opens, StaysClosed};
 ghost use Rattle.client_peer.specs.Showing.{Keeps, Adds, PassesOn, StopsAt};
 ghost use Rattle.client_peer.specs.declared.meeting.Meeting.TheVariants.{Same};
@@ -30,7 +33,7 @@ fn ended(subcommand: Subcommand, why: Why) -> Result<Why, PeerFault>
 }
 
 impl Peer {
-    fn put(&mut self, bytes: &[u8]) -> Result<(), PeerFault>
+    pub(crate) fn put(&mut self, bytes: &[u8]) -> Result<(), PeerFault>
         ensures ok { OnOk result (Adds self.old self.new bytes.now) }
         ensures err { OnErr result (Keeps self.old self.new) }
         ensures same { self.new ≡ record self.old { bytes = self.new.bytes } }
@@ -58,6 +61,7 @@ impl Peer {
         ensures ok { OnOk result (PassesOn self.old self.new) }
         ensures err { OnErr result (StopsAt self.old self.new) }
         ensures closed { StaysClosed self.old self.new }
+        ensures shows { OnOk result (Shows self.old.is_covered self.old bytes.now self.new) }
     {
         if self.is_covered {
             self.pass_over(bytes.len() == LONGEST);
@@ -71,15 +75,22 @@ impl Peer {
     fn note_cut(&mut self, is_cut: bool)
         ensures keeps { Keeps self.old self.new }
         ensures closed { StaysClosed self.old self.new }
+        ensures same { self.new ≡ record self.old {
+          is_cut = is_cut;
+          has_drawn = true;
+          notice = record self.old.notice { is_hidden = true };
+        } }
     {
         self.is_cut = is_cut;
         self.has_drawn = true;
+        self.notice.is_hidden = true;
     }
 
     // Leaves out a draw, or the first part of one.
     fn pass_over(&mut self, is_cut: bool)
         ensures keeps { Keeps self.old self.new }
         ensures closed { StaysClosed self.old self.new }
+        ensures same { self.new ≡ record self.old { is_cut = is_cut; is_covered = is_cut || self.old.is_helping } }
     {
         self.is_cut = is_cut;
         self.is_covered = is_cut || self.is_helping;
@@ -96,7 +107,8 @@ impl Peer {
     }
 
     fn put_line(&mut self, line: &str) -> Result<(), PeerFault>
-        ensures { self.new ≡ record self.old { bytes = self.new.bytes } }
+        ensures added { OnOk result (self.new.bytes.items ≡ self.old.bytes.items ++ (visible line.now ++ 0x0A ∷ [])) }
+        ensures same { self.new ≡ record self.old { bytes = self.new.bytes } }
     {
         put_visible(line.as_bytes(), &mut self.bytes)?;
         self.put(b"\n")
@@ -108,6 +120,7 @@ impl Peer {
         ensures subcommand { self.new.subcommand ≡ self.old.subcommand }
         ensures keeps { self.old.subcommand ≡ Attach → Keeps self.old self.new }
         ensures closed { StaysClosed self.old self.new }
+        ensures says { OnOk result (Says false self.old text.now self.new) }
     {
         if self.subcommand.is_command() {
             self.put_line(text)?;
@@ -121,6 +134,7 @@ impl Peer {
     fn welcome(&mut self) -> Result<(), PeerFault>
         ensures keeps { Keeps self.old self.new }
         ensures closed { StaysClosed self.old self.new }
+        ensures lets { OnOk result (LetsIn self.old.subcommand self.old.is_welcome self.old self.new) }
     {
         if self.is_welcome || self.subcommand.is_command() {
             return Ok(());
@@ -171,6 +185,12 @@ impl Peer {
     fn resize_window(&mut self, rows: u16, columns: u16) -> Result<(), PeerFault>
         ensures keeps { Keeps self.old self.new }
         ensures closed { StaysClosed self.old self.new }
+        ensures same { self.new ≡ record self.old {
+          rows = rows;
+          columns = columns;
+          page = self.new.page;
+          sizes = self.new.sizes;
+        } }
     {
         // Without memory for it no page is kept.
         let _ = self.page.resize(rows, columns);
@@ -183,6 +203,7 @@ impl Peer {
         ensures ok { OnOk result (PassesOn self.old self.new) }
         ensures err { OnErr result (StopsAt self.old self.new) }
         ensures closed { StaysClosed self.old self.new }
+        ensures delivers { OnOk result (Delivers self.old message.now self.new) }
     {
         match message {
             Message::Draw(bytes) if self.subcommand.is_attach() => self.show(bytes.as_slice()),
@@ -209,6 +230,7 @@ impl Peer {
         ensures ok { OnOk result (PassesOn self.old self.new) }
         ensures err { OnErr result (StopsAt self.old self.new) }
         ensures closed { StaysClosed self.old self.new }
+        ensures hears { IfOk result (λ gone. Hears self.old message.now self.new × (gone ≡ gone_in message.now)) }
     {
         self.put_message(message)?;
         // A command is never let in here, so it hears each text.
@@ -234,6 +256,8 @@ impl Peer {
         ensures ok { OnOk result (PassesOn self.old self.new) }
         ensures err { OnErr result (StopsAt self.old self.new) }
         ensures closed { StaysClosed self.old self.new }
+        ensures hears { IfOk result (λ gone. HearsFirst self.old messages.now gone self.new) }
+        ensures fed { IfOk result (λ gone. gone ≡ None → fed ≡ Ok tt) }
     {
         for message in messages {
             if let Some(why) = self.take(alloc, message)? {
@@ -266,6 +290,8 @@ impl Peer {
         ensures err { OnErr result (StopsAt self.old self.new) }
         ensures closed { StaysClosed self.old self.new }
         ensures ends { (self.old.subcommand ≡ Ping → ⊥) → bytes.now ≡ [] → result ≡ Ok (Some (Err Ended)) }
+        ensures hears { (self.old.subcommand ≡ Ping → ⊥) → (bytes.now ≡ [] → ⊥)
+            → IfOk result (HearsRead self.old reader.old bytes.now self.new reader.new) }
     {
         // Any answer to `mux ping` shows that there is a server.
         if matches!(self.subcommand, Subcommand::Ping) {

@@ -1,7 +1,7 @@
 //! What is typed or printed, on its way to the server.
 
 ghost use Rattle.std.specs.Prelude.{◌≡◌, OnOk};
-ghost use Rattle.client_peer.specs.Typing.{TypesIn, Presses};
+ghost use Rattle.client_peer.specs.Typing.{TypesIn, Presses, SendsAssisted, MayAsk};
 
 use crate::notice::NoticeStage;
 use crate::peer::Peer;
@@ -61,7 +61,8 @@ impl Peer {
 
     // Takes keys of a client that has its own.
     fn assist(&mut self, keys: &[u8]) -> Result<(), PeerFault>
-        ensures { self.new.typing.leave ≡ self.old.typing.leave }
+        ensures leave { self.new.typing.leave ≡ self.old.typing.leave }
+        ensures sends { OnOk result (SendsAssisted self.old self.new keys.now) }
     {
         let mut out = Vec::new(self.alloc);
         let page = self.rows.saturating_sub(3);
@@ -80,7 +81,8 @@ impl Peer {
 
     // Says how to come back.
     fn tell_scrolled(&mut self) -> Result<(), PeerFault>
-        ensures { self.new.typing ≡ self.old.typing }
+        ensures typing { self.new.typing ≡ self.old.typing }
+        ensures asks { OnOk result (MayAsk self.old self.old.frames.items self.new.frames.items) }
     {
         let back = self.typing.back;
         if back == 0 {

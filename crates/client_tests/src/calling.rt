@@ -13,9 +13,6 @@ use std::sync::Wait;
 use std::thread::Threads;
 use std::time::Clock;
 
-/// The status of a call that couldn't be made.
-pub const NO_CALL: u8 = 255;
-
 /// A runtime with what a server and its peers ask for, except to wait and to start threads.
 pub trait Stage: Net
     + Connects
@@ -51,28 +48,27 @@ fn owned(alloc: Global, words: &[&str]) -> Result<Vec<String>, AllocError> {
     Ok(all)
 }
 
-/// Runs `mux` with these arguments, and returns its status. Its errors are dropped.
-pub fn mux<R: Stage + Threads + Wait>(
-    rt: &R,
-    words: &[&str],
-    input: UnixStream,
-    output: UnixStream,
-) -> u8 {
-    let mut errors: Vec<u8> = Vec::new(rt.alloc());
-    match owned(rt.alloc(), words) {
-        Ok(words) => client(rt, words.as_slice(), input, output, &mut errors),
-        Err(_) => NO_CALL,
-    }
+/// A call of `mux`, after its end.
+#[derive(Drop)]
+pub struct Call {
+    pub status: u8,
+    /// Its standard output.
+    pub output: Line,
+    /// Its standard error.
+    pub errors: Vec<u8>,
 }
 
-/// Runs `mux` with these arguments and with this input. Returns its status and its standard output.
-pub fn answer<R: Stage + Threads + Wait>(
-    rt: &R,
-    words: &[&str],
-    typed: &[u8],
-) -> io::Result<(u8, Line)> {
+/// Runs `mux` with these arguments and with this input.
+pub fn answer<R: Stage + Threads + Wait>(rt: &R, words: &[&str], typed: &[u8]) -> io::Result<Call> {
     let (mut keys, input) = Line::new(rt)?;
     let (line, output) = Line::new(rt)?;
     keys.send(typed)?;
-    Ok((mux(rt, words, input, output), line))
+    let words = owned(rt.alloc(), words)?;
+    let mut errors = Vec::new(rt.alloc());
+    let status = client(rt, words.as_slice(), input, output, &mut errors);
+    Ok(Call {
+        status,
+        output: line,
+        errors,
+    })
 }

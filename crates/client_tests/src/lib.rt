@@ -6,4 +6,6 @@ mod calling;
 #[cfg(test)]
 mod line;
 #[cfg(test)]
+mod table;
+#[cfg(test)]
 mod talks;

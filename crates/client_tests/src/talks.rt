@@ -1,7 +1,11 @@
-//! Talks of `mux` with a server. The frames are those of muxd(8), The protocol.
+//! Plays the talks of `mux` with a server.
 
-use crate::calling::{NO_CALL, Stage, answer, write_file};
+use crate::calling::{Stage, answer, write_file};
 use crate::line::has;
+use crate::table::{
+    AGAIN, ASSISTED, ATTACH, COMMAND, MISTAKES, Peer, RESTORING, SESSION, SOCKET, STAYING, TALKS,
+    TOKEN, TOKEN_TEXT, Talk, UNMARKED, WINDOW,
+};
 use std::io::{Read, Write};
 use std::net::Shutdown;
 use std::os::unix::net::{UnixListener, UnixStream};
@@ -9,238 +13,6 @@ use std::sync::Wait;
 use std::thread::Threads;
 use std::time::Duration;
 use std::{fs, io, thread};
-
-const SOCKET: &str = "client_tests.socket";
-
-const TOKEN: &str = "client_tests.token";
-
-/// What names the session, and the windows that mustn't tell their page.
-const SESSION: &str = "client_tests.socket.session";
-
-const RESTORING: &str = "client_tests.socket.restoring";
-
-const TOKEN_TEXT: &[u8] = b"0000000000000000000000000000000000000000000000000000000000000000
-";
-
-static ATTACH: [&str; 12] = [
-    "mux", "attach", "--socket", SOCKET, "--user", "own", "--token", TOKEN, "--rows", "24",
-    "--cols", "80",
-];
-
-static ASSISTED: [&str; 14] = [
-    "mux", "attach", "--socket", SOCKET, "--user", "own", "--token", TOKEN, "--rows", "24",
-    "--cols", "80", "--assist", "--fit",
-];
-
-static AGAIN: [&str; 14] = [
-    "mux", "attach", "--socket", SOCKET, "--user", "own", "--token", TOKEN, "--rows", "24",
-    "--cols", "80", "--again", "5",
-];
-
-static STAYING: [&str; 16] = [
-    "mux", "window", "--socket", SOCKET, "--user", "own", "--token", TOKEN, "--rows", "24",
-    "--cols", "80", "--title", "sh", "--stay", "5",
-];
-
-static WINDOW: [&str; 14] = [
-    "mux", "window", "--socket", SOCKET, "--user", "own", "--token", TOKEN, "--rows", "24",
-    "--cols", "80", "--title", "sh",
-];
-
-static COMMAND: [&str; 9] = [
-    "mux", "command", "--socket", SOCKET, "--user", "own", "--token", TOKEN, "windows",
-];
-
-static UNFINISHED: [&str; 4] = ["mux", "command", "--socket", SOCKET];
-
-/// The peer that `mux` is.
-#[derive(Clone, Copy)]
-enum Peer {
-    Client,
-    /// With keys of its own and --fit.
-    Assisted,
-    /// It comes back, after a server that goes at once.
-    Again,
-    Window,
-    /// A window that would come back.
-    Staying,
-    /// The same, after its program has printed something.
-    Telling,
-    Command,
-}
-
-/// A talk: what `mux` reads, and what the server sends first, waits for, and sends then.
-#[derive(Clone, Copy)]
-struct Talk {
-    peer: Peer,
-    typed: &'static [u8],
-    first: &'static [u8],
-    awaited: &'static [u8],
-    last: &'static [u8],
-    status: u8,
-    written: &'static [u8],
-    /// What must not be written.
-    kept_back: &'static [u8],
-}
-
-static TALKS: [Talk; 13] = [
-    // A client: its keys are sent, and a draw is written.
-    Talk {
-        peer: Peer::Client,
-        typed: b"typed",
-        first: b"y\0\x01\0",
-        awaited: b"K\0\x05typed",
-        last: b"d\0\x06\x1b[Hyesg\0\x01\x04",
-        status: 0,
-        written: b"\x1b[Hyes",
-        kept_back: b"g\0",
-    },
-    // Nothing is written of a draw that sets the title.
-    Talk {
-        peer: Peer::Client,
-        typed: b"",
-        first: b"y\0\x01\0d\0\x0ebad\x1b]0;title\x07x",
-        awaited: b"A\0G",
-        last: b"g\0\x01\0",
-        status: 1,
-        written: b"",
-        kept_back: b"bad",
-    },
-    // Nor of one that begins in one frame and ends in another.
-    Talk {
-        peer: Peer::Client,
-        typed: b"",
-        first: b"y\0\x01\0d\0\x05good\x1bd\0\x02]0d\0\x03;t\x07",
-        awaited: b"A\0G",
-        last: b"g\0\x01\0",
-        status: 1,
-        written: b"",
-        kept_back: b"]0",
-    },
-    // The user was removed.
-    Talk {
-        peer: Peer::Client,
-        typed: b"",
-        first: b"y\0\x01\0",
-        awaited: b"A\0G",
-        last: b"g\0\x01\x01",
-        status: 1,
-        written: b"",
-        kept_back: b"",
-    },
-    // A window: what its program prints is sent, and what is typed there is written.
-    Talk {
-        peer: Peer::Window,
-        typed: b"printed",
-        first: b"y\0\x01\0",
-        awaited: b"O\0\x07printed",
-        last: b"i\0\x05typedg\0\x01\x03",
-        status: 0,
-        written: b"typed",
-        kept_back: b"g\0",
-    },
-    // A window that isn't let in.
-    Talk {
-        peer: Peer::Window,
-        typed: b"",
-        first: b"s\0\x08bad size",
-        awaited: b"W\0",
-        last: b"g\0\x01\x06",
-        status: 1,
-        written: b"",
-        kept_back: b"bad",
-    },
-    // C-a ? shows the keys, and isn't sent.
-    Talk {
-        peer: Peer::Assisted,
-        typed: b"x\x01?",
-        first: b"y\0\x01\0",
-        awaited: b"K\0\x01x",
-        last: b"d\0\x06hiddeng\0\x01\x04",
-        status: 0,
-        written: b"Any key comes back.",
-        kept_back: b"hidden",
-    },
-    // The window gets the terminal's size.
-    Talk {
-        peer: Peer::Assisted,
-        typed: b"",
-        first: b"y\0\x01\0",
-        awaited: b"K\0\x06\x01:fit\x0d",
-        last: b"g\0\x01\x04",
-        status: 0,
-        written: b"",
-        kept_back: b"",
-    },
-    // A client comes back when its server has gone. The next one doesn't end a function that the first
-    // one began.
-    Talk {
-        peer: Peer::Again,
-        typed: b"",
-        first: b"y\0\x01\0",
-        awaited: b"A\0G",
-        last: b"d\0\x051000hg\0\x01\x04",
-        status: 0,
-        written: b"\x181000h",
-        kept_back: b"?1000h",
-    },
-    // So does a window, once it knows its session. The next server is told its page.
-    Talk {
-        peer: Peer::Telling,
-        typed: b"printed",
-        first: b"y\0\x01\0",
-        awaited: b"printed\x1bE\x1bE",
-        last: b"i\0\x05typedg\0\x01\x03",
-        status: 0,
-        written: b"typed",
-        kept_back: b"g\0",
-    },
-    // A command: what is said is written, a text a line.
-    Talk {
-        peer: Peer::Command,
-        typed: b"",
-        first: b"y\0\x01\0s\0\x03ones\0\x03two",
-        awaited: b"C\0L",
-        last: b"g\0\x01\0",
-        status: 0,
-        written: b"one\ntwo\n",
-        kept_back: b"g\0",
-    },
-    // A command that is refused.
-    Talk {
-        peer: Peer::Command,
-        typed: b"",
-        first: b"y\0\x01\0s\0\x09no window",
-        awaited: b"C\0L",
-        last: b"g\0\x01\x06",
-        status: 1,
-        written: b"no window\n",
-        kept_back: b"g\0",
-    },
-    // A command writes no draw.
-    Talk {
-        peer: Peer::Command,
-        typed: b"",
-        first: b"y\0\x01\0d\0\x03bad",
-        awaited: b"C\0L",
-        last: b"g\0\x01\0",
-        status: 1,
-        written: b"",
-        kept_back: b"bad",
-    },
-];
-
-// A window that stays, whose server has no mark.
-static UNMARKED: Talk = Talk {
-    peer: Peer::Staying,
-    typed: b"",
-    first: b"y\0\x01\0",
-    awaited: b"W\0",
-    last: b"",
-    status: 1,
-    written: b"",
-    kept_back: b"",
-};
 
 // Reads until these bytes came. Returns whether they came.
 fn awaits(stream: &mut UnixStream, came: &mut Vec<u8>, bytes: &[u8]) -> io::Result<bool> {
@@ -305,7 +77,7 @@ fn serve<R: Stage>(rt: &R, listener: &UnixListener, talk: Talk) -> io::Result<bo
 
 // Whether `mux` ends with the status, and has written what it must write.
 fn call<R: Stage + Threads + Wait>(rt: &R, talk: Talk) -> io::Result<bool> {
-    let (status, mut output) = match talk.peer {
+    let mut came = match talk.peer {
         Peer::Client => answer(rt, &ATTACH, talk.typed)?,
         Peer::Assisted => answer(rt, &ASSISTED, talk.typed)?,
         Peer::Again => answer(rt, &AGAIN, talk.typed)?,
@@ -313,9 +85,18 @@ fn call<R: Stage + Threads + Wait>(rt: &R, talk: Talk) -> io::Result<bool> {
         Peer::Window => answer(rt, &WINDOW, talk.typed)?,
         Peer::Command => answer(rt, &COMMAND, talk.typed)?,
     };
-    let has_written = output.is_sent(talk.written)?;
-    let keeps_back = talk.kept_back.is_empty() || !output.has_sent(talk.kept_back)?;
-    Ok(status == talk.status && has_written && keeps_back)
+    let has_written = came.output.is_sent(talk.written)?;
+    let keeps_back = talk.kept_back.is_empty() || !came.output.has_sent(talk.kept_back)?;
+    let has_told = has(&came.errors, talk.told);
+    Ok(came.status == talk.status && has_written && keeps_back && has_told)
+}
+
+// Whether `mux` refuses these arguments, and says so.
+fn is_refused<R: Stage + Threads + Wait>(rt: &R, words: &[&str], told: &[u8]) -> bool {
+    match answer(rt, words, b"") {
+        Ok(came) => came.status == 2 && came.errors.starts_with(told),
+        Err(_) => false,
+    }
 }
 
 // Whether both sides of a talk went as they must.
@@ -357,14 +138,13 @@ fn talks_go_as_they_must(rt: HostRuntime) {
             wrong = Some(place);
         }
     }
-    let status = match answer(&rt, &UNFINISHED, b"") {
-        Ok((status, _)) => status,
-        Err(_) => NO_CALL,
-    };
+    let mistakes = MISTAKES
+        .iter()
+        .all(|(words, told)| is_refused(&rt, words, told));
     for path in [TOKEN, SESSION, RESTORING, SOCKET] {
         let _ = fs::remove_file(&rt, path);
     }
     assert!(rt; matches!(unmarked, (Ok(()), Ok(true))));
     assert_eq!(rt; wrong, None);
-    assert_eq!(rt; status, 2);
+    assert!(rt; mistakes);
 }

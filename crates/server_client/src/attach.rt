@@ -87,9 +87,9 @@ pub fn client<
     match run(rt, &arguments, input, output) {
         Ok(ending) => tell_end(rt.alloc(), &ending, &arguments, errors),
         Err(fault) => {
-            let status = tell_fault(fault, &arguments, errors);
+            tell_fault(fault, &arguments, errors);
             tell_unseen(&arguments, errors);
-            status
+            fault.status()
         }
     }
 }

@@ -1,8 +1,11 @@
 //! The end of a peer, and the messages about it.
 
+ghost use Rattle.std.specs.Prelude.{◌≡◌};
+ghost use Rattle.client_words.specs.Ending.{status_after};
+
 use attach_proto::Why;
 use client_peer::Peer;
-use client_words::{Arguments, PeerFault, ToldFault, explain, gone, put_visible};
+use client_words::{Arguments, PeerFault, ToldFault, explain, gone, put_visible, status_after};
 use std::alloc::Global;
 use std::io::Write;
 
@@ -44,10 +47,9 @@ fn tell_said<E: Write>(alloc: Global, said: &str, arguments: &Arguments<'_>, err
     let _ = writeln!(errors);
 }
 
-/// Prints a fault. Returns the exit status.
-pub fn tell_fault<E: Write>(fault: PeerFault, arguments: &Arguments<'_>, errors: &mut E) -> u8 {
+/// Prints a fault.
+pub fn tell_fault<E: Write>(fault: PeerFault, arguments: &Arguments<'_>, errors: &mut E) {
     let _ = writeln!(errors, "mux: {}", ToldFault { fault, arguments });
-    fault.status()
 }
 
 // Prints, with `--why`, how a client left.
@@ -71,7 +73,9 @@ pub fn tell_end<E: Write>(
     ending: &PeerEnding,
     arguments: &Arguments<'_>,
     errors: &mut E,
-) -> u8 {
+) -> u8
+    ensures { result ≡ status_after ending.now.has_left ending.now.end }
+{
     if ending.has_dropped {
         let _ = writeln!(
             errors,
@@ -79,7 +83,7 @@ pub fn tell_end<E: Write>(
             arguments.sizes.unwrap_or("--sizes")
         );
     }
-    let status = tell_cause(alloc, ending, arguments, errors);
+    tell_cause(alloc, ending, arguments, errors);
     if ending.is_unsure {
         let _ = writeln!(
             errors,
@@ -90,7 +94,7 @@ pub fn tell_end<E: Write>(
     if !ending.was_welcome {
         tell_unseen(arguments, errors);
     }
-    status
+    status_after(ending.has_left, ending.end)
 }
 
 /// Prints, with `--why`, that a client drew nothing.
@@ -100,26 +104,23 @@ pub fn tell_unseen<E: Write>(arguments: &Arguments<'_>, errors: &mut E) {
     }
 }
 
-// Prints why a peer ended. Returns the exit status.
+// Prints why a peer ended.
 fn tell_cause<E: Write>(
     alloc: Global,
     ending: &PeerEnding,
     arguments: &Arguments<'_>,
     errors: &mut E,
-) -> u8 {
+) {
     if ending.has_left {
-        tell_left(ending, arguments, errors);
-        return 0;
+        return tell_left(ending, arguments, errors);
     }
     match (ending.end, &ending.said) {
         (Ok(why), _) if arguments.why => {
             let _ = writeln!(errors, "mux: {}", gone(why));
-            0
         }
-        (Ok(_), _) => 0,
+        (Ok(_), _) => {}
         (Err(PeerFault::Gone(Why::Fault)), Some(said)) => {
             tell_said(alloc, said.as_str(), arguments, errors);
-            1
         }
         (Err(fault), _) => tell_fault(fault, arguments, errors),
     }

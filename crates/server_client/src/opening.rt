@@ -2,6 +2,7 @@
 
 use crate::PeerHost;
 use attach_proto::Token;
+use client_peer::SessionMark;
 use client_words::{Arguments, PeerFault, RefusedPart, Subcommand};
 use std::alloc::Global;
 use std::fs::{File, OpenOptions};
@@ -119,6 +120,33 @@ fn sizes_of<R: fs::Files<File = File>>(
     Ok(files)
 }
 
+/// What stands beside the socket about the session that is served there. A mark is made anew for each server, so one
+/// that is older than the socket isn't this server's.
+pub fn mark_of<R: fs::Files<File = File> + AllocGlobal>(rt: &R, socket: &str) -> SessionMark {
+    let mut mark = SessionMark {
+        name: Vec::new(rt.alloc()),
+        is_current: false,
+    };
+    if let Ok(path) = format!(in rt.alloc(); "{socket}.session")
+        && let Ok(name) = fs::read(rt, path.as_str())
+    {
+        mark.name = name;
+        mark.is_current = is_as_new(rt, path.as_str(), socket);
+    }
+    mark
+}
+
+// Whether a file was written no earlier than another one.
+fn is_as_new<R: fs::Files<File = File>>(rt: &R, path: &str, other: &str) -> bool {
+    match (fs::metadata(rt, path), fs::metadata(rt, other)) {
+        (Ok(it), Ok(other)) if it.mtime() == other.mtime() => {
+            it.mtime_nsec() >= other.mtime_nsec()
+        }
+        (Ok(it), Ok(other)) => it.mtime() > other.mtime(),
+        _ => false,
+    }
+}
+
 /// The socket to connect to, and the first frame to send.
 #[derive(Drop)]
 pub struct Door {
@@ -128,6 +156,8 @@ pub struct Door {
     can_leave: bool,
     /// How long to wait between the connection and the first frame, in milliseconds.
     grace: u64,
+    /// The session that a window comes back to; empty for all others.
+    session: Vec<u8>,
 }
 
 impl Door {
@@ -144,10 +174,26 @@ impl Door {
         Ok(())
     }
 
-    /// Makes the connection.
-    pub fn open(&self, rt: &impl PeerHost) -> Result<UnixStream, PeerFault> {
+    // Whether the server that made the socket has the session that is wanted. The socket may be another one's since the
+    // mark beside it was read.
+    fn is_wanted<R: fs::Files<File = File> + AllocGlobal>(&self, rt: &R) -> bool {
+        if self.session.is_empty() {
+            return true;
+        }
+        let mark = mark_of(rt, self.socket.as_str());
+        mark.is_current && mark.name.as_slice() == self.session.as_slice()
+    }
+
+    /// Makes the connection. A window that comes back shows itself to no other session.
+    pub fn open<R: PeerHost + fs::Files<File = File> + AllocGlobal>(
+        &self,
+        rt: &R,
+    ) -> Result<UnixStream, PeerFault> {
         match rt.reach(self.socket.as_str()) {
             Ok(stream) => {
+                if !self.is_wanted(rt) {
+                    return Err(PeerFault::NoServer);
+                }
                 thread::sleep(rt, Duration::from_millis(self.grace));
                 match self.begin(&stream) {
                     Ok(()) => Ok(stream),
@@ -184,14 +230,16 @@ fn door_for<R: fs::Files<File = File> + AllocGlobal>(
         socket: String::from_str(rt.alloc(), arguments.socket)?,
         can_leave: arguments.leave.is_some(),
         grace: 0,
+        session: Vec::new(rt.alloc()),
     })
 }
 
-/// A door to come back by, with the token as it is now, and this size.
+/// A door to come back to this session by, with the token as it is now, and this size.
 pub fn another_door<R: fs::Files<File = File> + AllocGlobal>(
     rt: &R,
     arguments: &Arguments<'_>,
     (rows, columns): (u16, u16),
+    session: Vec<u8>,
 ) -> Result<Door, PeerFault> {
     let mut arguments = *arguments;
     arguments.rows = rows;
@@ -199,6 +247,9 @@ pub fn another_door<R: fs::Files<File = File> + AllocGlobal>(
     let mut door = door_for(rt, &arguments)?;
     if arguments.subcommand.is_attach() {
         door.grace = GRACE;
+    }
+    if arguments.subcommand.is_window() {
+        door.session = session;
     }
     Ok(door)
 }

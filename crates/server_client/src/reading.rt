@@ -1,11 +1,15 @@
 //! Connects, and reads what the server sends.
 
+ghost use Rattle.std.specs.Prelude.{◌≡◌, ◌++◌, ℕ, List, OnOk};
+ghost use Rattle.std.specs.Io.KnownBytes.{Consumes};
+
 use crate::PeerHost;
 use crate::opening::Door;
 use crate::shared::{PeerSeat, SharedPeer, is_open};
 use attach_proto::{LONGEST, Why};
 use client_words::{PeerFault, RefusedPart};
 use std::alloc::Global;
+use std::fs::{File, Files};
 use std::io::{ErrorKind, Read};
 use std::os::unix::net::UnixStream;
 use std::sync::{Arc, Wait};
@@ -15,7 +19,7 @@ use std::time::Duration;
 const LOOK: u64 = 250;
 
 // Connects, and lends the connection to the other threads.
-fn connect<R: PeerHost + Wait>(
+fn connect<R: PeerHost + Wait + Files<File = File> + AllocGlobal>(
     rt: &R,
     shared: &SharedPeer,
     door: &Door,
@@ -26,23 +30,59 @@ fn connect<R: PeerHost + Wait>(
     Ok(stream)
 }
 
-// Sorts the bytes of a read. Returns how the connection ended, if it did.
-fn take<R: Wait>(
-    rt: &R,
-    shared: &SharedPeer,
-    bytes: &[u8],
-) -> Result<Option<Result<Why, PeerFault>>, PeerFault> {
-    let mut guard = shared.seat.lock(rt);
-    let PeerSeat { peer, reader, .. } = &mut *guard;
-    let was_welcome = peer.is_welcome;
-    let end = peer.take_read(shared.alloc, reader, bytes)?;
-    let is_news = peer.is_welcome != was_welcome || peer.has_notice();
-    drop(guard);
-    shared.work.notify_all();
-    if is_news {
-        shared.news.notify_all();
+/// Takes what is read of a connection.
+trait Takes {
+    /// It has taken these bytes.
+    ghost has_taken: { Self → List ℕ → Type 0 };
+
+    /// Takes the next bytes; none mean the end. Returns how the connection ended, if it did.
+    fn take(&mut self, bytes: &[u8]) -> Result<Option<Result<Why, PeerFault>>, PeerFault>
+        ensures { (came : List ℕ) → has_taken self.old came
+            → OnOk result (has_taken self.new (came ++ bytes.now)) };
+}
+
+/// The peer behind its lock, which shows nothing of what it has taken.
+#[derive(Drop)]
+struct Taker<'a, R> {
+    rt: &'a R,
+    shared: &'a SharedPeer,
+}
+
+impl<R: Wait> Takes for Taker<'_, R> {
+    ghost has_taken = { λ _ _. Unit {0} };
+
+    fn take(&mut self, bytes: &[u8]) -> Result<Option<Result<Why, PeerFault>>, PeerFault> {
+        let shared = self.shared;
+        let mut guard = shared.seat.lock(self.rt);
+        let PeerSeat { peer, reader, .. } = &mut *guard;
+        let was_welcome = peer.is_welcome;
+        let end = peer.take_read(shared.alloc, reader, bytes)?;
+        peer.keep_notice();
+        let is_news = peer.is_welcome != was_welcome || peer.has_notice();
+        drop(guard);
+        shared.work.notify_all();
+        if is_news {
+            shared.news.notify_all();
+        }
+        Ok(end)
     }
-    Ok(end)
+}
+
+// Reads once, and hands on all that was read. Returns how the connection ended, if it did.
+fn read_once<S: Read, T: Takes>(
+    stream: &mut S,
+    buffer: &mut [u8],
+    taker: &mut T,
+) -> Result<Option<Result<Why, PeerFault>>, PeerFault>
+    ensures { (came : List ℕ) → T.has_taken taker.old came
+        → OnOk result ((piece : List ℕ) × Consumes (S.remaining stream.old) (S.remaining stream.new) piece
+        × T.has_taken taker.new (came ++ piece)) }
+{
+    match stream.read(buffer) {
+        Ok(count) => taker.take(&buffer[..count]),
+        Err(error) if error.kind() == ErrorKind::Interrupted => Ok(None),
+        Err(error) => Err(PeerFault::Refused(RefusedPart::Stream, error)),
+    }
 }
 
 // Waits while too much waits for standard output. Returns whether the server has hung up: then the rest is read, so
@@ -68,7 +108,7 @@ fn wait_for_room<R: PeerHost + Wait>(rt: &R, shared: &SharedPeer, stream: &UnixS
 }
 
 // Reads until the connection ends. Returns how it did.
-fn read_all<R: PeerHost + Wait>(
+fn read_all<R: PeerHost + Wait + Files<File = File> + AllocGlobal>(
     rt: &R,
     shared: &SharedPeer,
     door: &Door,
@@ -76,15 +116,11 @@ fn read_all<R: PeerHost + Wait>(
     let stream = connect(rt, shared, door)?;
     let mut stream: &UnixStream = &stream;
     let mut buffer = vec![in shared.alloc; 0; LONGEST]?;
+    let mut taker = Taker { rt, shared };
     let mut has_hung_up = false;
     for _ in rt.forever() {
         has_hung_up = has_hung_up || wait_for_room(rt, shared, stream);
-        let end = match stream.read(buffer.as_mut_slice()) {
-            Ok(count) => take(rt, shared, &buffer[..count])?,
-            Err(error) if error.kind() == ErrorKind::Interrupted => None,
-            Err(error) => return Err(PeerFault::Refused(RefusedPart::Stream, error)),
-        };
-        if let Some(end) = end {
+        if let Some(end) = read_once(&mut stream, buffer.as_mut_slice(), &mut taker)? {
             return end;
         }
     }
@@ -92,7 +128,11 @@ fn read_all<R: PeerHost + Wait>(
 }
 
 /// Serves one connection, until it ends.
-pub fn serve<R: PeerHost + Wait>(rt: &R, shared: &SharedPeer, door: &Door) {
+pub fn serve<R: PeerHost + Wait + Files<File = File> + AllocGlobal>(
+    rt: &R,
+    shared: &SharedPeer,
+    door: &Door,
+) {
     let end = read_all(rt, shared, door);
     shared.seat.lock(rt).peer.end_by(end);
     shared.tell();

@@ -2,16 +2,15 @@
 
 use crate::attach::Sources;
 use crate::ending::PeerEnding;
-use crate::opening::{Door, another_door};
+use crate::opening::{Door, another_door, mark_of};
 use crate::reading::serve;
 use crate::shared::{SharedPeer, start_thread};
 use crate::writing::send;
 use crate::{PeerHost, Source};
-use client_peer::{Meeting, PeerTask, SessionMark};
+use client_peer::{Comeback, Meeting, PeerTask};
 use client_words::{Arguments, PeerFault};
 use std::alloc::Global;
 use std::fs::{File, Files};
-use std::os::unix::fs::MetadataExt;
 use std::sync::{Arc, Wait};
 use std::thread::Threads;
 use std::time::{Duration, Instant};
@@ -22,10 +21,6 @@ use std::{fs, thread};
 const SHORTLY: u64 = 10;
 
 const PAUSE: u64 = 50;
-
-// How many tries a client lets pass while windows come back: one that comes before them shows none. A window lets so
-// many pass until the server that made the socket has marked its session.
-const HELD: u32 = 60;
 
 // How often a window looks for the mark of its first server.
 const LEARNING: u32 = 20;
@@ -60,33 +55,6 @@ fn look<R: PeerHost + Wait>(rt: &R, shared: &SharedPeer, began: Option<Instant>)
     task
 }
 
-// What stands beside the socket about the session that is served there. A mark is made anew for each server, so one
-// that is older than the socket isn't this server's.
-fn mark_of<R: Files<File = File> + AllocGlobal>(rt: &R, arguments: &Arguments<'_>) -> SessionMark {
-    let mut mark = SessionMark {
-        name: Vec::new(rt.alloc()),
-        is_current: false,
-    };
-    if let Ok(path) = format!(in rt.alloc(); "{}.session", arguments.socket)
-        && let Ok(name) = fs::read(rt, path.as_str())
-    {
-        mark.name = name;
-        mark.is_current = is_as_new(rt, path.as_str(), arguments.socket);
-    }
-    mark
-}
-
-// Whether a file was written no earlier than another one.
-fn is_as_new<R: Files<File = File>>(rt: &R, path: &str, other: &str) -> bool {
-    match (fs::metadata(rt, path), fs::metadata(rt, other)) {
-        (Ok(it), Ok(other)) if it.mtime() == other.mtime() => {
-            it.mtime_nsec() >= other.mtime_nsec()
-        }
-        (Ok(it), Ok(other)) => it.mtime() > other.mtime(),
-        _ => false,
-    }
-}
-
 // Whether there is a file beside the socket: .again after a planned end of a server that starts again,
 // .pending while windows of the session before come back.
 fn is_beside<R: Files<File = File> + AllocGlobal>(
@@ -109,22 +77,13 @@ fn has_place<R: Files<File = File>>(rt: &R, arguments: &Arguments<'_>) -> bool {
 }
 
 /// Connects in a thread of its own, since that may take long.
-pub fn start<R: PeerHost + Threads + Wait>(
+pub fn start<R: PeerHost + Threads + Wait + Files<File = File> + AllocGlobal>(
     rt: &R,
     shared: &Arc<SharedPeer, Global>,
     door: Door,
 ) -> Result<(), PeerFault> {
     start_thread(rt, shared, move |rt, shared| serve(rt, shared, &door))?;
     Ok(())
-}
-
-// How many tries a peer that comes back has let pass.
-#[derive(Drop)]
-struct Comeback {
-    /// While windows come back.
-    held: u32,
-    /// While the mark beside the socket may be that of an earlier server.
-    older: u32,
 }
 
 // Whether the next server must not be told a window's page, since a command has cleared it, or this isn't known.
@@ -154,59 +113,40 @@ fn has_line(lines: &[u8], wanted: &[u8]) -> bool {
     false
 }
 
-impl Comeback {
-    // Whether a client lets windows go first: one that comes before them shows none.
-    fn lets_pass<R: Files<File = File> + AllocGlobal>(
-        &mut self,
-        rt: &R,
-        arguments: &Arguments<'_>,
-    ) -> bool {
-        let passes = arguments.subcommand.is_attach()
-            && self.held < HELD
-            && is_beside(rt, arguments, ".pending");
-        self.held = if passes { self.held.wrapping_add(1) } else { 0 };
-        passes
+// What comes of what the peer met. A window waits for a mark of the server that made the socket, but not for long.
+fn judge<R: PeerHost + Wait + Files<File = File> + AllocGlobal>(
+    rt: &R,
+    shared: &SharedPeer,
+    arguments: &Arguments<'_>,
+    comeback: &mut Comeback,
+    met: Meeting,
+) {
+    let is_here = met == Meeting::Older && is_beside(rt, arguments, "");
+    if !comeback.waits(met, is_here) && met != Meeting::Same {
+        shared.seat.lock(rt).peer.stay_away(met);
     }
+}
 
-    // What comes of what the peer met. A window waits for a mark of the server that made the socket, but not for long.
-    fn judge<R: PeerHost + Wait + Files<File = File> + AllocGlobal>(
-        &mut self,
-        rt: &R,
-        shared: &SharedPeer,
-        arguments: &Arguments<'_>,
-        met: Meeting,
-    ) {
-        let waits = met == Meeting::Older && self.older < HELD;
-        self.older = match met {
-            Meeting::Older if is_beside(rt, arguments, "") => self.older.wrapping_add(1),
-            _ => 0,
-        };
-        if met != Meeting::Same && !waits {
-            shared.seat.lock(rt).peer.stay_away(met);
-        }
+// Opens a window again in a server that has let it in. What stands beside the socket is that server's by now.
+fn reopen<R: PeerHost + Wait + Files<File = File> + AllocGlobal>(
+    rt: &R,
+    shared: &SharedPeer,
+    arguments: &Arguments<'_>,
+    comeback: &mut Comeback,
+) {
+    let mark = mark_of(rt, arguments.socket);
+    let mut seat = shared.seat.lock(rt);
+    let number = seat.peer.page_number;
+    let opened = seat.peer.reopen(&mark, is_hidden(rt, arguments, number));
+    if let Err(fault) = opened {
+        seat.peer.end_by(Err(fault));
     }
-
-    // Opens a window again in a server that has let it in. What stands beside the socket is that server's by now.
-    fn reopen<R: PeerHost + Wait + Files<File = File> + AllocGlobal>(
-        &mut self,
-        rt: &R,
-        shared: &SharedPeer,
-        arguments: &Arguments<'_>,
-    ) {
-        let mark = mark_of(rt, arguments);
-        let mut seat = shared.seat.lock(rt);
-        let number = seat.peer.page_number;
-        let opened = seat.peer.reopen(&mark, is_hidden(rt, arguments, number));
-        if let Err(fault) = opened {
-            seat.peer.end_by(Err(fault));
-        }
-        drop(seat);
-        shared.work.notify_all();
-        if let Ok(met) = opened {
-            self.judge(rt, shared, arguments, met);
-            if met == Meeting::Older {
-                thread::sleep(rt, Duration::from_millis(PAUSE));
-            }
+    drop(seat);
+    shared.work.notify_all();
+    if let Ok(met) = opened {
+        judge(rt, shared, arguments, comeback, met);
+        if met == Meeting::Older {
+            thread::sleep(rt, Duration::from_millis(PAUSE));
         }
     }
 }
@@ -220,7 +160,7 @@ fn learn<R: PeerHost + Wait + Files<File = File> + AllocGlobal>(
     tries: u32,
 ) -> bool {
     for _ in 0..tries {
-        let mark = mark_of(rt, arguments);
+        let mark = mark_of(rt, arguments.socket);
         if arguments.subcommand.is_attach() || mark.is_current || mark.name.is_empty() {
             shared.learn(rt, mark);
             return true;
@@ -238,18 +178,20 @@ fn come_back<R: PeerHost + Threads + Wait + Files<File = File> + AllocGlobal>(
     comeback: &mut Comeback,
 ) -> Result<(), PeerFault> {
     thread::sleep(rt, Duration::from_millis(PAUSE));
-    if comeback.lets_pass(rt, arguments) {
+    let is_pending = arguments.subcommand.is_attach() && is_beside(rt, arguments, ".pending");
+    if comeback.lets_pass(is_pending) {
         return Ok(());
     }
-    let met = shared.begin(rt, &mark_of(rt, arguments));
-    comeback.judge(rt, shared, arguments, met);
+    let mark = mark_of(rt, arguments.socket);
+    let met = shared.begin(rt, &mark);
+    judge(rt, shared, arguments, comeback, met);
     if met != Meeting::Same {
         return Ok(());
     }
     let seat = shared.seat.lock(rt);
     let size = (seat.peer.rows, seat.peer.columns);
     drop(seat);
-    start(rt, shared, another_door(rt, arguments, size)?)
+    start(rt, shared, another_door(rt, arguments, size, mark.name)?)
 }
 
 // Asks whether the peer comes back after its connection has ended, and lets it.
@@ -282,12 +224,12 @@ pub fn wait<R: PeerHost + Threads + Wait + Files<File = File> + AllocGlobal, I: 
 ) -> PeerEnding {
     let began = Instant::now(rt).ok();
     let mut sources = sources;
-    let mut comeback = Comeback { held: 0, older: 0 };
+    let mut comeback = Comeback::new();
     for _ in rt.forever() {
         match look(rt, shared, began) {
             PeerTask::Wait | PeerTask::WaitShortly => {}
             PeerTask::Send => send(rt, shared),
-            PeerTask::Reopen => comeback.reopen(rt, shared, arguments),
+            PeerTask::Reopen => reopen(rt, shared, arguments, &mut comeback),
             PeerTask::Begin => {
                 // Input that is sent may end the server, so the first try comes before it.
                 let is_known = arguments.again == 0 || learn(rt, shared, arguments, 1);

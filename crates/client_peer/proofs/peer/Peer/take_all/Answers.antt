@@ -1,10 +1,14 @@
+use Rattle.std.proofs.Common.{◌∙◌, sym, arith}
 use Rattle.client_peer.specs.Showing.{StopsAt}
 use Rattle.client_peer.proofs.Closing.{closed_same, closed_then}
 use Rattle.client_peer.proofs.Passing.{passes_same, passes_then, stops_then, on_err_given}
+use Rattle.client_peer.specs.Hearing.{none}
+use Rattle.client_peer.proofs.Hearing.{heard_more, heard_last}
 use Rattle.client_peer.proofs.peer.Peer.take_all.Goals as goal
 
 pub loop-message-init : goal.loop-message-init
-loop-message-init c = record { passes = passes_same c.args.self.now; closed = closed_same c.args.self.now }
+loop-message-init c =
+    record { passes = passes_same c.args.self.now; closed = closed_same c.args.self.now; hears = none }
 
 pub loop-message-preserved : goal.loop-message-preserved
 loop-message-preserved c = record {
@@ -14,6 +18,10 @@ loop-message-preserved c = record {
   closed =
       closed_then c.args.self.now c.loop-message.self c.take.new.self c.loop-message.invariant.closed
       c.in_ok-why.ensures.closed;
+  hears =
+      heard_more c.args.self.now c.loop-message.self c.take.new.self c.args.messages.now c.loop-message.message-index
+      c.message-item.result (omega arith) (sym c.message-item.is) c.loop-message.invariant.hears
+      c.in_ok-why.ensures.hears.0;
 }
 
 pub returns-in-Some-clause-ok : goal.returns-in-Some-clause-ok
@@ -36,3 +44,9 @@ pub returns-in_err-why-clause-closed : goal.returns-in_err-why-clause-closed
 returns-in_err-why-clause-closed c =
     closed_then c.args.self.now c.loop-message.self c.take.new.self c.loop-message.invariant.closed
     c.in_err-why.ensures.closed
+
+pub returns-in-Some-clause-hears : goal.returns-in-Some-clause-hears
+returns-in-Some-clause-hears c =
+    heard_last c.args.self.now c.loop-message.self c.take.new.self c.args.messages.now c.loop-message.message-index
+    c.message-item.result (omega arith) (sym c.message-item.is) c.loop-message.invariant.hears
+    c.in_ok-why.ensures.hears.0 c.in-Some.why (sym c.in-Some.is ∙ c.in_ok-why.ensures.hears.1)

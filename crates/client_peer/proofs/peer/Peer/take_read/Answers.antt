@@ -1,3 +1,6 @@
+use Rattle.std.proofs.Common.{◌∙◌, sym, ap, Some, None, option_map}
+use Rattle.client_peer.specs.Ending.{end_for}
+use Rattle.client_peer.proofs.Hearing.{heard_read}
 use Rattle.client_peer.proofs.Passing.{passes_same}
 use Rattle.client_peer.proofs.peer.Peer.take_read.Goals as goal
 
@@ -6,3 +9,21 @@ returns-then-matches-clause-ok c = passes_same c.args.self.now
 
 pub returns-then-is_empty-clause-ok : goal.returns-then-is_empty-clause-ok
 returns-then-is_empty-clause-ok c = passes_same c.args.self.now
+
+pub returns-in-Some-clause-hears : goal.returns-in-Some-clause-hears
+returns-in-Some-clause-hears c = λ ping empty.
+    heard_read c.args.self.now c.take_all.new.self c.args.reader.now c.feed-fed.new.self c.args.bytes.now
+    c.new-messages.result.items c.feed-fed.new.out.items c.as_slice.result.now c.feed-fed.result
+    c.in_ok-why.field-0 c.new-messages.ensures.items c.as_slice.ensures.value c.in_ok-why.ensures.hears
+    (Some c.ended.result)
+    (ap Some (c.ended.ensures ∙ ap (λ s. end_for s c.in-Some.why) c.in_ok-why.ensures.ok.subcommand)
+    ∙ ap (option_map (end_for c.args.self.now.subcommand)) (sym c.in-Some.is)) c.in_ok-why.ensures.fed
+    (λ r. (c.feed-fed.ensures.memory r).1) c.feed-fed.ensures.reads
+
+pub returns-clause-hears : goal.returns-clause-hears
+returns-clause-hears c = λ ping empty.
+    heard_read c.args.self.now c.take_all.new.self c.args.reader.now c.feed-fed.new.self c.args.bytes.now
+    c.new-messages.result.items c.feed-fed.new.out.items c.as_slice.result.now c.feed-fed.result
+    c.in_ok-why.field-0 c.new-messages.ensures.items c.as_slice.ensures.value c.in_ok-why.ensures.hears None
+    (ap (option_map (end_for c.args.self.now.subcommand)) (sym c.in-None.is)) c.in_ok-why.ensures.fed
+    (λ r. (c.feed-fed.ensures.memory r).1) c.feed-fed.ensures.reads

@@ -1,0 +1,26 @@
+use Rattle.std.proofs.Common.{rules, true, ℕ, List, Option, sym, subst}
+use Rattle.client_words.specs.declared.leaving.LeaveReader.{LeaveReader}
+use Rattle.client_typing.specs.Following.{LetsThrough}
+use Rattle.client_peer.specs.declared.peer.Peer.{Peer}
+use Rattle.client_peer.specs.Typing.{Presses}
+use Rattle.client_peer.proofs.Assisting.{presses_read}
+use Rattle.client_peer.proofs.peer.Peer.type_in.Goals as goal
+
+pub returns : goal.returns
+returns c =
+    let old : Peer = c.args.self.now in
+    let new : Peer = c.press.new.self in
+    let middle : Peer =
+    record old { typing = c.read.new.self; times = record c.args.self.now.times { has_typed = true } } in
+    record {
+      typed = c.read.new.out.items;
+      through =
+          subst (λ (l : Option LeaveReader). LetsThrough old.typing.leave c.args.input.now c.read.new.out.items l)
+          (sym c.press.ensures.leave) (c.in_ok-read.ensures.through c.new-bytes.ensures.items);
+      prints = λ window. search rules;
+      none = λ client none. search rules;
+      presses = λ client some.
+          presses_read old new c.read.new.self (record c.args.self.now.times { has_typed = true }) c.read.new.out.items
+          c.read.ensures.same
+          (subst (λ (l : List ℕ). Presses middle new l) c.deref-2.ensures.value c.in_ok-press.ensures.presses);
+    }

@@ -1,0 +1,115 @@
+-- What a peer makes of what the server sends.
+use Rattle.std.specs.Prelude.{◌≡◌, ℕ, ◌==◌, Bool, true, false, ◌||◌, List, [], ◌∷◌, ◌++◌, length}
+use Rattle.std.specs.Prelude.{Option, Some, None, IfSome, IsSomeAnd, Result, option_map, string_bytes}
+use Rattle.attach_proto.specs.declared.message.Message.{Message}
+use Rattle.attach_proto.specs.declared.message.Message.TheVariants as message
+use Rattle.attach_proto.specs.declared.why.Why.{Why}
+use Rattle.attach_proto.specs.Streams.{Reading, TakesPiece}
+use Rattle.client_words.specs.Visible.{visible}
+use Rattle.client_words.specs.declared.arguments.Subcommand.{Subcommand}
+use Rattle.client_words.specs.declared.arguments.Subcommand.TheVariants.{Attach, Window, Command}
+use Rattle.client_words.specs.declared.fault.PeerFault.{PeerFault}
+use Rattle.client_peer.specs.Ending.{end_for}
+use Rattle.client_peer.specs.declared.peer.Peer.{Peer}
+
+-- these bytes come after those that wait for standard output, and nothing else changes
+abbrev pub PutsOut : Peer → List ℕ → Peer → Type 0
+PutsOut old bytes new = (new.bytes.items ≡ old.bytes.items ++ bytes) × (new ≡ record old { bytes = new.bytes })
+
+-- the frame of a draw is full, so the draw goes on in the next one
+abbrev pub goes_on : List ℕ → Bool
+goes_on bytes = length bytes == 8192
+
+-- A draw is passed on whole; while the terminal shows the help, it is left out.
+abbrev pub Shows : Bool → Peer → List ℕ → Peer → Type 0
+Shows true old bytes new =
+    new ≡ record old { is_cut = goes_on bytes; is_covered = goes_on bytes || old.is_helping }
+Shows false old bytes new =
+    PutsOut (record old {
+      is_cut = goes_on bytes;
+      has_drawn = true;
+      draws = new.draws;
+      notice = record old.notice { is_hidden = true };
+    }) bytes new
+
+-- what a text is on standard output
+abbrev pub printed : Subcommand → List ℕ → List ℕ
+printed Command text = visible text ++ 0x0A ∷ []
+printed subcommand text = []
+
+-- A text before the server let the peer in says why it doesn't; each text for a command is printed. Once a client is
+-- let in, a text is shown at most.
+abbrev pub Says : Bool → Peer → List ℕ → Peer → Type 0
+Says true old text new = new ≡ record old { notice = new.notice }
+Says false old text new =
+    IsSomeAnd new.said (λ said. string_bytes said ≡ text)
+    × PutsOut (record old { said = new.said }) (printed old.subcommand text) new
+
+-- the server has let the peer in
+pub record IsLetIn (old new : Peer) : Type 0 where
+  pub here : new.is_welcome ≡ true
+  pub was : new.was_welcome ≡ true
+  pub found : new.loss ≡ None
+  pub rest : new ≡ record old {
+    is_welcome = true;
+    was_welcome = true;
+    is_reopening = new.is_reopening;
+    loss = None;
+    times = record old.times { wants_fit = old.fits };
+    page_number = new.page_number;
+    sizes = new.sizes;
+  }
+
+-- a command is never let in, and another peer once
+abbrev pub LetsIn : Subcommand → Bool → Peer → Peer → Type 0
+LetsIn Command is_welcome old new = new ≡ old
+LetsIn subcommand true old new = new ≡ old
+LetsIn subcommand false old new = IsLetIn old new
+
+-- what a message has for standard output, for the sizes' file and for the terminal's last line
+abbrev pub Delivers : Peer → Message → Peer → Type 0
+Delivers old (message.Draw bytes) new = (old.subcommand ≡ Attach) × Shows old.is_covered old bytes new
+Delivers old (message.Say text) new =
+    (new ≡ record old { notice = new.notice }) × (old.is_welcome ≡ false → new ≡ old)
+Delivers old (message.Input bytes) new = (old.subcommand ≡ Window) × PutsOut old bytes new
+Delivers old (message.Size rows columns) new =
+    (old.subcommand ≡ Window)
+    × (new ≡ record old { rows = rows; columns = columns; page = new.page; sizes = new.sizes })
+Delivers old (message.Welcome number) new = new ≡ record old { number = number }
+Delivers old other new = new ≡ old
+
+-- what a peer makes of a message
+abbrev pub Hears : Peer → Message → Peer → Type 0
+Hears old (message.Say text) new = Says old.is_welcome old text new
+Hears old (message.Welcome number) new = LetsIn old.subcommand old.is_welcome (record old { number = number }) new
+Hears old other new = Delivers old other new
+
+-- in order, and each once
+pub data HearsAll : Peer → List Message → Peer → Type 0 where
+  none : {p : Peer} → HearsAll p [] p
+  next : {old middle new : Peer} {front : List Message} (m : Message) → HearsAll old front middle
+      → Hears middle m new → HearsAll old (front ++ m ∷ []) new
+
+-- why the server lets the peer go by a message
+abbrev pub gone_in : Message → Option Why
+gone_in (message.Gone why) = Some why
+gone_in other = None
+
+-- All of these messages were heard, or those up to the one by which the server lets the peer go.
+pub record HearsFirst (old : Peer) (messages : List Message) (gone : Option Why) (new : Peer) : Type 0 where
+  pub heard : List Message
+  pub later : List Message
+  pub whole : messages ≡ heard ++ later
+  pub hears : HearsAll old heard new
+  pub all : gone ≡ None → later ≡ []
+  pub last : IfSome gone (λ why. (front : List Message) × (heard ≡ front ++ message.Gone why ∷ []))
+
+-- The messages that a read completes were heard, and the peer ends if the server lets it go.
+pub record HearsRead (old : Peer) (reader : Reading) (piece : List ℕ) (new : Peer) (later : Reading)
+    (end : Option (Result Why PeerFault))
+    : Type 0 where
+  pub made : List Message
+  pub gone : Option Why
+  pub takes : TakesPiece reader piece made later
+  pub hears : HearsFirst old made gone new
+  pub ends : end ≡ option_map (end_for old.subcommand) gone
