@@ -11,6 +11,7 @@ mod waiting;
 mod writing;
 
 pub use attach::client;
+use opening::mark_of;
 use std::io;
 use std::io::{Read, Write};
 use std::os::unix::net::UnixStream;
@@ -20,11 +21,19 @@ use std::time::Clock;
 /// its own.)
 pub trait Connects {
     fn reach(&self, socket: &str) -> io::Result<UnixStream>;
+
+    /// Whether the mark beside a socket is that of the server which made it, and names this session.
+    fn has_session(&self, socket: &str, session: &[u8]) -> bool;
 }
 
 impl Connects for HostRuntime {
     fn reach(&self, socket: &str) -> io::Result<UnixStream> {
         UnixStream::connect(self, socket)
+    }
+
+    fn has_session(&self, socket: &str, session: &[u8]) -> bool {
+        let mark = mark_of(self, socket);
+        mark.is_current && mark.name.as_slice() == session
     }
 }
 

@@ -174,24 +174,13 @@ impl Door {
         Ok(())
     }
 
-    // Whether the server that made the socket has the session that is wanted. The socket may be another one's since the
-    // mark beside it was read.
-    fn is_wanted<R: fs::Files<File = File> + AllocGlobal>(&self, rt: &R) -> bool {
-        if self.session.is_empty() {
-            return true;
-        }
-        let mark = mark_of(rt, self.socket.as_str());
-        mark.is_current && mark.name.as_slice() == self.session.as_slice()
-    }
-
     /// Makes the connection. A window that comes back shows itself to no other session.
-    pub fn open<R: PeerHost + fs::Files<File = File> + AllocGlobal>(
-        &self,
-        rt: &R,
-    ) -> Result<UnixStream, PeerFault> {
+    pub fn open(&self, rt: &impl PeerHost) -> Result<UnixStream, PeerFault> {
         match rt.reach(self.socket.as_str()) {
             Ok(stream) => {
-                if !self.is_wanted(rt) {
+                // (the socket may have changed hands since its mark was read)
+                let is_any = self.session.is_empty();
+                if !is_any && !rt.has_session(self.socket.as_str(), &self.session) {
                     return Err(PeerFault::NoServer);
                 }
                 thread::sleep(rt, Duration::from_millis(self.grace));

@@ -9,7 +9,6 @@ use crate::shared::{PeerSeat, SharedPeer, is_open};
 use attach_proto::{LONGEST, Why};
 use client_words::{PeerFault, RefusedPart};
 use std::alloc::Global;
-use std::fs::{File, Files};
 use std::io::{ErrorKind, Read};
 use std::os::unix::net::UnixStream;
 use std::sync::{Arc, Wait};
@@ -19,7 +18,7 @@ use std::time::Duration;
 const LOOK: u64 = 250;
 
 // Connects, and lends the connection to the other threads.
-fn connect<R: PeerHost + Wait + Files<File = File> + AllocGlobal>(
+fn connect<R: PeerHost + Wait>(
     rt: &R,
     shared: &SharedPeer,
     door: &Door,
@@ -108,7 +107,7 @@ fn wait_for_room<R: PeerHost + Wait>(rt: &R, shared: &SharedPeer, stream: &UnixS
 }
 
 // Reads until the connection ends. Returns how it did.
-fn read_all<R: PeerHost + Wait + Files<File = File> + AllocGlobal>(
+fn read_all<R: PeerHost + Wait>(
     rt: &R,
     shared: &SharedPeer,
     door: &Door,
@@ -128,11 +127,7 @@ fn read_all<R: PeerHost + Wait + Files<File = File> + AllocGlobal>(
 }
 
 /// Serves one connection, until it ends.
-pub fn serve<R: PeerHost + Wait + Files<File = File> + AllocGlobal>(
-    rt: &R,
-    shared: &SharedPeer,
-    door: &Door,
-) {
+pub fn serve<R: PeerHost + Wait>(rt: &R, shared: &SharedPeer, door: &Door) {
     let end = read_all(rt, shared, door);
     shared.seat.lock(rt).peer.end_by(end);
     shared.tell();

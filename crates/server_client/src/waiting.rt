@@ -77,7 +77,7 @@ fn has_place<R: Files<File = File>>(rt: &R, arguments: &Arguments<'_>) -> bool {
 }
 
 /// Connects in a thread of its own, since that may take long.
-pub fn start<R: PeerHost + Threads + Wait + Files<File = File> + AllocGlobal>(
+pub fn start<R: PeerHost + Threads + Wait>(
     rt: &R,
     shared: &Arc<SharedPeer, Global>,
     door: Door,
