@@ -2,7 +2,7 @@
 -- the open windows unchanged.
 use Rattle.std.proofs.Common.{◌≡◌, ◌∙◌, ℕ, refl, [], ◌∷◌, List}
 use Rattle.std.specs.List.{AllByRecursion}
-use Rattle.acl_words.specs.declared.edition.Edition.{Edition}
+use Rattle.acl_words.specs.declared.leaders.Edition.{Edition}
 use Rattle.acl_words.specs.declared.user_id.UserId.{UserId}
 use Rattle.acl_words.specs.declared.act.Act.{Act}
 use Rattle.acl_words.specs.declared.act.Act.TheVariants.{Known, Gone, Set, Grouped, Masked, Preset, Opened, Closed}

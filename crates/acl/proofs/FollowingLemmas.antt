@@ -5,7 +5,7 @@ use Rattle.std.proofs.Common.{Result, Ok, Err, OnOk, subst}
 use Rattle.std.proofs.Math.Seq.{drop-append_seam}
 use Rattle.std.specs.Option.{option_or}
 use Rattle.acl_words.specs.Same.{same_user}
-use Rattle.acl_words.specs.declared.edition.Edition.{Edition}
+use Rattle.acl_words.specs.declared.leaders.Edition.{Edition}
 use Rattle.acl_words.specs.declared.user_id.UserId.{UserId}
 use Rattle.acl_words.specs.declared.bits.Bit.{Bit}
 use Rattle.acl_words.specs.declared.bits.BitChange.{BitChange}
@@ -20,8 +20,8 @@ use Rattle.acl_words.specs.declared.entries.NewLeader.{NewLeader}
 use Rattle.acl_words.specs.declared.entries.NewLeader.TheVariants.{Nobody, Named}
 use borrow.Author.Tests.{leb-true}
 use Rattle.std.proofs.Common.{if◌then◌else◌}
-use Rattle.acl_words.specs.declared.faults.AclFault.{AclFault}
-use Rattle.acl_words.specs.declared.faults.AclFault.TheVariants.{UnknownUser, OwnerKept, NoSuchGroup, TooManyGroups}
+use Rattle.acl_words.specs.declared.entries.AclFault.{AclFault}
+use Rattle.acl_words.specs.declared.entries.AclFault.TheVariants.{UnknownUser, OwnerKept, NoSuchGroup, TooManyGroups}
 use Rattle.acl.specs.History.{History, followed_by, leaders_of, leaders_with, is_known, users_of, among, there, decided}
 use Rattle.acl.specs.History.{latest, decides_known}
 use Rattle.acl.specs.Commands.{Answers, AllMayFollow, sets_on, sets, user_acts, change_acts, new_acts, known_acts}

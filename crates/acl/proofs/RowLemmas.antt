@@ -24,7 +24,7 @@ use Rattle.acl_words.specs.declared.act.PresetKind.TheVariants as preset
 use Rattle.acl_words.proofs.BitSetLemmas.{allows-with_bit, allows-no_bits, allows-all_bits}
 use Rattle.acl_words.proofs.SlotLemmas.{found, slot_of-apart}
 use Rattle.acl.proofs.StandsForLemmas.{same_user-true}
-use Rattle.acl_words.specs.declared.edition.Edition.{Edition}
+use Rattle.acl_words.specs.declared.leaders.Edition.{Edition}
 use Rattle.acl_words.specs.declared.user_id.UserId.{UserId}
 use Rattle.acl_words.specs.declared.bits.Bit.{Bit}
 use Rattle.acl_words.specs.declared.bits.Bits.{Bits}

@@ -6,7 +6,7 @@ use Rattle.acl.specs.History.{History, there}
 use Rattle.acl.specs.History.{may}
 use Rattle.acl.specs.Table.{Table, StandsFor}
 use Rattle.acl.specs.Table.{is_there, lets}
-use Rattle.acl_words.specs.declared.edition.Edition.{Edition}
+use Rattle.acl_words.specs.declared.leaders.Edition.{Edition}
 use Rattle.acl_words.specs.declared.user_id.UserId.{UserId}
 use Rattle.acl_words.specs.declared.bits.Bit.{Bit}
 use Rattle.acl_words.specs.declared.act.Object.{Object}

@@ -14,7 +14,7 @@ use Rattle.acl.specs.Table.{Table, StandsFor, row_of, users_in, knows, granted, 
 use Rattle.acl.specs.Table.{is_there, opening_bits, mask_bits, with_window}
 use Rattle.acl_words.proofs.SameLemmas.{same_user-true}
 use Rattle.acl_words.proofs.BitSetLemmas.{allows-with_bit, allows-all_bits}
-use Rattle.acl_words.specs.declared.edition.Edition.{Edition}
+use Rattle.acl_words.specs.declared.leaders.Edition.{Edition}
 use Rattle.acl_words.specs.declared.user_id.UserId.{UserId}
 use Rattle.acl_words.specs.declared.bits.Bit.{Bit}
 use Rattle.acl_words.specs.declared.bits.Bits.{Bits}

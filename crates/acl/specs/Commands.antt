@@ -7,7 +7,7 @@ use Rattle.std.specs.Prelude.{if◌then◌else◌}
 use Rattle.std.specs.Option.{option_or}
 use Rattle.acl_words.specs.Same.{same_user}
 pub use Rattle.acl_words.specs.Faults.{number_of_fault}
-use Rattle.acl_words.specs.declared.limits.TheConstants.{USERS}
+use Rattle.acl_words.specs.declared.slots.TheConstants.{USERS}
 use Rattle.acl.specs.History.{History, is_known, among, there, leaders_of, leaders_with}
 use Rattle.acl_words.specs.declared.user_id.UserId.{UserId}
 use Rattle.acl_words.specs.declared.bits.Bit.{Bit}
@@ -18,12 +18,12 @@ use Rattle.acl_words.specs.declared.act.Act.{Act}
 use Rattle.acl_words.specs.declared.act.Act.TheVariants.{Known, Gone, Set, Grouped, Masked, Preset}
 use Rattle.acl_words.specs.declared.act.Act.TheVariants.{Attached, Parted, Entered, Left, Mode}
 use Rattle.acl_words.specs.declared.act.Act.TheVariants.{Default}
-use Rattle.acl_words.specs.declared.faults.AclFault.{AclFault}
-use Rattle.acl_words.specs.declared.faults.AclFault.TheVariants.{UnknownUser, OwnerKept}
-use Rattle.acl_words.specs.declared.faults.AclFault.TheVariants.{TooManyUsers, ReservedName}
-use Rattle.acl_words.specs.declared.faults.AclFault.TheVariants.{NoSuchGroup, NoMemory}
-use Rattle.acl_words.specs.declared.faults.AclFault.TheVariants.{TooManyGroups}
-use Rattle.acl_words.specs.declared.edition.Edition.{Edition}
+use Rattle.acl_words.specs.declared.entries.AclFault.{AclFault}
+use Rattle.acl_words.specs.declared.entries.AclFault.TheVariants.{UnknownUser, OwnerKept}
+use Rattle.acl_words.specs.declared.entries.AclFault.TheVariants.{TooManyUsers, ReservedName}
+use Rattle.acl_words.specs.declared.entries.AclFault.TheVariants.{NoSuchGroup, NoMemory}
+use Rattle.acl_words.specs.declared.entries.AclFault.TheVariants.{TooManyGroups}
+use Rattle.acl_words.specs.declared.leaders.Edition.{Edition}
 use Rattle.acl_words.specs.declared.entries.NewLeader.{NewLeader}
 use Rattle.acl_words.specs.declared.entries.NewLeader.TheVariants.{Nobody, Named}
 use Rattle.acl_words.specs.declared.entries.MaskEntry.{MaskEntry}

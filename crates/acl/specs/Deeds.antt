@@ -4,11 +4,11 @@ use Rattle.std.specs.Prelude.{◌≡◌, true, List, ◌∷◌, ◌++◌, Option
 use Rattle.acl.specs.History.{History, there, followed_by}
 use Rattle.acl.specs.Commands.{Answers, MayFollow, AllMayFollow}
 use Rattle.acl.specs.Table.{Table, StandsFor}
-use Rattle.acl_words.specs.declared.edition.Edition.{Edition}
+use Rattle.acl_words.specs.declared.leaders.Edition.{Edition}
 use Rattle.acl_words.specs.declared.user_id.UserId.{UserId}
 use Rattle.acl_words.specs.declared.act.Object.{Object}
 use Rattle.acl_words.specs.declared.act.Act.{Act}
-use Rattle.acl_words.specs.declared.faults.AclFault.{AclFault}
+use Rattle.acl_words.specs.declared.entries.AclFault.{AclFault}
 
 -- for each history that the old table stands for and that the act may follow, the new table stands
 -- for the history and then the act

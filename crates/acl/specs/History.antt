@@ -16,7 +16,7 @@ use Rattle.acl_words.specs.declared.act.PresetKind.TheVariants as preset
 use Rattle.acl_words.specs.declared.act.Act.{Act}
 use Rattle.acl_words.specs.declared.act.Act.TheVariants.{Known, Gone, Set, Grouped, Masked, Preset}
 use Rattle.acl_words.specs.declared.act.Act.TheVariants.{Opened, Closed}
-use Rattle.acl_words.specs.declared.edition.Edition.{Edition}
+use Rattle.acl_words.specs.declared.leaders.Edition.{Edition}
 pub use Rattle.acl_words.specs.Leaders.{among, leaders_with}
 
 abbrev pub History : Type 0

@@ -1,5 +1,5 @@
 pub use Rattle.acl_words.specs.declared.command_name
-pub use Rattle.acl_words.specs.declared.limits
+pub use Rattle.acl_words.specs.declared.slots
 pub use Rattle.acl_words.specs.Names
 pub use Rattle.acl_words.specs.Same
 pub mod Commands

@@ -4,7 +4,7 @@ use Rattle.std.specs.Prelude.{slice_index_or, slice_set, replicate, unwrap_or, i
 use Rattle.std.specs.Option.{option_map_or}
 use Rattle.std.specs.List.{list_any}
 use Rattle.std.specs.Map.{lookup, keys_of}
-use Rattle.acl_words.specs.declared.limits.TheConstants.{WINDOWS}
+use Rattle.acl_words.specs.declared.slots.TheConstants.{WINDOWS}
 use Rattle.acl_words.specs.declared.command_name.TheConstants.CommandName.{COUNT}
 use Rattle.acl_words.specs.Same.{same_user, index_of_command}
 use Rattle.acl_words.specs.Leaders.{remaining_leaders}
@@ -19,7 +19,7 @@ use Rattle.acl_words.specs.declared.act.Object.{Object}
 use Rattle.acl_words.specs.declared.act.Object.TheVariants.{Window, Command}
 use Rattle.acl_words.specs.declared.act.PresetKind.{PresetKind}
 use Rattle.acl_words.specs.declared.act.PresetKind.TheVariants as preset
-use Rattle.acl_words.specs.declared.edition.Edition.{Edition}
+use Rattle.acl_words.specs.declared.leaders.Edition.{Edition}
 use Rattle.acl_words.specs.declared.entries.EntryDenial.{EntryDenial}
 use Rattle.acl.specs.declared.rows.Row.{Row}
 

@@ -1,16 +1,49 @@
-ghost use Rattle.std.specs.Prelude.{◌≡◌, ◌+◌, ◌≤◌, [], is_ok, IfOk, IfErr, OnOk, OnErr, length};
-ghost use Rattle.std.specs.Prelude.{slice_get, true, false, vec_len};
-ghost use Rattle.acl_words.specs.declared.limits.TheConstants.{WINDOWS};
+//! The access lists of a session, and what the list commands ask of them. A name is `None` for a word that is no name,
+//! and objects are there.
+
+ghost use Rattle.std.specs.Prelude.{◌≡◌, ◌+◌, ◌≤◌, [], is_ok, IfOk, IfErr, OnOk, OnErr, length, slice_get, true, false};
+ghost use Rattle.std.specs.Prelude.{vec_len};
+ghost use Rattle.acl_words.specs.declared.slots.TheConstants.{WINDOWS};
 ghost use Rattle.std.specs.Vec.{vec_capacity};
 
 use crate::carry::{Plan, conclude};
-use crate::follower::Follower;
-use crate::lists::Lists;
+use crate::lists::{Follower, Lists};
 use crate::plan::{change_fault, plan_addition, plan_change, plan_group, plan_masks, plan_removal};
-use crate::requests::{LeaderChange, MaskChange, NewUsers, RightsChange};
-use acl_words::{AclFault, Act, Bit, Edition, EntryDenial, Leaders, Object, UserId};
+use acl_words::{
+    AclFault, Act, Bit, BitChange, Edition, EntryDenial, Leaders, MaskEntry, NewLeader, Object,
+    UserId,
+};
 use std::alloc::{AllocError, Global};
 use std::marker::Model;
+
+/// Users who are to be known and to get each bit on objects.
+#[derive(Clone, Copy)]
+pub struct NewUsers<'a> {
+    pub names: &'a [Option<UserId>],
+    pub objects: &'a [Object],
+}
+
+/// A change of users' bits on objects.
+#[derive(Clone, Copy)]
+pub struct RightsChange<'a> {
+    pub names: &'a [Option<UserId>],
+    pub changes: &'a [BitChange],
+    pub objects: &'a [Object],
+}
+
+/// A change of a user's leaders.
+#[derive(Clone, Copy)]
+pub struct LeaderChange {
+    pub name: Option<UserId>,
+    pub leader: NewLeader,
+}
+
+/// A change of the masks of a user who opens windows, and of the presets.
+#[derive(Clone, Copy)]
+pub struct MaskChange<'a> {
+    pub by: UserId,
+    pub entries: &'a [MaskEntry],
+}
 
 /// The access lists of a session: who is known, what each user may do, who leads whom, masks and
 /// presets.
@@ -50,7 +83,7 @@ impl Acl {
     ghost use Rattle.acl.specs.Deeds.{Refuses, Does, DoesOn};
     ghost use Rattle.acl.specs.Table.{StandsFor, IsDenial, knows, led_by, lets, users_in};
     ghost use Rattle.acl.specs.Lists.{table_of};
-    ghost use Rattle.acl_words.specs.declared.edition.Edition.{Edition};
+    ghost use Rattle.acl_words.specs.declared.leaders.Edition.{Edition};
     ghost use Rattle.acl_words.specs.declared.act.Act.TheVariants.{Opened, Closed};
 
     /// The lists of a session that only its owner has entered. `AllocError` if memory is refused.

@@ -8,8 +8,7 @@ ghost use Rattle.acl.specs.Commands.{Answers, makes_known, sets_mask};
 ghost use Rattle.acl.specs.Deeds.{TakesAll, FollowsAll};
 ghost use Rattle.acl.specs.Lists.{table_of};
 
-use crate::follower::Follower;
-use crate::lists::Lists;
+use crate::lists::{Follower, Lists};
 use acl_words::{AclFault, Act};
 
 /// The acts of a list command: whether planning them succeeded, the index in the list of acts at

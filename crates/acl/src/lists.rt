@@ -1,4 +1,4 @@
-//! The rights of a session's users, act by act.
+//! The rights of a session's users, act by act, and who is told of each act.
 
 use crate::rows::{
     Masks, Row, Rows, bits_on, forget_leader, forget_masks, give_window, mask_bits, regroup,
@@ -21,7 +21,7 @@ pub struct Lists {
 }
 
 impl Lists {
-    ghost use Rattle.acl_words.specs.declared.limits.TheConstants.{WINDOWS};
+    ghost use Rattle.acl_words.specs.declared.slots.TheConstants.{WINDOWS};
     ghost use Rattle.std.specs.Prelude.{◌≡◌, ◌+◌, ◌≤◌, ◌<◌, ◌∷◌, [], true, false, is_ok, IfOk};
     ghost use Rattle.std.specs.Prelude.{IfErr, length, slice_get, nat_le, Some, if◌then◌else◌};
     ghost use Rattle.std.specs.List.{list_any};
@@ -32,7 +32,7 @@ impl Lists {
     ghost use Rattle.acl.specs.Deeds.{Takes};
     ghost use Rattle.acl.specs.Table.{StandsFor, IsDenial, knows, granted, led_by, lets, users_in};
     ghost use Rattle.acl.specs.Lists.{table_of};
-    ghost use Rattle.acl_words.specs.declared.edition.Edition.{Edition};
+    ghost use Rattle.acl_words.specs.declared.leaders.Edition.{Edition};
     ghost use Rattle.acl_words.specs.declared.act.Act.TheVariants.{Known, Gone, Set, Grouped};
     ghost use Rattle.acl_words.specs.declared.act.Act.TheVariants.{Masked, Preset, Opened, Closed};
 
@@ -278,4 +278,27 @@ impl Lists {
             _ => {}
         }
     }
+}
+
+/// What is told of the acts of list commands, one by one: a session's write locks, or nothing.
+pub trait Follower {
+    ghost use Rattle.acl.specs.History.{History};
+    ghost use Rattle.acl.specs.Deeds.{Follows};
+    ghost use Rattle.acl.specs.Lists.{table_of};
+    ghost use Rattle.acl_words.specs.declared.leaders.Edition.{Edition};
+    ghost use Rattle.acl_words.specs.declared.user_id.UserId.{UserId};
+
+    /// The value follows the history of a session of this edition, with this owner.
+    ghost follows: { Self → Edition → UserId → History → Type 0 };
+
+    /// Takes in one act that was done; `lists` are the lists after it.
+    fn follow(&mut self, lists: &Lists, act: Act)
+        ensures { Follows (follows self.old) (follows self.new) (table_of lists.now) act };
+}
+
+/// Nothing follows the acts.
+impl Follower for () {
+    ghost follows = { λ _ _ _ _. Unit {0} };
+
+    fn follow(&mut self, _lists: &Lists, _act: Act) {}
 }

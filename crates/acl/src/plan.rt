@@ -14,8 +14,8 @@ ghost use Rattle.acl.specs.History.{among};
 ghost use Rattle.acl.specs.Table.{users_in, led_by};
 ghost use Rattle.acl.specs.Lists.{table_of};
 
+use crate::acl::RightsChange;
 use crate::lists::Lists;
-use crate::requests::RightsChange;
 use crate::sets::{plan_sets, push_act};
 use acl_words::{
     AclFault, Act, Bit, BitChange, MaskEntry, MaskScope, NewLeader, Object, USERS, UserId,

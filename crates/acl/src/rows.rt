@@ -6,7 +6,7 @@ ghost use Rattle.std.specs.Map.{lookup};
 ghost use Rattle.indexmap.specs.IndexMap.{spare};
 ghost use Rattle.acl_words.specs.Same.{same_user};
 ghost use Rattle.acl_words.specs.declared.command_name.TheConstants.CommandName.{COUNT};
-ghost use Rattle.acl_words.specs.declared.limits.TheConstants.{WINDOWS};
+ghost use Rattle.acl_words.specs.declared.slots.TheConstants.{WINDOWS};
 ghost use Rattle.acl.specs.Table.{mask_bits, opening_bits, with_window, without_leader, bits_on};
 ghost use Rattle.acl.specs.Table.{with_right};
 

@@ -4,8 +4,8 @@ use Rattle.std.specs.Prelude.{filter, length, take, drop, replicate, if◌then�
 use Rattle.std.specs.List.{list_any}
 use Rattle.std.proofs.Common.{take-append-drop, length-take-le, ap, ◌∙◌, sym, subst}
 use Rattle.acl_words.specs.Same.{same_user}
-use Rattle.acl_words.specs.declared.edition.Edition.{Edition}
-use Rattle.acl_words.specs.declared.edition.Edition.TheVariants.{First, Second}
+use Rattle.acl_words.specs.declared.leaders.Edition.{Edition}
+use Rattle.acl_words.specs.declared.leaders.Edition.TheVariants.{First, Second}
 use Rattle.acl_words.specs.declared.user_id.UserId.{UserId}
 
 -- whether the user is one of these

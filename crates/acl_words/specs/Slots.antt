@@ -2,7 +2,7 @@
 use Rattle.std.specs.Prelude.{◌≡◌, ℕ, ◌≤◌, Bool, false, ◌==◌, List, [], ◌∷◌, Option, Some, None}
 use Rattle.std.specs.Prelude.{is_some, is_none, position, length, ◌+◌, if◌then◌else◌}
 use Rattle.std.specs.Option.{option_map_or}
-use Rattle.acl_words.specs.declared.limits.TheConstants.{WINDOWS}
+use Rattle.acl_words.specs.declared.slots.TheConstants.{WINDOWS}
 
 abbrev pub is_window : ℕ → Option ℕ → Bool
 is_window w slot = option_map_or (λ v. v == w) slot false

@@ -1,12 +1,19 @@
-//! The leaders of a user.
+//! The leaders of a user, and the edition, which says how many a user may have.
 
-ghost use Rattle.std.specs.Prelude.{◌≡◌, ◌<◌, ◌≤◌, ◌∷◌, ◌++◌, [], None, Some, length, nat_le};
-ghost use Rattle.std.specs.Prelude.{if◌then◌else◌};
+ghost use Rattle.std.specs.Prelude.{◌≡◌, ◌<◌, ◌≤◌, ◌∷◌, ◌++◌, [], None, Some, length, nat_le, if◌then◌else◌};
 ghost use Rattle.acl_words.specs.Leaders.{among, leaders_with, remaining_leaders};
 
-use crate::edition::Edition;
 use crate::user_id::UserId;
 use std::marker::Model;
+
+/// A session's edition decides how many groups a user may be in.
+#[derive(Clone, Copy, PartialEq, Eq, Debug)]
+pub enum Edition {
+    /// One group: a new leader takes the former one's place.
+    First,
+    /// Up to eight groups, each with a leader, in the order in which they were named.
+    Second,
+}
 
 /// The most leaders that a user may have.
 const MOST: usize = 8;

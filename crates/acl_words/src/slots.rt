@@ -1,8 +1,12 @@
 ghost use Rattle.std.specs.Prelude.{◌≡◌};
 ghost use Rattle.acl_words.specs.Slots.{is_window, without_window};
-ghost use Rattle.acl_words.specs.declared.limits.TheConstants.{WINDOWS};
+ghost use Rattle.acl_words.specs.declared.slots.TheConstants.{WINDOWS};
 
-use crate::limits::WINDOWS;
+/// The most users that may be known, the owner included.
+pub const USERS: usize = 64;
+
+/// The most windows that may be open at once.
+pub const WINDOWS: usize = 40;
 
 /// The open windows, each in one of the slots 0 to 39.
 #[derive(Clone, Copy, PartialEq, Eq, Debug)]

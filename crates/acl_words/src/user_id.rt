@@ -1,8 +1,8 @@
-ghost use Rattle.std.specs.Prelude.{◌≡◌, ◌≤◌, ◌<◌, ◌==◌, IfSome, nat_eq, codes, position};
-ghost use Rattle.std.specs.Prelude.{unwrap_or};
+ghost use Rattle.std.specs.Prelude.{◌≡◌, ◌≤◌, ◌<◌, ◌==◌, IfSome, nat_eq, codes, position, unwrap_or, true};
 ghost use Rattle.std.specs.List.{list_all};
 ghost use Rattle.std.specs.Cmp.Lexicographic.{pointwise};
 ghost use Rattle.acl_words.specs.Names.{is_letter, is_name_byte, is_name, begins_with_letter};
+ghost use Rattle.acl_words.specs.Same.{same_user};
 
 /// The most bytes of a name.
 const LONGEST: usize = 20;
@@ -107,3 +107,10 @@ impl UserId {
         &self.name[..length_of(&self.name)]
     }
 }
+
+/// If the test finds two names equal, they are equal.
+pub fn names_equal()
+    ensures equal { (u v : UserId) → same_user u v ≡ true → u ≡ v }
+    ensures reflexive { (u : UserId) → same_user u u ≡ true }
+    ensures symmetric { (u v : UserId) → same_user u v ≡ same_user v u }
+{}

@@ -5,8 +5,8 @@ use Rattle.std.proofs.lemmas.List.{take_at, take-append-drop, length-append, len
 use Rattle.std.proofs.lemmas.Bool.{eqb-true, ltb-false, le-ltb}
 use Rattle.attach_proto.specs.declared.fault.ProtoFault.{ProtoFault}
 use Rattle.attach_proto.specs.declared.fault.ProtoFault.TheVariants.{TooLong, WrongSide}
-use Rattle.attach_proto.specs.declared.side.Side.{Side}
-use Rattle.attach_proto.specs.declared.side.Side.TheVariants.{Server, Peer}
+use Rattle.attach_proto.specs.declared.kind.Side.{Side}
+use Rattle.attach_proto.specs.declared.kind.Side.TheVariants.{Server, Peer}
 use Rattle.attach_proto.specs.declared.kind.Kind.{Kind}
 use Rattle.attach_proto.specs.declared.kind.Kind.TheVariants as kind
 use Rattle.attach_proto.specs.declared.message.Message.{Message}

@@ -7,7 +7,7 @@ use Rattle.std.proofs.lemmas.List.{append-nil, take_rest, drop_at, length-append
 use Rattle.std.proofs.lemmas.List.Concat.{flat_map-append}
 use Rattle.attach_proto.specs.declared.fault.ProtoFault.{ProtoFault}
 use Rattle.attach_proto.specs.declared.fault.ProtoFault.TheVariants.{NoMemory}
-use Rattle.attach_proto.specs.declared.side.Side.{Side}
+use Rattle.attach_proto.specs.declared.kind.Side.{Side}
 use Rattle.attach_proto.specs.declared.message.Message.{Message}
 use Rattle.attach_proto.specs.declared.reading.Front.{Front}
 use Rattle.attach_proto.specs.declared.reading.Front.TheVariants.{Whole}

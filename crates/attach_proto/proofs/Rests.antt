@@ -7,7 +7,7 @@ use Rattle.std.proofs.lemmas.List.{take_at, take-append-drop, length-append, len
 use Rattle.std.proofs.lemmas.Bool.{ltb-true, ltb-false, lt-ltb, le-ltb}
 use Rattle.attach_proto.specs.declared.fault.ProtoFault.{ProtoFault}
 use Rattle.attach_proto.specs.declared.fault.ProtoFault.TheVariants.{TooLong, WrongSide, BadKind, BadPayload, NoMemory}
-use Rattle.attach_proto.specs.declared.side.Side.{Side}
+use Rattle.attach_proto.specs.declared.kind.Side.{Side}
 use Rattle.attach_proto.specs.declared.kind.Kind.{Kind}
 use Rattle.attach_proto.specs.declared.message.Message.{Message}
 use Rattle.attach_proto.specs.declared.reading.Front.TheVariants.{Part, Broken}

@@ -4,8 +4,8 @@ use Rattle.std.specs.Prelude.{ℕ, ◌+◌, ◌*◌, Bool, true, false, nat_lt, 
 use Rattle.std.specs.Prelude.{◌∷◌, length, take, find, Option, Some, None}
 use Rattle.attach_proto.specs.declared.fault.ProtoFault.TheVariants.{BadKind, TooLong, BadPayload}
 use Rattle.attach_proto.specs.declared.fault.ProtoFault.TheVariants.{WrongSide}
-use Rattle.attach_proto.specs.declared.side.Side.{Side}
-use Rattle.attach_proto.specs.declared.side.Side.TheVariants.{Server, Peer}
+use Rattle.attach_proto.specs.declared.kind.Side.{Side}
+use Rattle.attach_proto.specs.declared.kind.Side.TheVariants.{Server, Peer}
 use Rattle.attach_proto.specs.declared.kind.Kind.{Kind}
 use Rattle.attach_proto.specs.declared.message.Message.{Message}
 use Rattle.attach_proto.specs.declared.reading.Front.{Front}

@@ -1,6 +1,6 @@
 -- The one spelling of each message.
 use Rattle.std.specs.Prelude.{ℕ, ◌≤◌, List, ◌∷◌, ◌++◌, length}
-use Rattle.attach_proto.specs.declared.side.Side.{Side}
+use Rattle.attach_proto.specs.declared.kind.Side.{Side}
 use Rattle.attach_proto.specs.declared.kind.Kind.{Kind}
 use Rattle.attach_proto.specs.declared.message.Message.{Message}
 use Rattle.attach_proto.specs.Fields.{two, all_spelled, AreSaid}

@@ -6,7 +6,7 @@ use Rattle.attach_proto.specs.declared.fault.ProtoFault.{ProtoFault}
 use Rattle.attach_proto.specs.declared.fault.ProtoFault.TheVariants.{BadKind, TooLong, BadPayload}
 use Rattle.attach_proto.specs.declared.fault.ProtoFault.TheVariants.{WrongSide, NoMemory}
 use Rattle.attach_proto.specs.declared.kind.Kind.{Kind}
-use Rattle.attach_proto.specs.declared.side.Side.{Side}
+use Rattle.attach_proto.specs.declared.kind.Side.{Side}
 use Rattle.attach_proto.specs.declared.message.Message.{Message}
 use Rattle.attach_proto.specs.Spelling.{code, spelling, payload, kind_of, reader_of, HasFields}
 use Rattle.attach_proto.specs.Spelling.{IsSpellable}

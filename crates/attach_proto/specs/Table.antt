@@ -1,15 +1,15 @@
 -- The table of frames: a kind of frames is a row of `row_of`, and a line of `of_parts`. A kind that clients heed has
 -- a line of what it tells or draws too.
 use Rattle.std.specs.Prelude.{◌≡◌, ℕ, true, false, if◌then◌else◌, List, [], ◌∷◌, Option, Some, None}
-use Rattle.attach_proto.specs.declared.side.Side.{Side}
-use Rattle.attach_proto.specs.declared.side.Side.TheVariants.{Server, Peer}
+use Rattle.attach_proto.specs.declared.kind.Side.{Side}
+use Rattle.attach_proto.specs.declared.kind.Side.TheVariants.{Server, Peer}
 use Rattle.attach_proto.specs.declared.kind.Kind.{Kind}
 use Rattle.attach_proto.specs.declared.kind.Kind.TheVariants as kind
 use Rattle.attach_proto.specs.declared.message.Message.{Message}
 use Rattle.attach_proto.specs.declared.message.Message.TheVariants.{Attach, Window, Command, Keys}
 use Rattle.attach_proto.specs.declared.message.Message.TheVariants.{Resize, Output, Detach, Welcome}
 use Rattle.attach_proto.specs.declared.message.Message.TheVariants.{Draw, Input, Say, Size, Gone}
-use Rattle.attach_proto.specs.declared.told.Told.{Told}
+use Rattle.attach_proto.specs.declared.why.Told.{Told}
 use Rattle.attach_proto.specs.Fields.{Field, Number, Byte, WindowNumber, WhyNumber, Token, Name}
 use Rattle.attach_proto.specs.Fields.{Last, Nothing, Text, Bytes, NotEmpty}
 use Rattle.attach_proto.specs.Fields.{Value, LastValue, Values, read, read_last, ◌>>=◌}

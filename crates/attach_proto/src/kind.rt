@@ -1,10 +1,8 @@
-//! The kinds of frames.
+//! The kinds of frames, and which side sends them.
 
 ghost use Rattle.std.specs.Prelude.{◌≡◌};
 ghost use Rattle.attach_proto.specs.Spelling.{code, reader_of};
 ghost use Rattle.attach_proto.specs.Reading.{kind_at};
-
-use crate::side::Side;
 
 /// The kinds of frames.
 #[derive(Clone, Copy, PartialEq, Eq)]
@@ -84,4 +82,13 @@ impl Kind {
                 Side::Peer,
         }
     }
+}
+
+/// The side that reads.
+#[derive(Clone, Copy, PartialEq, Eq)]
+pub enum Side {
+    /// The server, which reads what its peers send.
+    Server,
+    /// A client, a window's program or a command, which reads what the server sends.
+    Peer,
 }

@@ -5,25 +5,21 @@
 mod fault;
 mod fields;
 mod kind;
-mod laws;
 mod message;
 mod reader;
 mod reading;
-mod side;
 mod token;
-mod told;
 mod why;
 mod writing;
 
 pub use fault::{ProtoFault, WriteFault};
-pub use kind::Kind;
-pub use laws::{longest_list, one_reading, spelled_apart, spelled_ones_are_read};
+pub use kind::{Kind, Side};
 pub use message::Message;
 pub use reader::Reader;
 pub use reading::LONGEST;
-pub use side::Side;
 pub use strings::{Bytes, Text};
 pub use token::{TOKEN_LEN, Token};
-pub use told::Told;
-pub use why::Why;
-pub use writing::{head_of, write_message};
+pub use why::{Told, Why};
+pub use writing::{
+    head_of, longest_list, one_reading, spelled_apart, spelled_ones_are_read, write_message,
+};

@@ -16,8 +16,7 @@ use crate::fields::{
 };
 use crate::kind::Kind;
 use crate::token::Token;
-use crate::told::Told;
-use crate::why::Why;
+use crate::why::{Told, Why};
 use std::alloc::{AllocError, Global};
 use strings::{Bytes, Text};
 

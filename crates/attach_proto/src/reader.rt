@@ -6,9 +6,9 @@ ghost use Rattle.attach_proto.specs.declared.message.Message.{Message};
 ghost use Rattle.attach_proto.specs.Streams.{HasRead, IsRun, TakesPiece, Answers};
 
 use crate::fault::ProtoFault;
+use crate::kind::Side;
 use crate::message::Message;
 use crate::reading::{Front, front_of};
-use crate::side::Side;
 use std::alloc::{AllocError, Global};
 use std::marker::Model;
 

@@ -4,9 +4,8 @@ ghost use Rattle.std.specs.Prelude.{◌≡◌, ◌<◌, IfOk};
 ghost use Rattle.attach_proto.specs.Reading.{front, sized, of_length};
 
 use crate::fault::{ProtoFault, Unread};
-use crate::kind::Kind;
+use crate::kind::{Kind, Side};
 use crate::message::{Message, message_of};
-use crate::side::Side;
 use std::alloc::{AllocError, Global};
 
 /// The front of a stream: a frame, a part of one, or a fault.

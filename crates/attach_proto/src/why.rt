@@ -1,7 +1,10 @@
-//! Why the server lets a peer go.
+//! Why the server lets a peer go, and what a peer is told.
 
 ghost use Rattle.std.specs.Prelude.{◌≡◌};
 ghost use Rattle.attach_proto.specs.Fields.{reason, why_of};
+ghost use Rattle.attach_proto.specs.Table.{untold};
+
+use strings::Text;
 
 /// Why the server lets a peer go.
 #[derive(Clone, Copy, Debug, PartialEq, Eq)]
@@ -50,6 +53,30 @@ impl Why {
             6 => Some(Why::Fault),
             7 => Some(Why::TrailFull),
             _ => None,
+        }
+    }
+}
+
+/// What the server has told a peer about its admission: whether it is in, why not, and why it was let go.
+#[derive(Debug, Drop)]
+pub struct Told {
+    /// The server let the peer in.
+    pub is_welcome: bool,
+    /// The last text before that. It says why the peer isn't let in.
+    pub refusal: Option<Text>,
+    /// Why the server let the peer go.
+    pub gone: Option<Why>,
+}
+
+impl Told {
+    /// Nothing was told.
+    pub fn new() -> Told
+        ensures { result ≡ untold }
+    {
+        Told {
+            is_welcome: false,
+            refusal: None,
+            gone: None,
         }
     }
 }

@@ -6,7 +6,7 @@ use Rattle.charsets.specs.Text.{text, IsText}
 use Rattle.charsets.specs.Units.{is_plain}
 use Rattle.cells.specs.declared.cell.Cell.{Cell}
 use Rattle.cells.specs.declared.rendition.Rendition.{Rendition}
-use Rattle.cells.specs.declared.put.Put.{Put}
+use Rattle.cells.specs.declared.texts.Put.{Put}
 use Rattle.cells.specs.Line.{cell_at, is_left, is_right, left_cell, marked, narrow_cell, right_cell}
 
 -- Characters that take one column each and that no set changes while GL is ASCII: 20 to 7E, Latin

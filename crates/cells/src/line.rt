@@ -9,11 +9,11 @@ ghost use Rattle.cells.specs.Line.{narrow_cells, ArePlainFrom, plain};
 ghost use Rattle.cells.specs.Texts.{text_cells, PutsText};
 ghost use Rattle.cells.specs.Resizing.{line_resized};
 
-use crate::blanking::blank_all;
 use crate::cell::{Cell, Shape};
-use crate::put::Put;
+use crate::edits::blank_all;
 use crate::rendition::Rendition;
 use crate::shifting::splice_used;
+use crate::texts::Put;
 use crate::{edits, texts};
 use std::alloc::{AllocError, Global};
 use std::marker::Model;

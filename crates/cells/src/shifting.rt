@@ -4,9 +4,8 @@ ghost use Rattle.std.specs.Prelude.{◌≡◌, ◌+◌, ◌-◌, ◌<◌, ◌≤
 ghost use Rattle.cells.specs.Line.{cells_spliced, IsPaired, IsUsed, blank};
 ghost use Rattle.cells.specs.Put.{IsPut};
 
-use crate::blanking::blank_all;
 use crate::cell::Cell;
-use crate::edits::{cut, splice};
+use crate::edits::{blank_all, cut, splice};
 
 /// Does what `edits::splice` does, in a line whose cells from `used` on are blank and stay
 /// untouched. Returns the column from which on the line is blank afterwards.

@@ -4,15 +4,25 @@ ghost use Rattle.std.specs.Prelude.{◌≡◌, ◌+◌, ◌-◌, ◌<◌, ◌≤
 ghost use Rattle.std.specs.List.{list_all};
 ghost use Rattle.charsets.specs.Text.{text};
 ghost use Rattle.charsets.specs.Units.{is_plain};
-ghost use Rattle.cells.specs.Line.{blank, cell_at, cells_spliced, is_right, marked, narrow_cell, narrow_cells};
-ghost use Rattle.cells.specs.Line.{plain, ArePlainFrom, IsPaired};
+ghost use Rattle.cells.specs.Line.{blank, cell_at, cells_spliced, is_right, marked, narrow_cell, narrow_cells, plain};
+ghost use Rattle.cells.specs.Line.{ArePlainFrom, IsPaired};
 ghost use Rattle.cells.specs.Put.{mended, IsPut};
 ghost use Rattle.cells.specs.Texts.{text_cells, PutsText};
 
 use crate::cell::{Cell, Shape};
 use crate::letters::{is_known_wide, is_letter, is_mark, is_plain};
-use crate::put::Put;
 use charsets::first_character;
+
+/// Text that was put.
+#[derive(Clone, Copy)]
+pub struct Put {
+    /// The columns that it takes.
+    pub count: usize,
+    /// The columns of its last character.
+    pub last: usize,
+    /// The bytes that it took.
+    pub read: usize,
+}
 
 /// Puts the characters 20 to 7E with which some bytes begin over as many old cells, from `at` on, as
 /// far as there is room, if they are put without rendition or protection over such cells. The old

@@ -2,9 +2,9 @@
 use Rattle.std.proofs.Common.{◌≡◌, ℕ, zero, suc, List, [], ◌∷◌, ◌++◌, length, Option, Some, None, refl, ◌∙◌, arith}
 use Rattle.std.proofs.lemmas.Bool.Decides.{nat_tests}
 use Rattle.std.proofs.lemmas.List.{map-append}
-use Rattle.charsets.specs.declared.unit.Coding.{Coding}
-use Rattle.charsets.specs.declared.unit.Coding.TheVariants.{Utf8, Ecma35}
-use Rattle.charsets.specs.declared.unit.Unit.TheVariants.{Code}
+use Rattle.charsets.specs.declared.decoder.Coding.{Coding}
+use Rattle.charsets.specs.declared.decoder.Coding.TheVariants.{Utf8, Ecma35}
+use Rattle.charsets.specs.declared.decoder.Unit.TheVariants.{Code}
 use Rattle.charsets.specs.Utf8.{Piece, piece, cut, codes}
 use Rattle.charsets.specs.Units.{units, unit_of_byte}
 use Rattle.charsets.proofs.Cuts.{cut-none, cut-some, codes-go_on}

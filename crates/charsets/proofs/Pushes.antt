@@ -3,8 +3,8 @@ use Rattle.std.proofs.Common.{◌≡◌, [], refl}
 use Rattle.std.proofs.lemmas.List.{map-append}
 use Rattle.charsets.specs.Utf8.{cut}
 use Rattle.charsets.specs.Units.{units}
-use Rattle.charsets.specs.declared.unit.Coding.{Coding}
-use Rattle.charsets.specs.declared.unit.Coding.TheVariants.{Utf8, Ecma35}
+use Rattle.charsets.specs.declared.decoder.Coding.{Coding}
+use Rattle.charsets.specs.declared.decoder.Coding.TheVariants.{Utf8, Ecma35}
 use Rattle.charsets.proofs.Cuts.{codes-go_on}
 
 -- without a byte there is no unit

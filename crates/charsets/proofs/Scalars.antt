@@ -6,9 +6,9 @@ use Rattle.std.proofs.lemmas.Bool.{cond_both}
 use Rattle.std.proofs.lemmas.Bool.Decides.{nat_tests}
 use Rattle.std.proofs.lemmas.List.Folds.{list_all-append}
 use Rattle.std.proofs.Math.Utf8.{scalar}
-use Rattle.charsets.specs.declared.unit.Coding.{Coding}
-use Rattle.charsets.specs.declared.unit.Coding.TheVariants.{Utf8, Ecma35}
-use Rattle.charsets.specs.declared.unit.Unit.TheVariants.{Code}
+use Rattle.charsets.specs.declared.decoder.Coding.{Coding}
+use Rattle.charsets.specs.declared.decoder.Coding.TheVariants.{Utf8, Ecma35}
+use Rattle.charsets.specs.declared.decoder.Unit.TheVariants.{Code}
 use Rattle.charsets.specs.Utf8.{Piece, is_lead, follows, continues, code_of_3, code_of_4, piece, piece_of_2, piece_of_3}
 use Rattle.charsets.specs.Utf8.{piece_of_4, cut, codes}
 use Rattle.charsets.specs.Units.{units, unit_of_byte, IsUnit}

@@ -1,9 +1,9 @@
 -- Graphic codes if nothing is shifted.
 use Rattle.std.proofs.Common.{◌≡◌, ℕ, true, Some, None, arith}
 use Rattle.std.proofs.lemmas.Bool.Decides.{nat_tests}
-use Rattle.charsets.specs.declared.sets.CharacterSet.TheVariants.{Ascii}
+use Rattle.charsets.specs.declared.shifts.CharacterSet.TheVariants.{Ascii}
 use Rattle.charsets.specs.declared.shifts.Shifts.{Shifts}
-use Rattle.charsets.specs.declared.unit.Unit.TheVariants.{Code}
+use Rattle.charsets.specs.declared.decoder.Unit.TheVariants.{Code}
 use Rattle.charsets.specs.Sets.{character_at}
 use Rattle.charsets.specs.Shifts.{set_at, is_graphic, mapped, spent}
 

@@ -3,12 +3,12 @@
 use Rattle.std.specs.Prelude.{◌≡◌, ℕ, ◌≤◌, Bool, ◌&&◌, ◌||◌, nat_lt, if◌then◌else◌, List}
 use Rattle.std.specs.Prelude.{[], ◌∷◌, ◌++◌, map}
 use Rattle.std.specs.Char.{IsScalar}
-use Rattle.charsets.specs.declared.unit.Coding.{Coding}
-use Rattle.charsets.specs.declared.unit.Coding.TheVariants.{Utf8, Ecma35}
-use Rattle.charsets.specs.declared.unit.Unit.{Unit}
-use Rattle.charsets.specs.declared.unit.Unit.TheVariants.{Code, High}
-use Rattle.charsets.specs.declared.unit.Units.{Units}
-use Rattle.charsets.specs.declared.unit.Units.TheVariants.{Nothing, One, Two}
+use Rattle.charsets.specs.declared.decoder.Coding.{Coding}
+use Rattle.charsets.specs.declared.decoder.Coding.TheVariants.{Utf8, Ecma35}
+use Rattle.charsets.specs.declared.decoder.Unit.{Unit}
+use Rattle.charsets.specs.declared.decoder.Unit.TheVariants.{Code, High}
+use Rattle.charsets.specs.declared.decoder.Units.{Units}
+use Rattle.charsets.specs.declared.decoder.Units.TheVariants.{Nothing, One, Two}
 use Rattle.charsets.specs.Utf8.{codes}
 
 -- in ECMA-35 each byte is a unit: below A0 it is the code itself, from A0 on a byte of GR (ECMA-35,

@@ -4,9 +4,34 @@ ghost use Rattle.std.specs.Prelude.{◌≡◌, ◌↔◌, ℕ, List, [], ◌∷�
 ghost use Rattle.charsets.specs.Units.{unit_of_byte, unit_list};
 ghost use Rattle.charsets.specs.Partial.{chars_of};
 
-use crate::unit::{Coding, Unit, Units};
 use crate::utf8::{Chars, Partial, step};
 use std::marker::Model;
+
+/// A coding: how bytes are read.
+#[derive(Clone, Copy, Debug, PartialEq, Eq)]
+pub enum Coding {
+    /// UTF-8 (Unicode core specification, 3.9).
+    Utf8,
+    /// The 8-bit code of ECMA-35: each byte is a unit.
+    Ecma35,
+}
+
+/// What a parser reads.
+#[derive(Clone, Copy, Debug, PartialEq, Eq)]
+pub enum Unit {
+    /// A code point: a control, or a graphic character.
+    Code(char),
+    /// A byte of ECMA-35 from A0 on.
+    High(u8),
+}
+
+/// The units that one byte completes: none, one, or two if it also breaks off a character.
+#[derive(Clone, Copy, Debug, PartialEq, Eq)]
+pub enum Units {
+    Nothing,
+    One(Unit),
+    Two(Unit, Unit),
+}
 
 /// Reads bytes in one coding, and keeps the bytes of a character that isn't complete yet.
 #[derive(Debug, Drop)]
@@ -28,7 +53,7 @@ impl Model for Decoder {
 
 impl Decoder {
     ghost use Rattle.charsets.specs.Units.{Decoding, units, StandsFor, HasGiven};
-    ghost use Rattle.charsets.specs.declared.unit.Coding.TheVariants.{Utf8};
+    ghost use Rattle.charsets.specs.declared.decoder.Coding.TheVariants.{Utf8};
 
     #[tactic(auto, unfolding(crate::specs::Utf8::cut))]
     /// A decoder for UTF-8 that has read nothing.

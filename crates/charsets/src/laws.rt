@@ -4,11 +4,11 @@
 ghost use Rattle.std.specs.Prelude.{◌≡◌, ℕ, List, [], ◌∷◌, ◌++◌, map, true, Some, None};
 ghost use Rattle.std.specs.Char.{encode_utf8, IsScalar};
 ghost use Rattle.std.specs.List.{AllByRecursion, concat, list_all};
-ghost use Rattle.charsets.specs.declared.sets.CharacterSet.TheVariants.{Ascii};
+ghost use Rattle.charsets.specs.declared.shifts.CharacterSet.TheVariants.{Ascii};
 ghost use Rattle.charsets.specs.declared.shifts.Shifts.{Shifts};
-ghost use Rattle.charsets.specs.declared.unit.Coding.{Coding};
-ghost use Rattle.charsets.specs.declared.unit.Coding.TheVariants.{Utf8};
-ghost use Rattle.charsets.specs.declared.unit.Unit.TheVariants.{Code};
+ghost use Rattle.charsets.specs.declared.decoder.Coding.{Coding};
+ghost use Rattle.charsets.specs.declared.decoder.Coding.TheVariants.{Utf8};
+ghost use Rattle.charsets.specs.declared.decoder.Unit.TheVariants.{Code};
 ghost use Rattle.charsets.specs.Shifts.{set_at, is_graphic, mapped, spent};
 ghost use Rattle.charsets.specs.Units.{units, units_of_pieces, is_plain, IsUnit};
 ghost use Rattle.charsets.specs.Utf8.{codes, with_front};

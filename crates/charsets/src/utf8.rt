@@ -1,10 +1,10 @@
-//! UTF-8, read byte by byte.
+//! UTF-8, read byte by byte, or a whole character at once.
 
-ghost use Rattle.std.specs.Prelude.{◌≡◌, ◌<◌, ◌≤◌, [], ◌∷◌, ◌++◌, true};
-ghost use Rattle.std.specs.Prelude.{option_to_list};
-ghost use Rattle.charsets.specs.Utf8.{is_lead, follows, continues, code_of_2, code_of_3, code_of_4};
-ghost use Rattle.charsets.specs.Utf8.{codes, with_front, broken_gives};
+ghost use Rattle.std.specs.Prelude.{◌≡◌, ◌<◌, ◌≤◌, [], ◌∷◌, ◌++◌, true, option_to_list, IfSome, length, take};
+ghost use Rattle.charsets.specs.Utf8.{is_lead, follows, continues, code_of_2, code_of_3, code_of_4, codes, with_front};
+ghost use Rattle.charsets.specs.Utf8.{broken_gives};
 ghost use Rattle.charsets.specs.Partial.{IsPartial, partial_bytes, chars_of};
+ghost use Rattle.charsets.specs.Units.{is_character};
 
 /// The bytes of an incomplete character: at most three.
 #[derive(Clone, Copy, Debug, PartialEq, Eq)]
@@ -33,13 +33,13 @@ fn is_lead(a: u8) -> bool
     0xC1 < a && a < 0xF5
 }
 
-pub fn continues(b: u8) -> bool
+fn continues(b: u8) -> bool
     ensures { result ≡ continues b }
 {
     0x7F < b && b < 0xC0
 }
 
-pub fn follows(a: u8, b: u8) -> bool
+fn follows(a: u8, b: u8) -> bool
     ensures { result ≡ follows a b }
 {
     match a {
@@ -51,7 +51,7 @@ pub fn follows(a: u8, b: u8) -> bool
     }
 }
 
-pub fn char_of_2(a: u8, b: u8) -> char
+fn char_of_2(a: u8, b: u8) -> char
     requires lead { is_lead a ≡ true }
     requires short { a < 0xE0 }
     requires second { follows a b ≡ true }
@@ -61,7 +61,7 @@ pub fn char_of_2(a: u8, b: u8) -> char
     char::from_u32(code).unwrap()
 }
 
-pub fn char_of_3(a: u8, b: u8, c: u8) -> char
+fn char_of_3(a: u8, b: u8, c: u8) -> char
     requires long { 0xE0 ≤ a }
     requires short { a < 0xF0 }
     requires second { follows a b ≡ true }
@@ -72,7 +72,7 @@ pub fn char_of_3(a: u8, b: u8, c: u8) -> char
     char::from_u32(code).unwrap()
 }
 
-pub fn char_of_4(a: u8, b: u8, c: u8, d: u8) -> char
+fn char_of_4(a: u8, b: u8, c: u8, d: u8) -> char
     requires lead { is_lead a ≡ true }
     requires long { 0xF0 ≤ a }
     requires second { follows a b ≡ true }
@@ -157,4 +157,37 @@ pub fn step(partial: Partial, byte: u8) -> (Chars, Partial)
             }
         }
     }
+}
+
+/// The graphic character with which some bytes begin in UTF-8, and its number of bytes (Unicode core
+/// specification, table 3-7). None if they begin with anything else.
+#[inline(always)]
+pub fn first_character(bytes: &[u8]) -> Option<(char, usize)>
+    requires { 0 < length bytes.now }
+    ensures reads { IfSome result (λ c. codes (take c.1 bytes.now) ≡ (c.0 ∷ [], [])) }
+    ensures character { IfSome result (λ c. is_character c.0 ≡ true) }
+    ensures some { IfSome result (λ c. 0 < c.1) }
+    ensures few { IfSome result (λ c. c.1 ≤ length bytes.now) }
+{
+    let a = bytes[0];
+    if 0x1F < a && a < 0x7F {
+        return Some((a as char, 1));
+    }
+    if bytes.len() < 2 || a < 0xC2 {
+        return None;
+    }
+    let b = bytes[1];
+    if a < 0xE0 && continues(b) && (a != 0xC2 || b >= 0xA0) {
+        return Some((char_of_2(a, b), 2));
+    }
+    if bytes.len() < 3 || a < 0xE0 || !follows(a, b) || !continues(bytes[2]) {
+        return None;
+    }
+    if a < 0xF0 {
+        return Some((char_of_3(a, b, bytes[2]), 3));
+    }
+    if bytes.len() < 4 || 0xF4 < a || !continues(bytes[3]) {
+        return None;
+    }
+    Some((char_of_4(a, b, bytes[2], bytes[3]), 4))
 }

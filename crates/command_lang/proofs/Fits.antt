@@ -9,7 +9,7 @@ use Rattle.acl.specs.declared.command_name.CommandName.TheVariants as name
 use Rattle.command_lang.specs.declared.rows.Kind.{Kind}
 use Rattle.command_lang.specs.declared.rows.Words.{Words}
 use Rattle.command_lang.specs.declared.rows.Words.TheVariants.{Nothing, One, Perhaps, OneOrTwo, Three, Several}
-use Rattle.strings.specs.declared.word.Word.{Word}
+use Rattle.strings.specs.declared.text.Word.{Word}
 use Rattle.command_lang.specs.declared.fault.FaultKind.{FaultKind}
 use Rattle.command_lang.specs.declared.fault.FaultKind.TheVariants as faults
 use Rattle.command_lang.specs.declared.fault.ParseFault.{ParseFault}

@@ -6,7 +6,7 @@ use Rattle.std.proofs.lemmas.Bool.Decides.{nat_tests}
 use Rattle.std.specs.Option.{is_some, option_and_then}
 use Rattle.std.specs.Str.{chars, is_utf8}
 use Rattle.acl.specs.declared.command_name.CommandName.{CommandName}
-use Rattle.strings.specs.declared.word.Word.{Word}
+use Rattle.strings.specs.declared.text.Word.{Word}
 use Rattle.strings.specs.Lines.{words}
 use Rattle.strings.proofs.Readings.{words-are, words-cut}
 use Rattle.command_lang.specs.declared.command.Command.{Command}

@@ -6,7 +6,7 @@ use Rattle.std.proofs.lemmas.Bool.Decides.{nat_tests}
 use Rattle.std.proofs.Math.Utf8.{scalars, scalar}
 use Rattle.std.specs.Str.{IsUtf8}
 use Rattle.std.specs.Option.{is_some}
-use Rattle.strings.specs.declared.word.Word.{Word}
+use Rattle.strings.specs.declared.text.Word.{Word}
 use Rattle.strings.specs.Grammar.{is_octal, octal_front, Escaped, Character, Single, Double, Part, Parts}
 use Rattle.strings.specs.Grammar.{Line, IsCut, size}
 use Rattle.strings.proofs.Suffixes.{Behind, character-behind, part-behind, parts-behind}

@@ -10,7 +10,7 @@ use Rattle.std.proofs.lemmas.Str.{encodes-chars, scalars-chars}
 use Rattle.std.proofs.Math.Utf8.{scalars, scalar}
 use Rattle.acl.specs.declared.command_name.CommandName.{CommandName}
 use Rattle.acl.specs.declared.command_name.CommandName.TheVariants as name
-use Rattle.strings.specs.declared.word.Word.{Word}
+use Rattle.strings.specs.declared.text.Word.{Word}
 use Rattle.command_lang.specs.Names.{name_text}
 use Rattle.command_lang.specs.Values.{is_empty_text}
 use Rattle.strings.specs.Grammar.{Character, Double, Part, Parts, Line, IsCut, size}

@@ -5,7 +5,7 @@ use Rattle.std.proofs.Common.{drop-cons}
 use Rattle.std.specs.Prelude.{nat_lt}
 use Rattle.std.specs.Option.{is_some}
 use Rattle.command_lang.specs.declared.rows.Words.{Words}
-use Rattle.strings.specs.declared.word.Word.{Word}
+use Rattle.strings.specs.declared.text.Word.{Word}
 use Rattle.command_lang.specs.declared.fault.FaultKind.TheVariants as faults
 use Rattle.command_lang.specs.declared.fault.ParseFault.{ParseFault}
 use Rattle.command_lang.specs.Table.{kind_at, least, at, word_fault, words_faults, first_of}

@@ -1,7 +1,7 @@
 -- The faults of a line's words.
 use Rattle.std.specs.Prelude.{ℕ, if◌then◌else◌, List, [], ◌∷◌, Option, Some, None}
 use Rattle.acl.specs.declared.command_name.CommandName.{CommandName}
-use Rattle.strings.specs.declared.word.Word.{Word}
+use Rattle.strings.specs.declared.text.Word.{Word}
 use Rattle.command_lang.specs.declared.fault.FaultKind.TheVariants as faults
 use Rattle.command_lang.specs.declared.fault.ParseFault.{ParseFault}
 use Rattle.command_lang.specs.Names.{command_named}

@@ -5,7 +5,7 @@ use Rattle.acl.specs.declared.command_name.CommandName.{CommandName}
 use Rattle.acl.specs.declared.command_name.CommandName.TheVariants as name
 use Rattle.command_lang.specs.declared.command.Command.{Command}
 use Rattle.command_lang.specs.declared.command.Command.TheVariants as command
-use Rattle.strings.specs.declared.word.Word.{Word}
+use Rattle.strings.specs.declared.text.Word.{Word}
 use Rattle.command_lang.specs.Values.{number_in, lock_mode_in, switch_in, coding_in}
 use Rattle.command_lang.specs.Values.{is_vertical, items_of, users_of, leader_of, bits_of}
 use Rattle.command_lang.specs.Values.{mask_of}

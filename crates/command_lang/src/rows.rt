@@ -1,8 +1,9 @@
-//! The table of commands: a row for each, with its name, its alias, the words that it takes and
-//! what it needs.
+//! The table of commands: a row for each, with its name, its alias, the words that it takes and what it needs. The
+//! names of commands are those of their rows.
 
 ghost use Rattle.std.specs.Prelude.{◌≡◌};
 ghost use Rattle.command_lang.specs.Rows.{row, shown};
+ghost use Rattle.command_lang.specs.Names.{name_text, is_called, command_named, AreNamed};
 
 use crate::needs::{CLIENT, MULTIUSER, NOTHING, Needs, PAGE_AND_WINDOW, TYPING, WINDOW};
 use acl::CommandName;
@@ -109,3 +110,37 @@ pub fn row(name: CommandName) -> Entry
         needs,
     }
 }
+
+/// The word that names the command.
+pub fn name_text(name: CommandName) -> &'static str
+    ensures { result.now ≡ name_text name }
+{
+    row(name).name
+}
+
+/// Whether the word is the command's name or alias.
+fn is_called(name: CommandName, word: &str) -> bool
+    ensures { result ≡ is_called word.now name }
+{
+    let row = row(name);
+    match row.alias {
+        Some(alias) => row.name == word || alias == word,
+        None => row.name == word,
+    }
+}
+
+/// The command whose name or alias the word is; `None` if there is none.
+pub fn command_named(word: &str) -> Option<CommandName>
+    ensures { result ≡ command_named word.now }
+{
+    CommandName::ALL
+        .iter()
+        .find(|name| is_called(**name, word))
+        .copied()
+}
+
+/// Each row stands at the index of its command, and has the name that the GNU Screen manual gives
+/// the command.
+pub fn commands_have_their_names()
+    ensures { AreNamed }
+{}

@@ -1,14 +1,15 @@
 //! A command is printed as a line.
 
-ghost use Rattle.std.specs.Prelude.{◌≡◌, ◌++◌, ◌∷◌, ◌<◌, ◌+◌, IfOk, OnOk};
+ghost use Rattle.std.specs.Prelude.{◌≡◌, ◌++◌, ◌∷◌, ◌<◌, ◌+◌, IfOk, OnOk, ℕ, List};
 ghost use Rattle.std.specs.String.{string_bytes};
 ghost use Rattle.std.specs.Str.{chars, encode_utf8_all};
-ghost use Rattle.command_lang.specs.Printing.{is_plain, octal, escaped, quoted};
-ghost use Rattle.command_lang.specs.Printing.{needs_no_quotes, printed_word, printed};
+ghost use Rattle.command_lang.specs.Printing.{is_plain, octal, escaped, quoted, needs_no_quotes, printed_word, printed};
+ghost use Rattle.command_lang.specs.Relation.{Relates};
+ghost use Rattle.command_lang.specs.ReadsBack.{ReadsBack};
 
 use crate::command::Command;
 use crate::command_words::command_words;
-use crate::names::name_text;
+use crate::rows::name_text;
 use std::alloc::{AllocError, Global};
 
 /// Whether the character needs no quotes.
@@ -94,7 +95,7 @@ fn put_word(text: &str, out: &mut String) -> Result<(), AllocError>
 
 /// The line of a command: its name and its words, with one blank between them. `AllocError` if
 /// memory is refused.
-pub fn command_line(alloc: Global, command: &Command) -> Result<String, AllocError>
+fn command_line(alloc: Global, command: &Command) -> Result<String, AllocError>
     ensures { IfOk result (λ t. string_bytes t ≡ printed command.now) }
 {
     let words = command_words(alloc, command)?;
@@ -104,4 +105,19 @@ pub fn command_line(alloc: Global, command: &Command) -> Result<String, AllocErr
         put_word(word.as_str(), &mut out)?;
     }
     Ok(out)
+}
+
+/// The line of a command: its name and its words with one blank between them. `AllocError` if
+/// memory is refused.
+///
+/// A word stands between `"` if it is empty or holds a character other than ASCII letters, ASCII
+/// digits and `_ - + , # ? *`. Numbers and bits are written in one form: `number 007` is printed as
+/// `number 7`.
+pub fn print(alloc: Global, command: &Command) -> Result<String, AllocError>
+    ensures text { IfOk result (λ t. string_bytes t ≡ printed command.now) }
+    // This line gives what any line of the command gives, unless it is too long.
+    ensures reads_back { IfOk result (λ t. (line : List ℕ) → Relates line command.now
+        → ReadsBack (string_bytes t) command.now) }
+{
+    command_line(alloc, command)
 }

@@ -8,8 +8,7 @@ ghost use Rattle.command_lang.specs.MaskFaults.{unless};
 ghost use Rattle.command_lang.specs.FirstWord.{name_in};
 
 use crate::fault::{FaultKind, ParseFault};
-use crate::names::command_named;
-use crate::rows::{Kind, Words};
+use crate::rows::{Kind, Words, command_named};
 use crate::values::{
     coding, has_empty_item, is_bits, is_vertical, lock_mode, mask_fault, number, switch,
 };

@@ -5,8 +5,8 @@ use Rattle.std.specs.List.{list_all, AllByRecursion}
 use Rattle.std.proofs.lemmas.Bool.Decides.{nat_tests}
 use Rattle.std.proofs.lemmas.Bool.{cond_both}
 use Rattle.std.proofs.lemmas.List.{length-take}
-use Rattle.charsets.specs.declared.unit.Unit.{Unit}
-use Rattle.control_parser.specs.declared.func.Func.{Func}
+use Rattle.charsets.specs.declared.decoder.Unit.{Unit}
+use Rattle.control_parser.specs.declared.parser.Func.{Func}
 use Rattle.control_parser.specs.Text.{is_mark, value, fields, values, mark_of, numbers_of, is_well_formed}
 use Rattle.control_parser.specs.Grammar.{code, Rest, nothing, escape, control, string, osc, control_of, functions}
 use Rattle.control_parser.specs.Spelling.{IsGiven}

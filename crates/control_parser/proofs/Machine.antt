@@ -5,9 +5,9 @@ use Rattle.std.specs.Prelude.{◌==◌}
 use Rattle.std.proofs.lemmas.Bool.{cond_both}
 use Rattle.std.proofs.lemmas.Bool.Decides.{nat_tests}
 use Rattle.std.proofs.lemmas.List.{append-nil, drop-drop}
-use Rattle.charsets.specs.declared.unit.Unit.{Unit}
-use Rattle.control_parser.specs.declared.func.Func.{Func}
-use Rattle.control_parser.specs.declared.func.Func.TheVariants.{Print, Control}
+use Rattle.charsets.specs.declared.decoder.Unit.{Unit}
+use Rattle.control_parser.specs.declared.parser.Func.{Func}
+use Rattle.control_parser.specs.declared.parser.Func.TheVariants.{Print, Control}
 use Rattle.control_parser.specs.Text.{is_intermediate, while}
 use Rattle.control_parser.specs.Grammar.{code, ESC, SUB, is_control, is_c1, is_sequence_text, in_escape, in_control}
 use Rattle.control_parser.specs.Grammar.{in_string, in_osc, controls, text, Rest, nothing, escape, control, string, osc}

@@ -5,8 +5,8 @@ use Rattle.std.proofs.lemmas.Bool.Decides.{nat_tests}
 use Rattle.std.proofs.lemmas.List.{append-nil}
 use Rattle.std.proofs.lemmas.List.Folds.{list_all-append}
 use Rattle.std.proofs.Math.Utf8.{low_scalar}
-use Rattle.charsets.specs.declared.unit.Unit.{Unit}
-use Rattle.charsets.specs.declared.unit.Unit.TheVariants as units
+use Rattle.charsets.specs.declared.decoder.Unit.{Unit}
+use Rattle.charsets.specs.declared.decoder.Unit.TheVariants as units
 use Rattle.charsets.specs.Units.{IsUnit}
 use Rattle.control_parser.specs.Text.{is_intermediate}
 use Rattle.control_parser.specs.Grammar.{is_sequence_text, Rest, nothing, escape, control, string, osc, with_front}

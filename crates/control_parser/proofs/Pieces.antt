@@ -4,9 +4,9 @@ use Rattle.std.specs.List.{flat_map, list_all}
 use Rattle.std.proofs.lemmas.Bool.Decides.{nat_tests}
 use Rattle.std.proofs.lemmas.List.{append-nil}
 use Rattle.charsets.specs.Units.{is_plain}
-use Rattle.charsets.specs.declared.unit.Unit.{Unit}
-use Rattle.charsets.specs.declared.unit.Unit.TheVariants.{Code}
-use Rattle.control_parser.specs.declared.func.Func.TheVariants.{Print}
+use Rattle.charsets.specs.declared.decoder.Unit.{Unit}
+use Rattle.charsets.specs.declared.decoder.Unit.TheVariants.{Code}
+use Rattle.control_parser.specs.declared.parser.Func.TheVariants.{Print}
 use Rattle.control_parser.specs.declared.state.State.TheVariants as state
 use Rattle.control_parser.specs.Grammar.{Rest, nothing, is_graphic, with_front, functions, functions_behind}
 use Rattle.control_parser.specs.Kept.{kept, functions_of_pieces}

@@ -4,8 +4,8 @@ use Rattle.std.proofs.Common.{take, get_or, Some, refl, sym, ap, ◌∙◌, subs
 use Rattle.std.specs.List.{list_all}
 use Rattle.std.proofs.lemmas.List.{take_more}
 use Rattle.std.proofs.lemmas.List.Folds.{list_all_more}
-use Rattle.charsets.specs.declared.unit.Coding.TheVariants.{Utf8}
-use Rattle.control_parser.specs.declared.func.Func.TheVariants.{Csi}
+use Rattle.charsets.specs.declared.decoder.Coding.TheVariants.{Utf8}
+use Rattle.control_parser.specs.declared.parser.Func.TheVariants.{Csi}
 use Rattle.control_parser.specs.declared.state.SequenceText.{SequenceText}
 use Rattle.control_parser.specs.Grammar.{is_sequence_text}
 use Rattle.control_parser.specs.Steps.{text_grown, no_text, valued, TakesDigits}

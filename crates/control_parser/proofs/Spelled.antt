@@ -6,12 +6,12 @@ use Rattle.std.specs.List.{list_all, flat_map}
 use Rattle.std.proofs.lemmas.Bool.Decides.{nat_tests}
 use Rattle.std.proofs.lemmas.List.{append-nil, map-append}
 use Rattle.std.proofs.lemmas.List.Folds.{list_all-append}
-use Rattle.charsets.specs.declared.unit.Coding.TheVariants.{Utf8}
-use Rattle.charsets.specs.declared.unit.Unit.TheVariants as units
+use Rattle.charsets.specs.declared.decoder.Coding.TheVariants.{Utf8}
+use Rattle.charsets.specs.declared.decoder.Unit.TheVariants as units
 use Rattle.charsets.specs.Utf8.{codes, cut}
 use Rattle.charsets.proofs.Encoded.{one_byte, codes-encode}
-use Rattle.control_parser.specs.declared.func.Func.{Func}
-use Rattle.control_parser.specs.declared.func.Func.TheVariants.{Print, High, Control, Esc, Csi}
+use Rattle.control_parser.specs.declared.parser.Func.{Func}
+use Rattle.control_parser.specs.declared.parser.Func.TheVariants.{Print, High, Control, Esc, Csi}
 use Rattle.control_parser.specs.Text.{is_intermediate, is_digit, is_number, is_mark, while, value, fields, values}
 use Rattle.control_parser.specs.Text.{mark_of, unmarked}
 use Rattle.control_parser.specs.Grammar.{is_control, is_graphic, is_sequence_text, Rest, nothing, escape, control}

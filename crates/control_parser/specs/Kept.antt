@@ -1,9 +1,9 @@
 -- What a parser keeps of a list of units.
 use Rattle.std.specs.Prelude.{◌≡◌, ℕ, not, nat_lt, nat_le, ◌==◌, if◌then◌else◌, List, [], ◌∷◌, ◌++◌}
 use Rattle.std.specs.Prelude.{length, map, Option, Some, None}
-use Rattle.charsets.specs.declared.unit.Unit.{Unit}
-use Rattle.charsets.specs.declared.unit.Unit.TheVariants.{Code}
-use Rattle.control_parser.specs.declared.func.Func.{Func}
+use Rattle.charsets.specs.declared.decoder.Unit.{Unit}
+use Rattle.charsets.specs.declared.decoder.Unit.TheVariants.{Code}
+use Rattle.control_parser.specs.declared.parser.Func.{Func}
 use Rattle.control_parser.specs.declared.state.SequenceText.{SequenceText}
 use Rattle.control_parser.specs.declared.state.State.{State}
 use Rattle.control_parser.specs.declared.state.State.TheVariants.{Ground, Escape, EscapeIgnored}

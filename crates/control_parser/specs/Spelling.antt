@@ -4,11 +4,11 @@ use Rattle.std.specs.Prelude.{nat_le, ◌==◌, if◌then◌else◌, List, [], �
 use Rattle.std.specs.Prelude.{option_to_list, take}
 use Rattle.std.specs.Char.{encode_utf8, IsScalar}
 use Rattle.std.specs.List.{flat_map, list_all}
-use Rattle.charsets.specs.declared.unit.Coding.{Coding}
-use Rattle.charsets.specs.declared.unit.Coding.TheVariants.{Utf8, Ecma35}
+use Rattle.charsets.specs.declared.decoder.Coding.{Coding}
+use Rattle.charsets.specs.declared.decoder.Coding.TheVariants.{Utf8, Ecma35}
 use Rattle.charsets.specs.Units.{units}
-use Rattle.control_parser.specs.declared.func.Func.{Func}
-use Rattle.control_parser.specs.declared.func.Func.TheVariants.{Print, High, Control, Esc, Csi}
+use Rattle.control_parser.specs.declared.parser.Func.{Func}
+use Rattle.control_parser.specs.declared.parser.Func.TheVariants.{Print, High, Control, Esc, Csi}
 use Rattle.control_parser.specs.Text.{is_intermediate, is_mark}
 use Rattle.control_parser.specs.Grammar.{is_control, is_graphic, is_string_opener, nothing}
 use Rattle.control_parser.specs.Grammar.{functions}

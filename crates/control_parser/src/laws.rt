@@ -4,12 +4,12 @@
 ghost use Rattle.std.specs.Prelude.{◌≡◌, ℕ, List, [], ◌∷◌, ◌++◌, map, true};
 ghost use Rattle.std.specs.List.{AllByRecursion, flat_map, list_all};
 ghost use Rattle.charsets.specs.Units.{is_plain, IsUnit};
-ghost use Rattle.charsets.specs.declared.unit.Coding.{Coding};
-ghost use Rattle.charsets.specs.declared.unit.Coding.TheVariants.{Utf8};
-ghost use Rattle.charsets.specs.declared.unit.Unit.{Unit};
-ghost use Rattle.charsets.specs.declared.unit.Unit.TheVariants.{Code};
-ghost use Rattle.control_parser.specs.declared.func.Func.{Func};
-ghost use Rattle.control_parser.specs.declared.func.Func.TheVariants.{Print};
+ghost use Rattle.charsets.specs.declared.decoder.Coding.{Coding};
+ghost use Rattle.charsets.specs.declared.decoder.Coding.TheVariants.{Utf8};
+ghost use Rattle.charsets.specs.declared.decoder.Unit.{Unit};
+ghost use Rattle.charsets.specs.declared.decoder.Unit.TheVariants.{Code};
+ghost use Rattle.control_parser.specs.declared.parser.Func.{Func};
+ghost use Rattle.control_parser.specs.declared.parser.Func.TheVariants.{Print};
 ghost use Rattle.control_parser.specs.Grammar.{functions, is_graphic, nothing, with_front};
 ghost use Rattle.control_parser.specs.Spelling.{spelling, IsGiven, IsGivenInUtf8, ReadsAs};
 ghost use Rattle.control_parser.specs.Kept.{opening, functions_of_pieces};

@@ -5,7 +5,7 @@ ghost use Rattle.std.specs.Prelude.{OnOk, OnErr};
 ghost use Rattle.control_parser.specs.Spelling.{parameter, numerals, spelling, coding_of, IsGiven};
 ghost use Rattle.control_parser.specs.Spelling.{ReadsAs};
 
-use crate::func::Func;
+use crate::parser::Func;
 use std::alloc::AllocError as NoMemory;
 use std::marker::Model;
 

@@ -6,9 +6,9 @@ ghost use Rattle.control_parser.specs.Steps.{no_text, text_grown, begun_step, br
 ghost use Rattle.control_parser.specs.Steps.{escape_step, step_of, alone_of};
 ghost use Rattle.control_parser.specs.Grammar.{code, is_control, is_c1};
 
-use crate::func::Func;
 use crate::intermediates::Intermediates;
 use crate::params::Params;
+use crate::parser::Func;
 use charsets::Unit;
 
 /// The text of a control sequence as far as it was read.

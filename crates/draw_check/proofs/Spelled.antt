@@ -7,8 +7,8 @@ use Rattle.std.specs.Char.{encode_utf8, IsScalar}
 use Rattle.std.specs.List.{list_all, flat_map}
 use Rattle.std.proofs.lemmas.Bool.Decides.{nat_tests}
 use Prim.Native.Char.{code}
-use Rattle.control_parser.specs.declared.func.Func.{Func}
-use Rattle.control_parser.specs.declared.func.Func.TheVariants.{Print, High, Control, Esc, Csi}
+use Rattle.control_parser.specs.declared.parser.Func.{Func}
+use Rattle.control_parser.specs.declared.parser.Func.TheVariants.{Print, High, Control, Esc, Csi}
 use Rattle.control_parser.specs.Grammar.{is_graphic}
 use Rattle.control_parser.specs.Spelling.{spelling, decimal, digit, parameter, numerals, IsGivenInUtf8}
 use Rattle.draw_check.specs.Functions.{is_function, is_second, ends_lead, ends_values, ends_control, ends_mode}

@@ -2,10 +2,10 @@
 use Rattle.std.proofs.Common.{◌≡◌, ℕ, ◌<◌, ◌+◌, List, [], ◌∷◌, ◌++◌, length, take, get_or, refl, sym, ap, ◌∙◌, subst}
 use Rattle.std.proofs.Common.{append_assoc, append-nil, arith}
 use Rattle.std.proofs.lemmas.List.{take_more}
-use Rattle.charsets.specs.declared.unit.Unit.{Unit}
-use Rattle.charsets.specs.declared.unit.Coding.{Coding}
+use Rattle.charsets.specs.declared.decoder.Unit.{Unit}
+use Rattle.charsets.specs.declared.decoder.Coding.{Coding}
 use Rattle.charsets.specs.Units.{Decoding, units}
-use Rattle.control_parser.specs.declared.func.Func.{Func}
+use Rattle.control_parser.specs.declared.parser.Func.{Func}
 use Rattle.control_parser.specs.Grammar.{nothing, functions}
 use Rattle.control_parser.specs.Kept.{kept, opening}
 use Rattle.control_parser.proofs.Openings.{functions-opening}

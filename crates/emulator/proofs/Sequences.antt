@@ -5,8 +5,8 @@ use Rattle.std.proofs.Common.{get_or, Option, Some, None, IfSome, refl, sym, ap,
 use Rattle.std.specs.Prelude.{◌==◌}
 use Rattle.std.proofs.lemmas.Bool.Decides.{nat_tests}
 use Rattle.std.proofs.lemmas.List.{take_more_set, length-set, get_or-take, get_or-drop}
-use Rattle.charsets.specs.declared.unit.Coding.TheVariants.{Utf8}
-use Rattle.control_parser.specs.declared.func.Func.TheVariants.{Csi}
+use Rattle.charsets.specs.declared.decoder.Coding.TheVariants.{Utf8}
+use Rattle.control_parser.specs.declared.parser.Func.TheVariants.{Csi}
 use Rattle.control_parser.specs.declared.state.SequenceText.{SequenceText}
 use Rattle.control_parser.specs.Grammar.{is_sequence_text}
 use Rattle.control_parser.specs.Spelling.{ReadsAs}

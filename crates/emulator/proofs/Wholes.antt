@@ -7,15 +7,15 @@ use Rattle.std.proofs.lemmas.List.{take_all, take_more, take-take, get_or-take, 
 use Rattle.std.proofs.lemmas.List.Elements.{All-weaker}
 use Rattle.std.proofs.lemmas.List.Sums.{AllPass-from_list_all, list_all-from_AllPass, prefix_len_passes}
 use Rattle.std.proofs.Math.Seq.{take-add}
-use Rattle.charsets.specs.declared.unit.Coding.{Coding}
-use Rattle.charsets.specs.declared.unit.Coding.TheVariants.{Utf8}
-use Rattle.charsets.specs.declared.unit.Unit.TheVariants as units
+use Rattle.charsets.specs.declared.decoder.Coding.{Coding}
+use Rattle.charsets.specs.declared.decoder.Coding.TheVariants.{Utf8}
+use Rattle.charsets.specs.declared.decoder.Unit.TheVariants as units
 use Rattle.charsets.specs.Text.{text, IsText}
 use Rattle.charsets.specs.Units as whole
 use Rattle.charsets.specs.Units.{Decoding, is_plain, is_character}
 use Rattle.charsets.proofs.Pieces.{codes-plain}
-use Rattle.control_parser.specs.declared.func.Func.{Func}
-use Rattle.control_parser.specs.declared.func.Func.TheVariants.{Print, Control}
+use Rattle.control_parser.specs.declared.parser.Func.{Func}
+use Rattle.control_parser.specs.declared.parser.Func.TheVariants.{Print, Control}
 use Rattle.control_parser.specs.declared.state.State.{State}
 use Rattle.control_parser.specs.Grammar.{Rest, is_graphic, nothing, functions}
 use Rattle.control_parser.specs.Kept.{kept}

@@ -2,11 +2,11 @@
 use Rattle.std.proofs.Common.{◌≡◌, ℕ, ◌<◌, List, [], ◌∷◌, ◌++◌, get_or, map, None, refl, sym, ap, ◌∙◌, append_assoc}
 use Rattle.std.proofs.Common.{append-nil, arith}
 use Rattle.std.specs.List.{AllByRecursion}
-use Rattle.charsets.specs.declared.unit.Unit.TheVariants.{Code}
-use Rattle.charsets.specs.declared.unit.Coding.{Coding}
-use Rattle.charsets.specs.declared.unit.Coding.TheVariants.{Utf8, Ecma35}
-use Rattle.control_parser.specs.declared.func.Func.{Func}
-use Rattle.control_parser.specs.declared.func.Func.TheVariants.{Esc, Csi}
+use Rattle.charsets.specs.declared.decoder.Unit.TheVariants.{Code}
+use Rattle.charsets.specs.declared.decoder.Coding.{Coding}
+use Rattle.charsets.specs.declared.decoder.Coding.TheVariants.{Utf8, Ecma35}
+use Rattle.control_parser.specs.declared.parser.Func.{Func}
+use Rattle.control_parser.specs.declared.parser.Func.TheVariants.{Esc, Csi}
 use Rattle.control_parser.specs.Text.{fields}
 use Rattle.control_parser.specs.Grammar.{Rest, nothing, functions, functions_behind, begun_by, with_front}
 use Rattle.control_parser.specs.Grammar as grammar

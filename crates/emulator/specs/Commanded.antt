@@ -2,8 +2,8 @@
 use Rattle.std.specs.Prelude.{ℕ, List}
 use Rattle.terminal_model.specs.Writing as model
 use Rattle.terminal_model.specs.Writing.{clear_bytes, reset_bytes, coding_bytes}
-use Rattle.emulator.specs.declared.writing.Writing.{Writing}
-use Rattle.emulator.specs.declared.writing.Writing.TheVariants as writing
+use Rattle.emulator.specs.declared.emulator.Writing.{Writing}
+use Rattle.emulator.specs.declared.emulator.Writing.TheVariants as writing
 
 -- as a writing of the definitions
 abbrev pub writing_in : Writing → model.Writing

@@ -1,6 +1,6 @@
 -- The parts of an emulator, and the terminals that it stands for.
 use Rattle.std.specs.Prelude.{◌≡◌, ◌<◌, ◌≤◌, ℕ, List, [], ◌++◌, Option, Some, None, take, length}
-use Rattle.charsets.specs.declared.unit.Coding.{Coding}
+use Rattle.charsets.specs.declared.decoder.Coding.{Coding}
 use Rattle.charsets.specs.Units.{Decoding}
 use Rattle.control_parser.specs.declared.state.State.{State}
 use Rattle.control_parser.specs.Grammar.{functions}

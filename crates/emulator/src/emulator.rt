@@ -1,30 +1,52 @@
 //! A VT220 that turns bytes into a page.
 
-ghost use Rattle.std.specs.Prelude.{◌≡◌, ◌≤◌, ◌<◌, ◌+◌, ◌*◌, ◌↔◌, ◌++◌, Err, IfOk, IfErr, OnOk};
-ghost use Rattle.std.specs.Prelude.{OnErr, IsOk, IsTrue, length, vec_len, vec_capacity};
+ghost use Rattle.std.specs.Prelude.{◌≡◌, ◌≤◌, ◌<◌, ◌+◌, ◌*◌, ◌↔◌, ◌++◌, Err, IfOk, IfErr, OnOk, OnErr, IsOk, IsTrue};
+ghost use Rattle.std.specs.Prelude.{length, vec_len, vec_capacity};
 ghost use Rattle.cells.specs.Page.{IsPage, IsGridSize};
 ghost use Rattle.charsets.specs.Units.{unit_list};
 ghost use Rattle.terminal_model.specs.Screen.{starting};
-ghost use Rattle.terminal_model.specs.Reading.{Terminal, ready, read_unit, read_units, read_byte};
-ghost use Rattle.terminal_model.specs.Reading.{reads};
+ghost use Rattle.terminal_model.specs.Reading.{Terminal, ready, read_unit, read_units, read_byte, reads};
 ghost use Rattle.terminal_model.specs.Writing.{Size, reads_anew};
 ghost use Rattle.vt_screen.specs.Sizes.{IsScreenSize};
-ghost use Rattle.emulator.specs.Standing.{StandsFor, StandsWithin, HasRead, HasReadWithin};
-ghost use Rattle.emulator.specs.Standing.{HasReadByte, HasTaken, TakesWriting, in_screen_coding};
-ghost use Rattle.emulator.specs.Standing.{IsBetween};
-ghost use Rattle.emulator.specs.Commanded.{writing_in};
+ghost use Rattle.emulator.specs.Standing.{StandsFor, StandsWithin, HasRead, HasReadWithin, HasReadByte, HasTaken};
+ghost use Rattle.emulator.specs.Standing.{TakesWriting, in_screen_coding, IsBetween};
+ghost use Rattle.emulator.specs.Commanded.{writing_in, bytes_in};
 ghost use Rattle.terminal_model.specs.Scrollback.{moved_back};
 
 use crate::moved_page::MovedPage;
-use crate::writing::Writing;
 use cells::GridFault;
-use charsets::{Decoder, Unit, Units};
+use charsets::{Coding, Decoder, Unit, Units};
 use control_parser::Parser;
 use std::alloc::{AllocError, Global};
 use std::marker::Model;
 use terminal_model::{Modes, REPORT_BYTES, Report};
 use thiserror::Error;
 use vt_screen::Screen;
+
+/// What a command writes to a terminal, as if its window had written it.
+#[derive(Clone, Copy)]
+pub enum Writing {
+    /// ED 2 and CUP: erases the page and moves the cursor home.
+    Clear,
+    /// RIS: sets all starting values.
+    Reset,
+    /// The terminal reads in this coding from here on.
+    Encoding(Coding),
+}
+
+impl Writing {
+    /// The escape sequences that do this.
+    pub(crate) fn bytes(self) -> &'static [u8]
+        ensures { result.now ≡ bytes_in self }
+    {
+        match self {
+            Writing::Clear => b"\x1B[2J\x1B[H",
+            Writing::Reset => b"\x1Bc",
+            Writing::Encoding(Coding::Utf8) => b"\x1B%G",
+            Writing::Encoding(Coding::Ecma35) => b"\x1B%@",
+        }
+    }
+}
 
 /// Memory for a report was refused. The first `read` bytes were read, and their reports appended.
 #[derive(Clone, Copy, Debug, PartialEq, Eq, Error)]

@@ -2,7 +2,7 @@
 
 ghost use Rattle.std.specs.Prelude.{◌≡◌, ℕ, ◌+◌, ◌*◌, ◌-◌, ◌<◌, ◌≤◌, true, false, length, slice_index, take};
 ghost use Rattle.std.specs.Prelude.{[], ◌∷◌, IfSome, IsTrue, None};
-ghost use Rattle.control_parser.specs.declared.func.Func.TheVariants.{Csi};
+ghost use Rattle.control_parser.specs.declared.parser.Func.TheVariants.{Csi};
 ghost use Rattle.control_parser.specs.Spelling.{ReadsBehindCsi};
 ghost use Rattle.control_parser.specs.Text.{is_digit, is_mark, value_of};
 

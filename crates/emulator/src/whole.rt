@@ -1,9 +1,9 @@
 //! Complete functions at the beginning of a list of bytes, which are performed at once.
 
 ghost use Rattle.std.specs.Prelude.{◌≡◌, ◌≤◌, ◌<◌, ℕ, List, [], ◌∷◌, IsTrue, length, take};
-ghost use Rattle.charsets.specs.declared.unit.Coding.TheVariants.{Utf8};
+ghost use Rattle.charsets.specs.declared.decoder.Coding.TheVariants.{Utf8};
 ghost use Rattle.control_parser.specs.Spelling.{IsGiven};
-ghost use Rattle.control_parser.specs.declared.func.Func.TheVariants.{Esc};
+ghost use Rattle.control_parser.specs.declared.parser.Func.TheVariants.{Esc};
 ghost use Rattle.emulator.specs.Standing.{HasTaken, TakesPiece, TakesWhole, IsBetween};
 
 use crate::emulator::Emulator;

@@ -12,8 +12,8 @@ use Rattle.acl.specs.declared.act.Act.TheVariants.{Known, Set}
 use Rattle.acl.specs.declared.act.Object.{Object}
 use Rattle.acl.specs.declared.bits.Bit.{Bit}
 use Rattle.acl.specs.declared.bits.BitChange.{BitChange}
-use Rattle.acl.specs.declared.edition.Edition.{Edition}
-use Rattle.acl.specs.declared.faults.AclFault.{AclFault}
+use Rattle.acl.specs.declared.leaders.Edition.{Edition}
+use Rattle.acl.specs.declared.entries.AclFault.{AclFault}
 use Rattle.acl.specs.declared.user_id.UserId.{UserId}
 use Rattle.acl.specs.Commands.{Answers, change_acts, chosen_leader, sets, user_acts}
 use Rattle.acl.specs.History.{History, among, followed_by, users_of}

@@ -10,7 +10,7 @@ use Rattle.acl.specs.declared.act.Object.TheVariants.{Window, Command}
 use Rattle.acl.specs.declared.bits.Bit.{Bit}
 use Rattle.acl.specs.declared.bits.Bit.TheVariants.{Read, Write, Execute}
 use Rattle.acl.specs.declared.bits.BitChange.{BitChange}
-use Rattle.acl.specs.declared.edition.Edition.{Edition}
+use Rattle.acl.specs.declared.leaders.Edition.{Edition}
 use Rattle.acl.specs.declared.user_id.UserId.{UserId}
 use Rattle.acl.specs.Commands.{sets, sets_on, known_name_fault}
 use Rattle.acl.specs.History.{History, followed_by, users_of, there, open_count}

@@ -1,6 +1,6 @@
 -- Good entries, and legal ones.
 use Rattle.std.specs.Prelude.{ℕ, List}
-use Rattle.acl.specs.declared.edition.Edition.{Edition}
+use Rattle.acl.specs.declared.leaders.Edition.{Edition}
 use Rattle.acl.specs.declared.user_id.UserId.{UserId}
 use Rattle.acl.specs.History.{History}
 use Rattle.hub_trail.specs.Trails.{Entry}

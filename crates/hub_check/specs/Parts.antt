@@ -5,14 +5,14 @@ use Rattle.acl.specs.declared.act.Act.{Act}
 use Rattle.acl.specs.declared.act.Object.TheVariants as object
 use Rattle.acl.specs.declared.bits.Bit.TheVariants.{Execute}
 use Rattle.acl.specs.declared.command_name.CommandName.{CommandName}
-use Rattle.acl.specs.declared.edition.Edition.{Edition}
+use Rattle.acl.specs.declared.leaders.Edition.{Edition}
 use Rattle.acl.specs.declared.user_id.UserId.{UserId}
 use Rattle.acl.specs.History.{History, followed_by, is_known}
 use Rattle.command_lang.specs.declared.command.Command.{Command}
 use Rattle.command_lang.specs.Names.{name_of}
 use Rattle.command_lang.specs.Relation.{Relates}
-use Rattle.session.specs.verdict.Verdict.{Verdict}
-use Rattle.session.specs.verdict.Verdict.TheVariants.{Right as right}
+use Rattle.session.specs.refusal.Verdict.{Verdict}
+use Rattle.session.specs.refusal.Verdict.TheVariants.{Right as right}
 use Rattle.hub_trail.specs.declared.kept.Kept.{Kept}
 use Rattle.hub_trail.specs.Trails.{Ending, Entry}
 use Rattle.hub_trail.specs.Legal.{IsTrue, AsksFirst, AsksForCommand, CarriesFailed, IsDenied}

@@ -1,7 +1,7 @@
 //! The judge of entries, which takes one entry after another.
 
 ghost use Rattle.std.specs.Prelude.{◌≡◌, ◌↔◌, List, [], true, IfOk};
-ghost use Rattle.acl.specs.declared.edition.Edition.{Edition};
+ghost use Rattle.acl.specs.declared.leaders.Edition.{Edition};
 ghost use Rattle.acl.specs.declared.user_id.UserId.{UserId};
 ghost use Rattle.acl.specs.History.{History};
 ghost use Rattle.hub_trail.specs.Legal.{AreOfUser, acts_after};

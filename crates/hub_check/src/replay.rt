@@ -1,7 +1,7 @@
 //! Rights, locks and clients after the acts of a history.
 
 ghost use Rattle.std.specs.Prelude.{◌≡◌, ◌↔◌, [], true, IfOk, slice_get, length};
-ghost use Rattle.acl.specs.declared.edition.Edition.{Edition};
+ghost use Rattle.acl.specs.declared.leaders.Edition.{Edition};
 ghost use Rattle.acl.specs.declared.user_id.UserId.{UserId};
 ghost use Rattle.acl.specs.declared.act.Object.TheVariants.{Window};
 ghost use Rattle.acl.specs.History.{History, is_known, is_open, leaders_of, may, there, users_of};

@@ -1,7 +1,7 @@
 -- The number of each edition.
 use Rattle.std.specs.Prelude.{ℕ}
-use Rattle.acl.specs.declared.edition.Edition.{Edition}
-use Rattle.acl.specs.declared.edition.Edition.TheVariants.{First, Second}
+use Rattle.acl.specs.declared.leaders.Edition.{Edition}
+use Rattle.acl.specs.declared.leaders.Edition.TheVariants.{First, Second}
 
 abbrev pub number_of_edition : Edition → ℕ
 number_of_edition First = 1

@@ -3,7 +3,7 @@ use Rattle.std.specs.Prelude.{ℕ, ◌+◌, ◌%◌, ◌^◌, List, [], ◌∷�
 use Rattle.std.specs.Prelude.{Bool, false, true, IfSome, slice_get}
 use Rattle.std.specs.List.{list_any, list_all}
 use Rattle.acl.specs.declared.user_id.UserId.{UserId}
-use Rattle.session.specs.verdict.Verdict.{Verdict}
+use Rattle.session.specs.refusal.Verdict.{Verdict}
 use Rattle.session.specs.Trace.{EventValue, Reply}
 pub use Rattle.hub_ledger.specs.States.{StandsFor}
 use Rattle.hub_trail.specs.declared.kept.Kept.{Kept}

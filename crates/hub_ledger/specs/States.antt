@@ -1,6 +1,6 @@
 -- What lies under the hub's lock.
 use Rattle.std.specs.Prelude.{ℕ, Bool, false, List, [], ◌≡◌, length, replicate, Option}
-use Rattle.acl.specs.declared.edition.Edition.{Edition}
+use Rattle.acl.specs.declared.leaders.Edition.{Edition}
 use Rattle.acl.specs.declared.user_id.UserId.{UserId}
 use Rattle.session.specs.event.Effect.{Effect}
 use Rattle.session.specs.Trace.{EventValue, Reply, Entry, Trace, with_step}

@@ -3,8 +3,8 @@
 #![tactic(auto)]
 
 ghost use Rattle.std.specs.Prelude.{replicate};
-ghost use Rattle.acl.specs.declared.edition.Edition.{Edition};
-ghost use Rattle.acl.specs.declared.edition.Edition.TheVariants.{Second};
+ghost use Rattle.acl.specs.declared.leaders.Edition.{Edition};
+ghost use Rattle.acl.specs.declared.leaders.Edition.TheVariants.{Second};
 ghost use Rattle.acl.specs.declared.user_id.UserId.{UserId};
 
 mod closing;

@@ -4,7 +4,7 @@ use Rattle.std.proofs.Common.{refl, ap, subst, sym, inl, inr}
 use Rattle.std.specs.Prelude.{if◌then◌else◌}
 use Rattle.std.specs.List.{AllByRecursion}
 use Rattle.std.proofs.lemmas.Bool.{both_ways}
-use Rattle.acl.specs.declared.edition.Edition.{Edition}
+use Rattle.acl.specs.declared.leaders.Edition.{Edition}
 use Rattle.acl.specs.declared.user_id.UserId.{UserId}
 use Rattle.acl.specs.History.{History}
 use Rattle.acl.specs.declared.act.Object.TheVariants as object
@@ -17,7 +17,7 @@ use Rattle.command_lang.specs.Names.{name_of}
 use Rattle.command_lang.specs.Relation.{read_line}
 use Rattle.command_lang.proofs.OneReading.{relates-reads}
 use Rattle.keys.specs.Grammar.{line}
-use Rattle.session.specs.check.Check.{Check}
+use Rattle.session.specs.refusal.Check.{Check}
 use Rattle.session.specs.event.Done.{Done}
 use Rattle.session.specs.refusal.Refusal.{Refusal}
 use Rattle.session.specs.refusal.Refusal.TheVariants.{UnknownUser, Line}

@@ -15,15 +15,15 @@ use Rattle.command_lang.specs.declared.command.Command.{Command as Order}
 use Rattle.command_lang.specs.declared.fault.ParseFault.{ParseFault}
 use Rattle.command_lang.specs.Relation.{read_line}
 use Rattle.keys.specs.Grammar.{Item, typed, bound, line}
-use Rattle.session.specs.check.Check.{Check}
+use Rattle.session.specs.refusal.Check.{Check}
 use Rattle.session.specs.event.Done.{Done}
 use Rattle.session.specs.event.Reason.TheVariants as reason
-use Rattle.session.specs.message.StatusMessage.{StatusMessage}
-use Rattle.session.specs.message.StatusMessage.TheVariants as message
+use Rattle.session.specs.event.StatusMessage.{StatusMessage}
+use Rattle.session.specs.event.StatusMessage.TheVariants as message
 use Rattle.session.specs.refusal.Refusal.{Refusal}
 use Rattle.session.specs.refusal.Refusal.TheVariants.{NoWindow, Line}
-use Rattle.session.specs.verdict.Verdict.{Verdict}
-use Rattle.session.specs.verdict.Verdict.TheVariants as verdict
+use Rattle.session.specs.refusal.Verdict.{Verdict}
+use Rattle.session.specs.refusal.Verdict.TheVariants as verdict
 use Rattle.session.specs.Trace.{EventValue, Attach, Detach, Keys, Command, Open, Closed}
 use Rattle.session.specs.Sound.{ActsAgree}
 use Rattle.session.specs.Tables.{Window, Client, Tables, window_at, client_at, with_client, focused_window}

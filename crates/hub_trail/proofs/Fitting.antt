@@ -20,8 +20,8 @@ use Rattle.keys.specs.Grammar.{Item, typed, bound, line}
 use Rattle.session.specs.event.Effect.{Effect}
 use Rattle.session.specs.event.Reason.TheVariants as reason
 use Rattle.session.specs.refusal.Refusal.TheVariants.{NoWindow, UnknownUser}
-use Rattle.session.specs.verdict.Verdict.{Verdict}
-use Rattle.session.specs.verdict.Verdict.TheVariants.{Right as right}
+use Rattle.session.specs.refusal.Verdict.{Verdict}
+use Rattle.session.specs.refusal.Verdict.TheVariants.{Right as right}
 use Rattle.session.specs.Trace.{EventValue, Attach, Detach, Keys, Command, Open, Output, Closed, Draw, Reply}
 use Rattle.session.specs.Trace as trace
 use Rattle.session.specs.Sound.{AreFit}

@@ -11,13 +11,13 @@ use Rattle.acl.specs.declared.act.Object.{Object}
 use Rattle.acl.specs.declared.act.Object.TheVariants.{Window, Command}
 use Rattle.acl.specs.declared.bits.Bit.{Bit}
 use Rattle.acl.specs.declared.bits.BitChange.{BitChange}
-use Rattle.acl.specs.declared.edition.Edition.{Edition}
+use Rattle.acl.specs.declared.leaders.Edition.{Edition}
 use Rattle.acl.specs.declared.entries.MaskEntry.{MaskEntry}
 use Rattle.acl.specs.declared.entries.MaskScope.{MaskScope}
 use Rattle.acl.specs.declared.entries.MaskScope.TheVariants as scope
 use Rattle.acl.specs.declared.entries.NewLeader.{NewLeader}
 use Rattle.acl.specs.declared.entries.NewLeader.TheVariants.{Nobody, Named}
-use Rattle.acl.specs.declared.faults.AclFault.TheVariants.{OwnerKept, TooManyUsers, UnknownUser}
+use Rattle.acl.specs.declared.entries.AclFault.TheVariants.{OwnerKept, TooManyUsers, UnknownUser}
 use Rattle.acl.specs.declared.user_id.UserId.{UserId}
 use Rattle.acl.specs.Same.{same_user}
 use Rattle.acl.specs.History.{History, followed_by, users_of, among, leaders_of, there}

@@ -7,7 +7,7 @@ use Rattle.acl.specs.declared.act.Act.{Act}
 use Rattle.acl.specs.History.{History}
 use Rattle.session.specs.event.Effect.{Effect}
 use Rattle.session.specs.refusal.Refusal.TheVariants.{UnknownUser}
-use Rattle.session.specs.verdict.Verdict.{Verdict}
+use Rattle.session.specs.refusal.Verdict.{Verdict}
 use Rattle.session.specs.Trace.{EventValue, Attach, Detach, Keys, Command, Open, Output, Closed, Draw, Reply}
 use Rattle.session.specs.Trace as trace
 use Rattle.session.specs.Tables.{Tables, Window, is_known}

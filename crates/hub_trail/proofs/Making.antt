@@ -16,10 +16,10 @@ use Rattle.command_lang.specs.declared.command.Command.TheVariants as command
 use Rattle.command_lang.specs.Names.{name_of}
 use Rattle.regions.specs.Layouts.{Arrangement, kept_alone, split_focused, remove_focused, next_focus}
 use Rattle.session.specs.event.Reason.TheVariants.{Detached, Quit}
-use Rattle.session.specs.message.StatusMessage.{StatusMessage}
+use Rattle.session.specs.event.StatusMessage.{StatusMessage}
 use Rattle.session.specs.refusal.Refusal.{Refusal}
 use Rattle.session.specs.refusal.Refusal.TheVariants.{Acl, Windows, NoWindow}
-use Rattle.session.specs.windows_fault.WindowsFault.TheVariants.{NoSuchWindow}
+use Rattle.session.specs.rows.WindowsFault.TheVariants.{NoSuchWindow}
 use Rattle.session.specs.Tables.{Tables, Window, Client, window_at, client_at, with_client, with_layout, focused}
 use Rattle.session.specs.Tables.{known_users}
 use Rattle.session.specs.Rights.{group_fault_in}

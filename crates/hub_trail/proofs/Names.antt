@@ -8,7 +8,7 @@ use Rattle.acl.specs.declared.act.Object.{Object}
 use Rattle.acl.specs.declared.act.Object.TheVariants as object
 use Rattle.acl.specs.declared.act.Act.{Act}
 use Rattle.acl.specs.declared.act.Act.TheVariants as act
-use Rattle.acl.specs.declared.faults.AclFault.{AclFault}
+use Rattle.acl.specs.declared.entries.AclFault.{AclFault}
 use Rattle.acl.specs.declared.entries.NewLeader.{NewLeader}
 use Rattle.acl.specs.Names.{named_by}
 use Rattle.acl.specs.Commands.{added, sets, change_fault, new_name_fault, with_name, known_name_fault, group_acts}
@@ -19,7 +19,7 @@ use Rattle.command_lang.specs.declared.command.Command.TheVariants as command
 use Rattle.command_lang.specs.declared.command.Users.TheVariants as users
 use Rattle.session.specs.refusal.Refusal.{Refusal}
 use Rattle.session.specs.refusal.Refusal.TheVariants.{Acl, Windows}
-use Rattle.session.specs.windows_fault.WindowsFault.TheVariants.{NoSuchWindow}
+use Rattle.session.specs.rows.WindowsFault.TheVariants.{NoSuchWindow}
 use Rattle.session.specs.Tables.{Tables, Window, Client, known_users}
 use Rattle.session.specs.Rights.{add_acts_in, group_fault_in}
 use Rattle.session.specs.Naming.{names_of, every_window, every_command, new_leader_of}

@@ -11,7 +11,7 @@ use Rattle.acl.specs.declared.command_name.CommandName.{CommandName}
 use Rattle.acl.specs.History.{is_open, there}
 use Rattle.command_lang.specs.Names.{all_names, command_named}
 use Rattle.session.specs.Naming.{spelled}
-use Rattle.regions.specs.declared.shown.Shown.{Shown}
+use Rattle.regions.specs.declared.layout.Shown.{Shown}
 use Rattle.regions.specs.Layouts.{empty}
 use Rattle.session.specs.Sound.{IsOpen, ShowsOpen, AreFit}
 use Rattle.session.specs.Tables.{Tables, Window, Client, window_at, focused}

@@ -12,7 +12,7 @@ use Rattle.acl.specs.declared.act.LockMode.TheVariants.{Off, Auto, On}
 use Rattle.acl.specs.declared.act.Object.TheVariants as object
 use Rattle.acl.specs.declared.bits.Bit.TheVariants.{Write, Execute}
 use Rattle.acl.specs.declared.user_id.UserId.{UserId}
-use Rattle.acl.specs.declared.edition.Edition.{Edition}
+use Rattle.acl.specs.declared.leaders.Edition.{Edition}
 use Rattle.acl.specs.History.{History, followed_by, is_open}
 use Rattle.acl.specs.Names.{named_by}
 use Rattle.acl.specs.Commands.{known_name_fault}
@@ -21,8 +21,8 @@ use Rattle.command_lang.specs.declared.command.Command.{Command}
 use Rattle.command_lang.specs.declared.command.Command.TheVariants as command
 use Rattle.command_lang.specs.Names.{name_of}
 use Rattle.regions.specs.Layouts.{Arrangement}
-use Rattle.session.specs.check.Check.{Check}
-use Rattle.session.specs.check.Check.TheVariants.{Right as right}
+use Rattle.session.specs.refusal.Check.{Check}
+use Rattle.session.specs.refusal.Check.TheVariants.{Right as right}
 use Rattle.session.specs.event.Reason.TheVariants.{Removed, Quit}
 use Rattle.session.specs.Tables.{Tables, Window, Client, client_at, with_layout, focused, known_users}
 use Rattle.session.specs.Rights.{may_in}

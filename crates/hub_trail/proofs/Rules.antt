@@ -1,10 +1,10 @@
 -- Commands leave the owner, the edition and the next serials unchanged.
 use Rattle.std.proofs.Common.{◌≡◌, ℕ, List, Option, Some, None, refl}
-use Rattle.acl.specs.declared.edition.Edition.{Edition}
+use Rattle.acl.specs.declared.leaders.Edition.{Edition}
 use Rattle.acl.specs.declared.user_id.UserId.{UserId}
 use Rattle.acl.specs.Names.{named_by}
 use Rattle.command_lang.specs.declared.command.Command.{Command}
-use Rattle.session.specs.message.StatusMessage.{StatusMessage}
+use Rattle.session.specs.event.StatusMessage.{StatusMessage}
 use Rattle.session.specs.Tables.{Tables}
 use Rattle.session.specs.Lines.{Caller}
 use Rattle.session.specs.Deeds.{Deed, removes}

@@ -1,12 +1,12 @@
 -- The trail of a run is legal.
 use Rattle.std.specs.List.{AllByRecursion}
 use Rattle.std.proofs.Common.{◌≡◌, ◌∙◌, List, [], ◌∷◌, ◌++◌, Option, Some, None, refl, ap, subst, sym}
-use Rattle.acl.specs.declared.edition.Edition.{Edition}
+use Rattle.acl.specs.declared.leaders.Edition.{Edition}
 use Rattle.acl.specs.declared.user_id.UserId.{UserId}
 use Rattle.acl.specs.History.{History, followed_by, may}
 use Rattle.writelock.specs.Holding.{holder}
-use Rattle.session.specs.verdict.Verdict.{Verdict}
-use Rattle.session.specs.verdict.Verdict.TheVariants.{Right as right, Lock as lock}
+use Rattle.session.specs.refusal.Verdict.{Verdict}
+use Rattle.session.specs.refusal.Verdict.TheVariants.{Right as right, Lock as lock}
 use Rattle.session.specs.event.Effect.{Effect}
 use Rattle.session.specs.Trace.{EventValue}
 use Rattle.session.specs.Trace as trace

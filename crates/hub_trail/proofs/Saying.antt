@@ -20,7 +20,7 @@ use Rattle.command_lang.specs.declared.fault.ParseFault.{ParseFault}
 use Rattle.command_lang.specs.Relation.{read_line}
 use Rattle.command_lang.proofs.OneReading.{reads-relates}
 use Rattle.session.specs.event.Effect.{Effect}
-use Rattle.session.specs.verdict.Verdict.{Verdict}
+use Rattle.session.specs.refusal.Verdict.{Verdict}
 use Rattle.session.specs.Trace.{EventValue, Attach, Detach, Keys, Command, Open, Closed, Reply}
 use Rattle.session.specs.Trace as trace
 use Rattle.session.specs.Tables.{Window, Client, Tables, known_users, focused, with_layout, is_known}

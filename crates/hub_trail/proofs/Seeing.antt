@@ -7,10 +7,10 @@ use Rattle.acl.specs.declared.user_id.UserId.{UserId}
 use Rattle.acl.specs.declared.bits.Bit.TheVariants.{Write}
 use Rattle.acl.specs.declared.act.Object.TheVariants as object
 use Rattle.command_lang.specs.declared.command.Command.{Command}
-use Rattle.session.specs.check.Check.{Check}
-use Rattle.session.specs.check.Check.TheVariants.{Right as right, Unlocked as unlocked}
+use Rattle.session.specs.refusal.Check.{Check}
+use Rattle.session.specs.refusal.Check.TheVariants.{Right as right, Unlocked as unlocked}
 use Rattle.command_lang.specs.declared.needs.Needs.{Needs}
-use Rattle.session.specs.verdict.Verdict.{Verdict}
+use Rattle.session.specs.refusal.Verdict.{Verdict}
 use Rattle.session.specs.Tables.{Tables, Window, Client, focused, focused_window}
 use Rattle.session.specs.Lines.{Caller}
 use Rattle.command_lang.specs.Needs.{needs}

@@ -10,18 +10,18 @@ use Rattle.std.proofs.lemmas.List.{reverse-append}
 use Rattle.std.proofs.lemmas.List.Folds.{list_any-append}
 use Rattle.acl.specs.declared.act.Act.{Act}
 use Rattle.acl.specs.declared.act.Act.TheVariants as act
-use Rattle.acl.specs.declared.edition.Edition.{Edition}
+use Rattle.acl.specs.declared.leaders.Edition.{Edition}
 use Rattle.acl.specs.declared.user_id.UserId.{UserId}
 use Rattle.acl.specs.History.{History, followed_by, is_open, open_count}
 use Rattle.command_lang.specs.declared.command.Command.{Command as Order}
 use Rattle.command_lang.specs.declared.fault.ParseFault.{ParseFault}
 use Rattle.command_lang.specs.Relation.{read_line}
 use Rattle.keys.specs.Grammar.{Item, typed, bound, line}
-use Rattle.session.specs.check.Check.{Check}
+use Rattle.session.specs.refusal.Check.{Check}
 use Rattle.session.specs.event.Reason.TheVariants as reason
-use Rattle.session.specs.message.StatusMessage.{StatusMessage}
+use Rattle.session.specs.event.StatusMessage.{StatusMessage}
 use Rattle.session.specs.refusal.Refusal.{Refusal}
-use Rattle.session.specs.verdict.Verdict.{Verdict}
+use Rattle.session.specs.refusal.Verdict.{Verdict}
 use Rattle.session.specs.Trace.{EventValue, Reply}
 use Rattle.session.specs.Trace as trace
 use Rattle.session.specs.Sound.{Rises, AreFit, client_serials}

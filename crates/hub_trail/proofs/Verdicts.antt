@@ -13,13 +13,13 @@ use Rattle.acl.specs.Same.{same_user, same_bit, index_of_command}
 use Rattle.acl.proofs.StandsForLemmas.{same_user-refl}
 use Rattle.writelock.specs.LockTable.{stops_nobody_but}
 use Rattle.command_lang.specs.declared.command.Command.{Command}
-use Rattle.session.specs.check.Check.{Check}
-use Rattle.session.specs.check.Check.TheVariants.{Right as right, Unlocked as unlocked, Must as must}
+use Rattle.session.specs.refusal.Check.{Check}
+use Rattle.session.specs.refusal.Check.TheVariants.{Right as right, Unlocked as unlocked, Must as must}
 use Rattle.command_lang.specs.declared.needs.Needs.{Needs}
 use Rattle.session.specs.refusal.Refusal.{Refusal}
 use Rattle.session.specs.refusal.Refusal.TheVariants.{EntryDenied, LockDenied, NoWindow}
-use Rattle.session.specs.verdict.Verdict.{Verdict}
-use Rattle.session.specs.verdict.Verdict.TheVariants as verdict
+use Rattle.session.specs.refusal.Verdict.{Verdict}
+use Rattle.session.specs.refusal.Verdict.TheVariants as verdict
 use Rattle.session.specs.Tables.{Tables, Window}
 use Rattle.session.specs.Rights.{may_in, holder_in}
 use Rattle.session.specs.Denials.{entry_denial, lock_denial, denied_on}

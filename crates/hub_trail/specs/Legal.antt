@@ -10,7 +10,7 @@ use Rattle.acl.specs.declared.act.Object.{Object}
 use Rattle.acl.specs.declared.act.Object.TheVariants as object
 use Rattle.acl.specs.declared.bits.Bit.TheVariants.{Execute}
 use Rattle.acl.specs.declared.command_name.CommandName.{CommandName}
-use Rattle.acl.specs.declared.edition.Edition.{Edition}
+use Rattle.acl.specs.declared.leaders.Edition.{Edition}
 use Rattle.acl.specs.declared.user_id.UserId.{UserId}
 use Rattle.acl.specs.History.{History, followed_by, is_known, users_of, may}
 use Rattle.acl.specs.Names.{named_by}
@@ -26,8 +26,8 @@ use Rattle.session.specs.refusal.Denied.{Denied}
 use Rattle.session.specs.refusal.Denied.TheVariants as denied
 use Rattle.session.specs.refusal.Refusal.{Refusal}
 use Rattle.session.specs.refusal.Refusal.TheVariants.{EntryDenied, LockDenied}
-use Rattle.session.specs.verdict.Verdict.{Verdict}
-use Rattle.session.specs.verdict.Verdict.TheVariants.{Right as right, Lock as lock}
+use Rattle.session.specs.refusal.Verdict.{Verdict}
+use Rattle.session.specs.refusal.Verdict.TheVariants.{Right as right, Lock as lock}
 use Rattle.hub_trail.specs.declared.kept.Kept.{Kept}
 use Rattle.hub_trail.specs.declared.kept.Kept.TheVariants as kept
 use Rattle.hub_trail.specs.declared.kept.Finished.{Finished}

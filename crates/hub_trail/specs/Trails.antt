@@ -1,10 +1,10 @@
 -- What a trail is.
 use Rattle.std.specs.Prelude.{List, Result}
 use Rattle.acl.specs.declared.act.Act.{Act}
-use Rattle.acl.specs.declared.edition.Edition.{Edition}
+use Rattle.acl.specs.declared.leaders.Edition.{Edition}
 use Rattle.acl.specs.declared.user_id.UserId.{UserId}
 use Rattle.session.specs.refusal.Refusal.{Refusal}
-use Rattle.session.specs.verdict.Verdict.{Verdict}
+use Rattle.session.specs.refusal.Verdict.{Verdict}
 use Rattle.hub_trail.specs.declared.kept.Kept.{Kept}
 use Rattle.hub_trail.specs.declared.kept.Finished.{Finished}
 

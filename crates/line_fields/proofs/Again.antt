@@ -23,8 +23,8 @@ use Rattle.acl.specs.declared.command_name.CommandName.TheVariants as name
 use Rattle.acl.specs.declared.user_id.UserId.{UserId}
 use Rattle.acl.specs.Names.{is_name_byte, is_name, begins_with_letter, name_of, named_by}
 use Rattle.command_lang.specs.Names.{name_text}
-use Rattle.session_model.specs.declared.verdict.Verdict.{Verdict}
-use Rattle.session_model.specs.declared.verdict.Verdict.TheVariants as verdict
+use Rattle.session_model.specs.declared.refusal.Verdict.{Verdict}
+use Rattle.session_model.specs.declared.refusal.Verdict.TheVariants as verdict
 use Rattle.line_fields.specs.Cutting.{◌>>=◌, is_byte, cut}
 use Rattle.line_fields.specs.Numbers.{number_below, is_number}
 use Rattle.line_fields.proofs.Words.{IsFree, passing, first_field, free_append}

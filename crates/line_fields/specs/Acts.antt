@@ -10,8 +10,8 @@ use Rattle.acl.specs.declared.act.PresetKind.{PresetKind}
 use Rattle.acl.specs.declared.bits.BitChange.{BitChange}
 use Rattle.acl.specs.declared.user_id.UserId.{UserId}
 use Rattle.acl.specs.Names.{name_of, named_by}
-use Rattle.session_model.specs.declared.verdict.Verdict.{Verdict}
-use Rattle.session_model.specs.declared.verdict.Verdict.TheVariants as verdict
+use Rattle.session_model.specs.declared.refusal.Verdict.{Verdict}
+use Rattle.session_model.specs.declared.refusal.Verdict.TheVariants as verdict
 use Rattle.line_fields.specs.Cutting.{◌>>=◌, cut}
 use Rattle.line_fields.specs.Numbers.{number_below, number_at}
 use Rattle.line_fields.specs.Parts.{colon, field, user_at, user_text, user_in, change_text, change_in}

@@ -1,18 +1,18 @@
 -- What the numbers of refusals mean, in words.
 use Rattle.std.specs.Prelude.{ℕ, nat_lt, if◌then◌else◌, List, [], ◌∷◌, ◌++◌, length, drop}
 use Rattle.std.specs.Prelude.{Option, Some, None, codes}
-use Rattle.acl.specs.declared.faults.AclFault.{AclFault}
-use Rattle.acl.specs.declared.faults.AclFault.TheVariants as acl
+use Rattle.acl.specs.declared.entries.AclFault.{AclFault}
+use Rattle.acl.specs.declared.entries.AclFault.TheVariants as acl
 use Rattle.command_lang.specs.declared.fault.FaultKind.{FaultKind}
 use Rattle.command_lang.specs.declared.fault.FaultKind.TheVariants as line
 use Rattle.line_fields.specs.Cutting.{cut}
 use Rattle.line_fields.specs.Parts.{blank}
-use Rattle.regions.specs.declared.fault.RegionFault.{RegionFault}
-use Rattle.regions.specs.declared.fault.RegionFault.TheVariants as region
+use Rattle.regions.specs.declared.layout.RegionFault.{RegionFault}
+use Rattle.regions.specs.declared.layout.RegionFault.TheVariants as region
 use Rattle.session_model.specs.declared.refusal.Refusal.{Refusal}
 use Rattle.session_model.specs.declared.refusal.Refusal.TheVariants as refusal
-use Rattle.session_model.specs.windows_fault.WindowsFault.{WindowsFault}
-use Rattle.session_model.specs.windows_fault.WindowsFault.TheVariants as windows
+use Rattle.session_model.specs.rows.WindowsFault.{WindowsFault}
+use Rattle.session_model.specs.rows.WindowsFault.TheVariants as windows
 
 abbrev pub acl_meaning : AclFault → List ℕ
 acl_meaning acl.UnknownUser = codes "unknown user"

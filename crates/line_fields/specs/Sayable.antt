@@ -5,8 +5,8 @@ use Rattle.acl.specs.declared.act.Object.{Object}
 use Rattle.acl.specs.declared.act.Object.TheVariants as object
 use Rattle.acl.specs.declared.user_id.UserId.{UserId}
 use Rattle.acl.specs.Names.{name_of, named_by}
-use Rattle.session_model.specs.declared.verdict.Verdict.{Verdict}
-use Rattle.session_model.specs.declared.verdict.Verdict.TheVariants as verdict
+use Rattle.session_model.specs.declared.refusal.Verdict.{Verdict}
+use Rattle.session_model.specs.declared.refusal.Verdict.TheVariants as verdict
 use Rattle.line_fields.specs.Acts.{PartKind, User, Leader, Serial, Change, Target, Mode, Preset, Value}
 use Rattle.line_fields.specs.Acts.{row_of, Parts, of_parts}
 use Rattle.line_fields.specs.Rows.{Each, fields_in}

@@ -5,12 +5,12 @@ ghost use Rattle.std.specs.List.{flat_map};
 ghost use Rattle.acl.specs.declared.act.Act.TheVariants as act;
 ghost use Rattle.line_fields.specs.Acts.{kind_text, kind_in, said, after_colon, act_text, rest_in, act_in};
 
-use crate::cutting::cut;
 use crate::numbers::{read_u32, u32_at};
 use crate::parts::{
     push_change, push_mode, push_name, push_object, push_preset, push_user, read_change, read_mode,
     read_object, read_preset, read_user, user_at,
 };
+use crate::texts::cut;
 use Part::{Change, Leader, Mode, Preset, Serial, Target, User};
 use acl::{Act, Bit, LockMode, Object, PresetKind, UserId};
 use session_model::push_decimal;

@@ -2,9 +2,8 @@
 
 ghost use Rattle.std.specs.Prelude.{◌≡◌, ◌++◌, ◌<◌, ◌≤◌, ◌/◌, OnOk};
 ghost use Rattle.line_fields.specs.Dates.{carry, clock_text, date_text, day_of_era, day_of_month, day_text};
-ghost use Rattle.line_fields.specs.Dates.{day_of_year, digit, end_text, era_of, fraction_text, month_index};
-ghost use Rattle.line_fields.specs.Dates.{month_of, time_text, two, when_text, year_of};
-ghost use Rattle.line_fields.specs.Dates.{year_of_era};
+ghost use Rattle.line_fields.specs.Dates.{day_of_year, digit, end_text, era_of, fraction_text, month_index, month_of};
+ghost use Rattle.line_fields.specs.Dates.{time_text, two, when_text, year_of, year_of_era, TimesWorked};
 
 use session_model::push_decimal;
 use std::alloc::AllocError;
@@ -183,3 +182,10 @@ pub fn push_day(ms: u64, out: &mut Vec<u8>) -> Result<(), AllocError>
         push_decimal(ms, out)
     }
 }
+
+/// Times at the ends of February and of the years 1969 and 9999, as another calendar has them.
+#[tactic(auto, // the calendar's sums
+unfolding(crate::specs::Dates::year_of_era, crate::specs::Dates::day_of_year, crate::specs::Dates::month_index))]
+pub fn times_worked()
+    ensures { TimesWorked }
+{}

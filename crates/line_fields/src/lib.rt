@@ -3,20 +3,16 @@
 #![tactic(auto)]
 
 pub mod acts;
-mod cutting;
 mod dates;
 mod events;
-mod laws;
 mod meaning;
 mod numbers;
 pub mod parts;
 mod texts;
 pub mod verdicts;
 
-pub use cutting::{cut, next_word};
-pub use dates::{push_clock, push_day, push_when};
+pub use dates::{push_clock, push_day, push_when, times_worked};
 pub use events::EventKind;
-pub use laws::times_worked;
 pub use meaning::{push_meaning, push_means};
 pub use numbers::{read_u8, read_u16, read_u32, read_u64, u8_at, u16_at, u32_at, u64_at};
-pub use texts::{push_escaped, unescape};
+pub use texts::{cut, next_word, push_escaped, unescape};

@@ -5,7 +5,7 @@ ghost use Rattle.line_fields.specs.Meaning.{acl_meaning, behind, first_by, in_pa
 ghost use Rattle.line_fields.specs.Meaning.{meaning_text, means, means_with, regions_meaning, windows_meaning};
 ghost use Rattle.line_fields.specs.Meaning.{word_at, word_part};
 
-use crate::cutting::cut;
+use crate::texts::cut;
 use acl::AclFault;
 use command_lang::FaultKind;
 use regions::RegionFault;

@@ -5,7 +5,7 @@ ghost use Rattle.std.specs.List.{list_all};
 ghost use Rattle.std.specs.Char.{is_ascii_digit};
 ghost use Rattle.line_fields.specs.Numbers.{is_number, number_below, number_at};
 
-use crate::cutting::cut;
+use crate::texts::cut;
 use std::str;
 
 /// Whether all bytes of a word are decimal digits.

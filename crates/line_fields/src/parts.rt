@@ -8,8 +8,8 @@ ghost use Rattle.line_fields.specs.Parts.{change_text, value_of, bit_of, bit_in,
 ghost use Rattle.line_fields.specs.Parts.{object_text, command_in, object_in, mode_text};
 ghost use Rattle.line_fields.specs.Parts.{mode_in, preset_text, preset_in};
 
-use crate::cutting::cut;
 use crate::numbers::read_u32;
+use crate::texts::cut;
 use acl::{Bit, BitChange, CommandName, LockMode, Object, PresetKind, UserId};
 use command_lang::name_text;
 use session_model::push_decimal;

@@ -3,11 +3,11 @@
 ghost use Rattle.std.specs.Prelude.{◌≡◌, ◌++◌, OnOk};
 ghost use Rattle.line_fields.specs.Acts.{verdict_text, lock_in, right_in, verdict_in};
 
-use crate::cutting::cut;
 use crate::numbers::u32_at;
 use crate::parts::{
     push_change, push_name, push_object, push_user, read_change, read_object, read_user, user_at,
 };
+use crate::texts::cut;
 use acl::{Bit, Object, UserId};
 use session_model::{Verdict, push_decimal};
 use std::alloc::AllocError;

@@ -1,16 +1,46 @@
-//! The bytes of an emulator, which are judged by a twin that reads them.
+//! The bytes of an emulator, which are judged by a twin that reads them, and why there are none.
 
 ghost use Rattle.std.specs.Prelude.{IfOk, OnOk};
 ghost use Rattle.terminal_model.specs.Reading.{ready};
 ghost use Rattle.emulator.specs.Standing.{StandsFor, IsBetween};
 ghost use Rattle.rebuild.specs.Rebuilt.{BringsBack, starting_as};
 
-use crate::fault::RebuildFault;
 use crate::sameness::is_same;
 use crate::telling::put_screen;
 use cells::GridFault;
-use emulator::Emulator;
+use emulator::{Emulator, Stopped};
 use std::alloc::Global;
+use std::io;
+use thiserror::Error;
+
+/// Why a terminal can't be told as bytes.
+#[derive(Clone, Copy, Debug, PartialEq, Eq, Error)]
+pub enum RebuildFault {
+    /// Memory was refused.
+    #[error("out of memory")]
+    NoMemory,
+    /// A character, sequence or string is incomplete: more bytes have to come first.
+    #[error("a character, sequence or string is incomplete")]
+    Unfinished,
+    /// No bytes lead a new terminal to this state. After a change of size a saved place may have a pending wrap outside
+    /// of the last column.
+    #[error("no bytes lead to this state")]
+    NoWay,
+}
+
+// Memory for the twin's answers was refused.
+impl From<Stopped> for RebuildFault {
+    fn from(_error: Stopped) -> RebuildFault {
+        RebuildFault::NoMemory
+    }
+}
+
+// A list of bytes fails only if memory is refused.
+impl From<io::Error> for RebuildFault {
+    fn from(_error: io::Error) -> RebuildFault {
+        RebuildFault::NoMemory
+    }
+}
 
 // A new terminal of an emulator's size.
 fn twin_of(alloc: Global, of: &Emulator) -> Result<Emulator, RebuildFault>

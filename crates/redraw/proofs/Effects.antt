@@ -1,7 +1,7 @@
 -- What each command does to a screen on which a frame is drawn.
 use Rattle.std.proofs.Common.{◌≡◌, ℕ, ◌+◌, ◌<◌, true, false, eqb, ltb, [], ◌∷◌, refl, sym, ap, ◌∙◌, arith, ⊎_elim}
 use Rattle.std.proofs.lemmas.Bool.{cases_Bool, lt-ltb}
-use Rattle.charsets.specs.declared.unit.Coding.TheVariants.{Utf8}
+use Rattle.charsets.specs.declared.decoder.Coding.TheVariants.{Utf8}
 use Rattle.control_parser.specs.Spelling.{spelling, coding_of, IsGiven}
 use Rattle.terminal_model.specs.Screen.{Page, Screen}
 use Rattle.terminal_model.specs.Functions.{plain_sequence, private_sequence}

@@ -4,8 +4,8 @@ use Rattle.std.proofs.Common.{◌∷◌, length, Option, Some, refl, sym, ap, �
 use Rattle.std.proofs.Common.{eq-eqb}
 use Rattle.std.specs.Bool.{then_some}
 use Rattle.std.proofs.lemmas.Bool.{cases_lt, cases_eq, cases_Bool, ne_eqb, lt-ltb, le-ltb}
-use Rattle.charsets.specs.declared.unit.Unit.{Unit}
-use Rattle.charsets.specs.declared.unit.Unit.TheVariants.{Code}
+use Rattle.charsets.specs.declared.decoder.Unit.{Unit}
+use Rattle.charsets.specs.declared.decoder.Unit.TheVariants.{Code}
 use Rattle.charsets.specs.declared.shifts.Shifts.{Shifts}
 use Rattle.charsets.specs.Shifts.{mapped, spent, is_position, is_graphic, starting as starting_shifts}
 use Rattle.charsets.specs.Sets.{character_at}
@@ -14,7 +14,7 @@ use Rattle.cells.specs.declared.rendition.Rendition.{Rendition}
 use Rattle.cells.specs.Line.{cell_at, unprotected, fresh_at, spliced, narrow_cell}
 use Rattle.cells.specs.Line.{left_cell, right_cell}
 use Rattle.cells.specs.Page.{line_at, page_from, edited}
-use Rattle.control_parser.specs.declared.func.Func.TheVariants.{Print}
+use Rattle.control_parser.specs.declared.parser.Func.TheVariants.{Print}
 use Rattle.control_parser.specs.Spelling.{spelling}
 use Rattle.terminal_model.specs.declared.state.State.{State}
 use Rattle.terminal_model.specs.Screen.{Page, Screen, IsSound, with_state}

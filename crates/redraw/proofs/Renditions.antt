@@ -9,7 +9,7 @@ use Rattle.cells.specs.declared.rendition.Colour.{Colour}
 use Rattle.cells.specs.declared.rendition.Colour.TheVariants.{Default, Black, Red, Green, Yellow, Blue, Magenta}
 use Rattle.cells.specs.declared.rendition.Colour.TheVariants.{Cyan, White}
 use Rattle.cells.specs.declared.rendition.Rendition.{Rendition}
-use Rattle.control_parser.specs.declared.func.Func.TheVariants.{Csi}
+use Rattle.control_parser.specs.declared.parser.Func.TheVariants.{Csi}
 use Rattle.terminal_model.specs.declared.action.Action.TheVariants.{Render}
 use Rattle.cells.specs.declared.rendition.Attribute.{Attribute}
 use Rattle.cells.specs.declared.rendition.Attribute.TheVariants.{Plain, Bold, Underlined, Blinking, Reversed}

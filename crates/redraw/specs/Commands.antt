@@ -1,8 +1,8 @@
 -- The control functions that frames consist of.
 use Rattle.std.specs.Prelude.{ℕ, ◌+◌, ◌==◌, ◌<◌, Bool, if◌then◌else◌, List, [], ◌∷◌, Some, None}
 use Prim.Native.Char.{code}
-use Rattle.control_parser.specs.declared.func.Func.{Func}
-use Rattle.control_parser.specs.declared.func.Func.TheVariants.{Print, Esc, Csi}
+use Rattle.control_parser.specs.declared.parser.Func.{Func}
+use Rattle.control_parser.specs.declared.parser.Func.TheVariants.{Print, Esc, Csi}
 use Rattle.control_parser.specs.Spelling.{IsGiven}
 use Rattle.redraw.specs.Renditions.{rendition_params}
 use Rattle.redraw.specs.declared.command.Command.{Command}

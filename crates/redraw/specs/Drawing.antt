@@ -8,7 +8,7 @@ use Rattle.cells.specs.declared.marks.Marks.TheVariants.{Bare, One, Two}
 use Rattle.cells.specs.declared.cell.Cell.{Cell}
 use Rattle.cells.specs.Line.{blank, cell_at, is_left, is_right, unprotected, right_cell, IsPaired}
 use Rattle.cells.specs.Page.{line_at}
-use Rattle.control_parser.specs.declared.func.Func.TheVariants.{Print}
+use Rattle.control_parser.specs.declared.parser.Func.TheVariants.{Print}
 use Rattle.control_parser.specs.Spelling.{spelling}
 use Rattle.terminal_model.specs.Screen.{Page, Screen, IsSound, starting_tabs}
 use Rattle.terminal_model.specs.Reading.{Act, ready, reads}

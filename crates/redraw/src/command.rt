@@ -1,7 +1,7 @@
 //! The control functions that frames are made of.
 
 ghost use Rattle.std.specs.Prelude.{◌≡◌, ◌<◌, ◌++◌, [], OnOk};
-ghost use Rattle.control_parser.specs.declared.func.Func.TheVariants.{Print, Csi, Esc};
+ghost use Rattle.control_parser.specs.declared.parser.Func.TheVariants.{Print, Csi, Esc};
 ghost use Rattle.control_parser.specs.Spelling.{spelling};
 ghost use Rattle.redraw.specs.Commands.{place_params, switch, func_of, IsPlaced};
 

@@ -2,8 +2,8 @@
 use Rattle.std.proofs.Common.{◌≡◌, ◌⊎◌, ℕ, ◌+◌, ◌-◌, ◌<◌, true, false, length, refl, arith, inl, inr, length-append}
 use Rattle.std.proofs.lemmas.Bool.{cases_lt, lt-ltb, le-ltb}
 use Rattle.regions.specs.declared.rect.Rect.{Rect}
-use Rattle.regions.specs.declared.way.Way.{Way}
-use Rattle.regions.specs.declared.way.Way.TheVariants.{Below, Right}
+use Rattle.regions.specs.declared.node.Way.{Way}
+use Rattle.regions.specs.declared.node.Way.TheVariants.{Below, Right}
 use Rattle.regions.specs.Shapes.{Shape, region, split, upper, lower, left, right, boxes, regions, split_at, without}
 use Rattle.regions.specs.Shapes.{after, is_region}
 

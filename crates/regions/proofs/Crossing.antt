@@ -9,14 +9,14 @@ use Rattle.std.proofs.Crossing.{Box-send, Vec-send}
 use Rattle.std.specs.contracts.alloc.Global as Global
 use Rattle.std.specs.contracts.boxed.Box as Box
 use Rattle.std.specs.contracts.impls.GlobalAllocator.TheImpl as heap
-use Rattle.regions.proofs.shown.Shown.TheSendSync as shown
-use Rattle.regions.proofs.way.Way.TheSendSync as way
+use Rattle.regions.proofs.layout.Shown.TheSendSync as shown
+use Rattle.regions.proofs.node.Way.TheSendSync as way
 use Rattle.regions.specs.contracts.layout.Layout as Layout
 use Rattle.regions.specs.contracts.layout.Layout.TheInside as inside
 use Rattle.regions.specs.contracts.node.Node as Node
 use Rattle.regions.specs.contracts.node.Node.TheKnot as knot
-use Rattle.regions.specs.contracts.shown.Shown as Shown
-use Rattle.regions.specs.contracts.way.Way as Way
+use Rattle.regions.specs.contracts.layout.Shown as Shown
+use Rattle.regions.specs.contracts.node.Way as Way
 
 -- the boxes of one layer may be sent, if what they hold may be
 hole_send : IsSend knot.hole-Node

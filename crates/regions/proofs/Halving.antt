@@ -6,8 +6,8 @@ use Rattle.std.proofs.lemmas.List.{get_or_default}
 use Rattle.std.proofs.Math.Seq.{take-append-add, drop-append-add}
 use Rattle.std.proofs.lemmas.Bool.{cases_lt, lt-ltb, le-ltb}
 use Rattle.regions.specs.declared.rect.Rect.{Rect}
-use Rattle.regions.specs.declared.way.Way.{Way}
-use Rattle.regions.specs.declared.way.Way.TheVariants.{Below, Right}
+use Rattle.regions.specs.declared.node.Way.{Way}
+use Rattle.regions.specs.declared.node.Way.TheVariants.{Below, Right}
 use Rattle.regions.specs.Shapes.{Shape, region, split, upper, lower, left, right, boxes, regions, halves, split_at}
 use Rattle.regions.proofs.Counting.{length_boxes}
 

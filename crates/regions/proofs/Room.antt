@@ -4,7 +4,7 @@ use Rattle.std.proofs.Common.{ap, ◌∙◌, arith}
 use Rattle.std.specs.List.{list_all}
 use Rattle.std.proofs.lemmas.Bool.{ltb-true}
 use Rattle.regions.specs.declared.rect.Rect.{Rect}
-use Rattle.regions.specs.declared.way.Way.TheVariants.{Below, Right}
+use Rattle.regions.specs.declared.node.Way.TheVariants.{Below, Right}
 use Rattle.regions.specs.Shapes.{Shape, region, split, upper, lower, left, right, boxes, fits}
 use Rattle.regions.specs.Pages.{is_roomy, box_of, has_room}
 

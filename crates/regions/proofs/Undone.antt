@@ -4,8 +4,8 @@ use Rattle.std.proofs.Common.{length-append, refl, sym, ap, ◌∙◌, arith, in
 use Rattle.std.specs.List.{insert, remove}
 use Rattle.std.proofs.lemmas.List.{take_at, drop_at, length-take, take-append-drop}
 use Rattle.std.proofs.lemmas.Bool.{cases_lt, lt-ltb, le-ltb}
-use Rattle.regions.specs.declared.shown.Shown.{Shown}
-use Rattle.regions.specs.declared.way.Way.{Way}
+use Rattle.regions.specs.declared.layout.Shown.{Shown}
+use Rattle.regions.specs.declared.node.Way.{Way}
 use Rattle.regions.specs.Shapes.{Shape, region, split, regions, split_at, without, after, is_region}
 use Rattle.regions.specs.Layouts.{Arrangement, empty, split_focused, remove_focused}
 use Rattle.regions.proofs.Counting.{regions_split}

@@ -5,10 +5,10 @@ use Rattle.std.specs.Prelude.{Option, Some, None, unwrap_or}
 use Rattle.std.specs.List.{insert, remove}
 use Rattle.std.specs.Coded.{Coded, code_by, coded×, coded_list, coded_ℕ, coded_option}
 use Rattle.std.proofs.Common.{refl, ap}
-use Rattle.regions.specs.declared.shown.Shown.{Shown}
-use Rattle.regions.specs.declared.way.Way.{Way}
-use Rattle.regions.specs.declared.fault.RegionFault.{RegionFault}
-use Rattle.regions.specs.declared.fault.RegionFault.TheVariants.{TooSmall, TooMany, NoMemory}
+use Rattle.regions.specs.declared.layout.Shown.{Shown}
+use Rattle.regions.specs.declared.node.Way.{Way}
+use Rattle.regions.specs.declared.layout.RegionFault.{RegionFault}
+use Rattle.regions.specs.declared.layout.RegionFault.TheVariants.{TooSmall, TooMany, NoMemory}
 use Rattle.regions.specs.Shapes.{Shape, region, regions, split_at, without, after}
 use Rattle.regions.specs.Pages.{has_room}
 use Rattle.regions.specs.Codes.{shape_code}

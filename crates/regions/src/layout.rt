@@ -1,20 +1,89 @@
-//! The layout of a client's page.
+//! The layout of a client's page: what its regions show, and why it isn't changed.
 
-ghost use Rattle.std.specs.Prelude.{◌≡◌, ◌+◌, ◌<◌, ◌≤◌, ◌↔◌, true, length, map, slice_get, Some};
-ghost use Rattle.std.specs.Prelude.{OnOk, OnErr, IfOk, IfErr, IsOk};
+ghost use Rattle.std.specs.Prelude.{◌≡◌, ◌+◌, ◌<◌, ◌≤◌, ◌↔◌, true, length, map, slice_get, Some, OnOk, OnErr, IfOk};
+ghost use Rattle.std.specs.Prelude.{IfErr, IsOk};
 ghost use Rattle.regions.specs.Shapes.{region};
 ghost use Rattle.regions.specs.Pages.{has_room, KeepsRoom, IsRects, RectsTile, rects_error};
-ghost use Rattle.regions.specs.Layouts.{one_region, put_in_focus, emptied, next_focus, kept_alone};
-ghost use Rattle.regions.specs.Layouts.{resized, IsSplit, split_error, remove_focused};
+ghost use Rattle.regions.specs.Layouts.{one_region, put_in_focus, emptied, next_focus, kept_alone, resized, IsSplit};
+ghost use Rattle.regions.specs.Layouts.{split_error, remove_focused};
+ghost use Rattle.regions.specs.Faults.{number};
+ghost use Rattle.regions.specs.declared.layout.RegionFault.TheVariants.{NoMemory};
 
-use crate::fault::RegionFault;
-use crate::node::Node;
-use crate::rect::Rect;
-use crate::rects::Rects;
-use crate::shown::Shown;
-use crate::way::Way;
-use std::alloc::{AllocError, Global};
+use crate::node::{Node, Way};
+use crate::rect::{Rect, Rects};
+use std::alloc::{AllocError, AllocFailed, Global};
 use std::marker::Model;
+
+/// What a region shows: a window by its serial number, or nothing; and by how many lines its page
+/// is moved back.
+#[derive(Clone, Copy, Debug, PartialEq, Eq)]
+pub struct Shown {
+    pub window: Option<u32>,
+    pub back: u16,
+}
+
+impl Shown {
+    ghost use Rattle.regions.specs.Layouts.{emptied};
+
+    /// An empty region.
+    pub const EMPTY: Shown = Shown {
+        window: None,
+        back: 0,
+    };
+
+    /// An empty region if this one shows the window, else this one.
+    pub(crate) fn without_window(self, serial: u32) -> Shown
+        ensures { result ≡ emptied serial self }
+    {
+        if self.window == Some(serial) {
+            Shown {
+                window: None,
+                ..self
+            }
+        } else {
+            self
+        }
+    }
+}
+
+/// Why a call on a layout is refused.
+#[derive(Clone, Copy, Debug, PartialEq, Eq)]
+pub enum RegionFault {
+    TooSmall,
+    TooMany,
+    LastRegion,
+    NoMemory,
+}
+
+impl RegionFault {
+    /// The fault's number: 1 TooSmall, 2 TooMany, 3 LastRegion, 4 NoMemory.
+    pub fn number(self) -> u8
+        ensures { result ≡ number self }
+    {
+        match self {
+            RegionFault::TooSmall => 1,
+            RegionFault::TooMany => 2,
+            RegionFault::LastRegion => 3,
+            RegionFault::NoMemory => 4,
+        }
+    }
+}
+
+impl From<AllocError> for RegionFault {
+    ghost from_gives = { λ _ e. e ≡ NoMemory };
+
+    fn from(_error: AllocError) -> RegionFault {
+        RegionFault::NoMemory
+    }
+}
+
+impl<T: Drop> From<AllocFailed<T>> for RegionFault {
+    ghost from_gives = { λ _ e. e ≡ NoMemory };
+
+    fn from(_error: AllocFailed<T>) -> RegionFault {
+        RegionFault::NoMemory
+    }
+}
 
 /// The most regions that a page may have.
 pub const REGIONS: usize = 16;

@@ -1,14 +1,22 @@
 //! The tree of splits.
 
 ghost use Rattle.std.specs.Prelude.{◌≡◌, ◌↔◌, ◌<◌, ◌≤◌, ◌+◌, ◌++◌, OnOk, IfOk, true};
-ghost use Rattle.regions.specs.Shapes.{shape, is_region, regions, fits, boxes, separators};
-ghost use Rattle.regions.specs.Shapes.{halves, split_at, without, after};
+ghost use Rattle.regions.specs.Shapes.{shape, is_region, regions, fits, boxes, separators, halves, split_at, without};
+ghost use Rattle.regions.specs.Shapes.{after};
 ghost use Rattle.regions.specs.Pages.{has_room};
 
 use crate::rect::Rect;
-use crate::way::Way;
 use std::alloc::{AllocError, Global};
 use std::mem;
+
+/// How a region is split: the place of its second half.
+#[derive(Clone, Copy, PartialEq, Eq)]
+pub enum Way {
+    /// Below the first half: GNU Screen's `split`.
+    Below,
+    /// To the right of the first half, with a separator between: `split -v`.
+    Right,
+}
 
 /// A region, or two halves.
 #[derive(Drop)]

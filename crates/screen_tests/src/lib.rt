@@ -9,17 +9,11 @@ mod cuts;
 #[cfg(test)]
 mod functions;
 #[cfg(test)]
-mod growths;
-#[cfg(test)]
 mod judging;
 #[cfg(test)]
 mod pages;
 #[cfg(test)]
 mod parts;
-#[cfg(test)]
-mod runs;
-#[cfg(test)]
-mod sizes;
 #[cfg(test)]
 mod table;
 #[cfg(test)]

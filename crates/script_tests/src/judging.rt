@@ -4,10 +4,46 @@
 //! by `/`; an event without them prints `ok`. After the events come the views that are printed at the
 //! end.
 
-use crate::playing::play;
 use crate::terminals::are_shown;
+use session::simulate;
+use std::alloc::{AllocError, Global};
 use std::fs::Files;
 use std::str::{self, Lines};
+
+/// The result of a run of the simulator.
+#[derive(Drop)]
+pub struct Played {
+    pub output: Vec<u8>,
+    pub errors: Vec<u8>,
+    pub status: u8,
+}
+
+/// The program's name, followed by these words.
+fn arguments(alloc: Global, words: &[&str]) -> Result<Vec<String>, AllocError> {
+    let mut owned = Vec::new(alloc);
+    owned.push(String::from_str(alloc, "muxsim")?)?;
+    for word in words {
+        owned.push(String::from_str(alloc, word)?)?;
+    }
+    Ok(owned)
+}
+
+/// Plays a script with the program's name and these words as arguments.
+pub fn play<H: Files + AllocGlobal>(
+    rt: &H,
+    words: &[&str],
+    script: &[u8],
+) -> Result<Played, AllocError> {
+    let words = arguments(rt.alloc(), words)?;
+    let mut output = Vec::new(rt.alloc());
+    let mut errors = Vec::new(rt.alloc());
+    let status = simulate(rt, &words, script, &mut output, &mut errors);
+    Ok(Played {
+        output,
+        errors,
+        status,
+    })
+}
 
 /// The printed form of the first bytes of a frame for a terminal in an unknown state.
 const RESET: &str = r"\18\1bc\1b%G\1b[?7l";
@@ -33,7 +69,7 @@ fn put_events(text: &str, script: &mut String) -> bool {
 
 /// Whether a line is the wanted one. `deliver C ..` matches any draw, and `deliver C reset ..` one that
 /// begins with the reset.
-pub fn is_wanted(want: &str, line: &str) -> bool {
+fn is_wanted(want: &str, line: &str) -> bool {
     let Some(begin) = want.strip_suffix("..") else {
         return line == want;
     };

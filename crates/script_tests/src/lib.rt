@@ -3,13 +3,9 @@
 #![tactic(auto)]
 
 #[cfg(test)]
-mod draws;
-#[cfg(test)]
 mod judging;
 #[cfg(test)]
 mod one_owner;
-#[cfg(test)]
-mod playing;
 #[cfg(test)]
 mod rows;
 #[cfg(test)]

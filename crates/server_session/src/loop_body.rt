@@ -1,7 +1,7 @@
 //! The loops that share a session, each in a thread of its own.
 
 ghost use Rattle.std.specs.Prelude.{◌≡◌, ◌<◌, ◌≤◌, IfOk, length};
-ghost use Rattle.acl.specs.declared.edition.Edition.TheVariants.{Second};
+ghost use Rattle.acl.specs.declared.leaders.Edition.TheVariants.{Second};
 ghost use Rattle.session.specs.Trace.{begun as run_begun};
 ghost use Rattle.hub.specs.Seats.{StandsFor};
 ghost use Rattle.server_session.specs.SettingUp.{HasBegun};

@@ -2,7 +2,7 @@
 use Rattle.std.specs.Prelude.{◌≡◌, ℕ, ◌+◌, Bool, true, List, [], ◌∷◌, ◌++◌, length, take, Option}
 use Rattle.std.specs.Prelude.{Some, None}
 use Rattle.std.specs.Io.KnownBytes.{Appends}
-use Rattle.acl.specs.declared.edition.Edition.TheVariants as edition
+use Rattle.acl.specs.declared.leaders.Edition.TheVariants as edition
 use Rattle.acl.specs.declared.user_id.UserId.{UserId}
 use Rattle.hub.specs.Trails.{Entry}
 use Rattle.trail_lines.specs.Entries.{line_of}

@@ -17,14 +17,14 @@ use Rattle.session_core.specs.Stands.{StandsFor}
 use Rattle.session_core.specs.Headline.{with_steps, AllSteps, Keeps as KeepsPromise, Serves, SomeRun, untaken_events}
 use Rattle.session_core.specs.Headline.{without_keys, effects_of, replies_of}
 use Rattle.session.specs.Printed.{effect_line, reply_line}
-use Rattle.session.specs.declared.fault.Fault.{Fault}
-use Rattle.session.specs.declared.fault.Fault.TheVariants.{NotUnderstood, Io, NoMemory}
+use Rattle.session.specs.declared.player.Fault.{Fault}
+use Rattle.session.specs.declared.player.Fault.TheVariants.{NotUnderstood, Io, NoMemory}
 use Rattle.session.specs.ScriptLines.{lines_of}
 use Rattle.session_model.specs.Tables.{Tables}
 use Rattle.session_model.specs.Run.{tables_of}
 use Rattle.session.specs.Played.{printed, views, views_if, IfNotUnderstood, IsBad, OfScript, PlaysAll, PlaysUntil, Runs}
 use Rattle.session.specs.Played.{Played, PlayedPart}
-use Rattle.acl.specs.declared.edition.Edition.{Edition}
+use Rattle.acl.specs.declared.leaders.Edition.{Edition}
 use Rattle.acl.specs.declared.user_id.UserId.{UserId}
 use Rattle.program_words.specs.SetupLines.{Line}
 use Rattle.session.specs.Setup.{Behind, SetsUp}

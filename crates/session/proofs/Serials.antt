@@ -3,7 +3,7 @@ use Rattle.std.proofs.Common.{ℕ, ◌+◌, ◌≤◌, ◌^◌, ◌≡◌, true,
 use Rattle.std.specs.Prelude.{nat_lt, length}
 use Rattle.std.proofs.lemmas.Bool.Decides.{nat_tests}
 use Rattle.acl.specs.declared.user_id.UserId.{UserId}
-use Rattle.session_model.specs.declared.check.Check.TheVariants.{Must as must}
+use Rattle.session_model.specs.declared.refusal.Check.TheVariants.{Must as must}
 use Rattle.session_model.specs.declared.event.Effect.{Effect}
 use Rattle.session_model.specs.declared.refusal.Refusal.TheVariants.{NotMultiuser, UnknownUser, TooManyClients, BadSize}
 use Rattle.session_model.specs.Trace.{EventValue, Attach, Open, Draw, Entry, Trace}

@@ -22,12 +22,9 @@ pub use Rattle.session_model.specs.Sound
 pub use Rattle.session_model.specs.Tables
 pub use Rattle.session_model.specs.Texts
 pub use Rattle.session_model.specs.Trace
-pub use Rattle.session_model.specs.declared.check
-pub use Rattle.session_model.specs.declared.event
-pub use Rattle.session_model.specs.declared.message
 pub use Rattle.session_model.specs.declared.refusal
-pub use Rattle.session_model.specs.declared.verdict
-pub use Rattle.session_model.specs.windows_fault
+pub use Rattle.session_model.specs.declared.event
+pub use Rattle.session_model.specs.rows
 pub mod ScriptLines
 pub mod Played
 pub mod Words

@@ -12,8 +12,8 @@ use Rattle.session.specs.Printed.{effect_line, reply_line, view_lines}
 use Rattle.session_core.specs.Headline.{with_steps, AllSteps, Keeps, Serves, untaken_keys, last_reply}
 use Rattle.session_core.specs.Stands.{StandsFor}
 use Rattle.session_core.specs.declared.session.Session.{Session}
-use Rattle.session.specs.declared.fault.Fault.{Fault}
-use Rattle.session.specs.declared.fault.Fault.TheVariants.{NotUnderstood}
+use Rattle.session.specs.declared.player.Fault.{Fault}
+use Rattle.session.specs.declared.player.Fault.TheVariants.{NotUnderstood}
 use Rattle.session.specs.ScriptLines.{lines_of}
 
 -- ---- what is read

@@ -2,12 +2,10 @@
 //! over a session, after the setup file of its owner.
 #![tactic(auto)]
 
-mod fault;
 mod fields;
 mod player;
 mod printing;
 mod script;
-mod setup;
 mod setup_file;
 mod simulator;
 mod words;
@@ -19,7 +17,6 @@ pub use session_model::{
     Bytes, Denied, Done, Effect, EntryDenied, Event, LockDenied, Peer, Ran, Reason, Refusal, Reply,
     Verdict, WindowsFault, push_decimal,
 };
-pub use setup::{SetupUnread, setup_of};
-pub use setup_file::{Beginning, spoken};
+pub use setup_file::{Beginning, SetupUnread, setup_of, spoken};
 pub use simulator::{SimulatorArgs, simulate, simulate_behind};
 pub use words::{beginning_of, path_of};

@@ -1,8 +1,7 @@
-//! Plays scripts of one event a line. The effects and the answer of a line are printed before the next
-//! line is read.
+//! Plays scripts of one event a line. The effects and the answer of a line are printed before the next line is read. A
+//! fault ends a script early.
 
-ghost use Rattle.std.specs.Prelude.{◌≡◌, ◌++◌, ◌∷◌, [], List, Some};
-ghost use Rattle.std.specs.Prelude.{IfOk, IfErr, OnOk};
+ghost use Rattle.std.specs.Prelude.{◌≡◌, ◌++◌, ◌∷◌, [], List, Some, IfOk, IfErr, OnOk};
 ghost use Rattle.std.specs.List.{flat_map};
 ghost use Rattle.std.specs.String.{string_bytes};
 ghost use Rattle.std.specs.Io.KnownBytes.{Appends, Keeps};
@@ -11,16 +10,62 @@ ghost use Rattle.session_model.specs.Run.{tables_of};
 ghost use Rattle.session.specs.Printed.{effect_line, reply_line};
 ghost use Rattle.session_core.specs.Stands.{StandsFor};
 ghost use Rattle.session.specs.ScriptLines.{lines_of};
-ghost use Rattle.session.specs.Played.{PlaysAll, PlaysUntil, Played, Runs, IsBad, OfScript};
-ghost use Rattle.session.specs.Played.{IfNotUnderstood, views};
+ghost use Rattle.session.specs.Played.{PlaysAll, PlaysUntil, Played, Runs, IsBad, OfScript, IfNotUnderstood, views};
+ghost use Rattle.session.specs.declared.player.Fault.TheVariants.{Io as OfIo, NoMemory as OfMemory};
 
-use crate::fault::Fault;
 use crate::printing::{print_effect, print_reply, print_view};
 use crate::script::read_event;
-use session_core::{Effect, Event, Reply, Session};
-use std::alloc::{AllocError, Global};
+use session_core::{Effect, Event, Refusal, Reply, Session};
+use std::alloc::{AllocError, AllocFailed, Global};
 use std::io;
 use std::io::{BufRead, BufReader, Read, Write};
+use thiserror::Error;
+
+/// Why a script ended early.
+#[derive(Debug, Drop, Error)]
+pub enum Fault {
+    /// The line of this number, counted from 1, is no event.
+    #[error("line {0}: not understood")]
+    NotUnderstood(u64),
+    /// A read or a write failed, or memory ran out for it.
+    #[error("can't play the script: {0}")]
+    Io(io::Error),
+    /// There was no memory.
+    #[error("out of memory")]
+    NoMemory,
+}
+
+impl From<io::Error> for Fault {
+    ghost from_gives = { λ error fault. fault ≡ OfIo error };
+
+    fn from(error: io::Error) -> Fault {
+        Fault::Io(error)
+    }
+}
+
+impl From<AllocError> for Fault {
+    ghost from_gives = { λ _ fault. fault ≡ OfMemory };
+
+    fn from(_e: AllocError) -> Fault {
+        Fault::NoMemory
+    }
+}
+
+impl<T: Drop> From<AllocFailed<T>> for Fault {
+    ghost from_gives = { λ _ fault. fault ≡ OfMemory };
+
+    fn from(_e: AllocFailed<T>) -> Fault {
+        Fault::NoMemory
+    }
+}
+
+impl From<Refusal> for Fault {
+    ghost from_gives = { λ _ fault. fault ≡ OfMemory };
+
+    fn from(_e: Refusal) -> Fault {
+        Fault::NoMemory
+    }
+}
 
 /// Plays the script of the reader over a session, and writes what its effects and answers print. If
 /// `shows`, it then writes what each client is to see.

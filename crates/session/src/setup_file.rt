@@ -1,17 +1,65 @@
-//! How a session begins, with the commands of a setup.
+//! How a session begins, with the commands of a setup, which its file has.
 
-ghost use Rattle.std.specs.Prelude.{◌≡◌, ◌∷◌, [], IfOk, IfErr, OnOk, map};
+ghost use Rattle.std.specs.Prelude.{◌≡◌, ◌∷◌, [], IfOk, IfErr, OnOk, map, true, None, codes, option_map};
 ghost use Rattle.program_words.specs.SetupLines.{line_of};
 ghost use Rattle.session_model.specs.Trace.{Trace, begun};
 ghost use Rattle.session_model.specs.Texts.{text_of};
 ghost use Rattle.session_core.specs.Stands.{StandsFor, wants_memory};
 ghost use Rattle.session.specs.Setup.{Behind, Begins, Refuses, StopsAt, IfRefused, spoken};
+ghost use Rattle.std.specs.String.{string_bytes};
+ghost use Rattle.clap.specs.Words.{matches_of, takes, first_of};
+ghost use Rattle.session.specs.Words.{muxsim};
 
+use crate::words::path_of;
 use acl::{Edition, UserId};
 use program_words::{SetupLine, speech_in};
 use session_core::{Notes, Session};
 use session_model::{Event, Refusal, Reply};
 use std::alloc::Global;
+use std::fs::Files;
+use std::{fs, io};
+use thiserror::Error;
+
+/// Why a setup isn't read.
+#[derive(Debug, Drop, Error)]
+pub enum SetupUnread<'a> {
+    /// The file of this path can't be read, or memory ran out for it.
+    #[error("setup {0}: {1} (set --setup)")]
+    File(&'a str, io::Error),
+    #[error("out of memory")]
+    NoMemory,
+}
+
+/// The contents of a file, if a path is given; else no bytes.
+fn read_of<'a, H: Files + AllocGlobal>(
+    rt: &H,
+    path: Option<&'a str>,
+) -> Result<Vec<u8>, SetupUnread<'a>>
+    ensures { option_map (λ p. p.now) path.entry ≡ None → IfOk result (λ file. file.items ≡ []) }
+{
+    match path {
+        Some(path) => match fs::read(rt, path) {
+            Ok(file) => Ok(file),
+            Err(error) => Err(SetupUnread::File(path, error)),
+        },
+        None => Ok(Vec::new(rt.alloc())),
+    }
+}
+
+/// The contents of the file that the arguments name after `--setup`. No bytes if they name none.
+pub fn setup_of<'a, H: Files + AllocGlobal>(
+    rt: &H,
+    words: &'a [String],
+) -> Result<Vec<u8>, SetupUnread<'a>>
+    ensures { takes muxsim (map string_bytes words.now) ≡ true
+        → first_of (codes "setup") (matches_of muxsim (map string_bytes words.now)) ≡ None
+        → IfOk result (λ file. file.items ≡ []) }
+{
+    match path_of(rt.alloc(), words, "setup") {
+        Ok(path) => read_of(rt, path),
+        Err(_) => Err(SetupUnread::NoMemory),
+    }
+}
 
 /// How a session begins.
 #[derive(Clone, Copy, Debug)]

@@ -2,15 +2,13 @@
 
 ghost use Rattle.std.specs.Prelude.{◌≡◌, ℕ, Bool, List, map};
 ghost use Rattle.std.specs.String.{string_bytes};
-ghost use Rattle.acl.specs.declared.edition.Edition.{Edition as Groups};
+ghost use Rattle.acl.specs.declared.leaders.Edition.{Edition as Groups};
 ghost use Rattle.acl.specs.declared.user_id.UserId.{UserId as Owner};
 ghost use Rattle.clap.specs.Words.{kind_of};
 ghost use Rattle.session.specs.Words.{Asks, MayHave, Simulates};
 
-use crate::fault::Fault;
-use crate::player::play;
-use crate::setup::{SetupUnread, setup_of};
-use crate::setup_file::{Beginning, Unbegun};
+use crate::player::{Fault, play};
+use crate::setup_file::{Beginning, SetupUnread, Unbegun, setup_of};
 use crate::words::{edition_of, owner_of, read_words};
 use clap::error::ErrorKind;
 use clap::{ArgMatches, Error};

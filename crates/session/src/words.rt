@@ -3,7 +3,7 @@
 ghost use Rattle.std.specs.Prelude.{◌≡◌, Bool, true, false, Some, IfOk, IfErr, map, codes};
 ghost use Rattle.std.specs.Prelude.{option_and_then, option_map};
 ghost use Rattle.std.specs.String.{string_bytes};
-ghost use Rattle.acl.specs.declared.edition.Edition.{Edition as Groups};
+ghost use Rattle.acl.specs.declared.leaders.Edition.{Edition as Groups};
 ghost use Rattle.acl.specs.declared.user_id.UserId.{UserId as Owner};
 ghost use Rattle.acl.specs.Names.{named_by};
 ghost use Rattle.clap.specs.Words.{found_of, kind_of, rows_of, matches_of, takes, first_of};

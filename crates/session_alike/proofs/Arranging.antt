@@ -54,7 +54,7 @@ module _ (n : Renaming) where
   pub fault_as : (way : Way) (l : Arrangement) (rows columns : ℕ)
       → split_fault way (layout_as n l) rows columns ≡ split_fault way l rows columns
   fault_as way l rows columns =
-      ap (λ count. if count == 16 then Some Rattle.regions.specs.declared.fault.RegionFault.TheVariants.TooMany
+      ap (λ count. if count == 16 then Some Rattle.regions.specs.declared.layout.RegionFault.TheVariants.TooMany
       else (if Rattle.regions.specs.Pages.has_room (Rattle.regions.specs.Shapes.split_at way l.focus l.shape) rows
-      columns then None else Some Rattle.regions.specs.declared.fault.RegionFault.TheVariants.TooSmall))
+      columns then None else Some Rattle.regions.specs.declared.layout.RegionFault.TheVariants.TooSmall))
       (shown_count l)

@@ -12,7 +12,7 @@ use Rattle.session_alike.proofs.Vocabulary.{WindowsAlike, HistoriesAlike, items,
 use Rattle.session_alike.proofs.Vocabulary.{made_both, map_both, pick, put_both}
 use Rattle.acl.specs.declared.act.Act.TheVariants as act
 use Rattle.session_model.specs.declared.event.Peer.TheVariants as peer
-use Rattle.session_model.specs.declared.message.StatusMessage.TheVariants as message
+use Rattle.session_model.specs.declared.event.StatusMessage.TheVariants as message
 use Rattle.session_alike.proofs.Finding.{client_serials, focused_as, is_window_as, window_serials}
 use Rattle.session_alike.proofs.Histories.{window_test}
 use Rattle.terminal_model.specs.Screen.{starting}

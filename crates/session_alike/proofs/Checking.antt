@@ -13,7 +13,7 @@ use Rattle.session_alike.proofs.Finding.{holder_alike, leaders_alike, may_alike,
 use Rattle.command_lang.specs.declared.needs.Needs.{Needs}
 use Rattle.command_lang.specs.Needs.{needs}
 use Rattle.writelock.specs.LockTable.{stops_nobody_but}
-use Rattle.session_model.specs.declared.verdict.Verdict.TheVariants.{Lock, Right}
+use Rattle.session_model.specs.declared.refusal.Verdict.TheVariants.{Lock, Right}
 
 abbrev pub check_as : Renaming → Check → Check
 check_as n (right user bit o) = right user bit (object_as n o)

@@ -14,7 +14,7 @@ use Rattle.session_alike.proofs.Vocabulary.{RepliesAlike, made_as, append_match,
 use Rattle.acl.specs.declared.act.Act.TheVariants as act
 use Rattle.terminal_model.specs.Writing as written
 use Rattle.session_model.specs.declared.event.Reason.TheVariants as reason
-use Rattle.session_model.specs.declared.message.StatusMessage.TheVariants as message
+use Rattle.session_model.specs.declared.event.StatusMessage.TheVariants as message
 use Rattle.session_alike.proofs.Arranging.{alone_as}
 use Rattle.session_alike.proofs.Changing.{AnswersAlike, DeedsAlike, arranged_alike, clients_as, closes_alike, declined}
 use Rattle.session_alike.proofs.Changing.{deed_as, done, entering_as, input_as, parts_alike, put_client_alike}
@@ -27,7 +27,7 @@ use Rattle.session_alike.proofs.Outcomes.{OutcomesAlike, finished_alike, passed_
 use Rattle.session_alike.proofs.Rows.{ListedBy}
 use Rattle.session_alike.proofs.Typing.{keys_alike, listed_text, ruling_alike}
 use Rattle.regions.specs.Pages.{has_room}
-use Rattle.session_model.specs.declared.limits.TheConstants.{SERIALS}
+use Rattle.session_model.specs.declared.event.TheConstants.{SERIALS}
 use Rattle.session_model.specs.Comings.{attach_checks, attached, attaches, has_place, is_client_size, is_let_in}
 use Rattle.session_model.specs.Comings.{new_client, new_window, open_checks, opens, outputs, resized}
 

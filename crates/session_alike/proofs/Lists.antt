@@ -9,14 +9,14 @@ use Rattle.session_alike.proofs.Vocabulary.{leaders_in, Tables, known_users, gro
 use Rattle.session_alike.proofs.Vocabulary.{TablesAlike, EffectsAlike, append_match, map_append, cases_both}
 use Rattle.acl.specs.declared.act.Act.TheVariants as act
 use Rattle.session_model.specs.declared.event.Reason.TheVariants as reason
-use Rattle.session_model.specs.windows_fault.WindowsFault.TheVariants as fault
+use Rattle.session_model.specs.rows.WindowsFault.TheVariants as fault
 use Rattle.session_alike.proofs.Changing.{AnswersAlike, DeedsAlike, acting_alike, closes_alike, declined, done, deed_as}
 use Rattle.session_alike.proofs.Changing.{parts_alike}
 use Rattle.session_alike.proofs.Answering.{given_alike, mapped_one, same_one}
 use Rattle.session_alike.proofs.Finding.{leaders_alike, users_alike}
 use Rattle.session_alike.proofs.Granting.{add_acts_as, change_acts_as}
 use Rattle.acl.specs.declared.entries.NewLeader.TheVariants.{Named, Nobody}
-use Rattle.acl.specs.declared.faults.AclFault.TheVariants.{NoSuchGroup, OwnerKept, TooManyGroups}
+use Rattle.acl.specs.declared.entries.AclFault.TheVariants.{NoSuchGroup, OwnerKept, TooManyGroups}
 
 abbrev pub Same : List ℕ → List ℕ → Type 0
 Same x y = y ≡ x

@@ -20,7 +20,7 @@ use Rattle.acl.specs.declared.command_name.CommandName.{CommandName}
 use Rattle.command_lang.specs.declared.command.Mask.{Mask}
 use Rattle.command_lang.specs.declared.command.Users.{Users}
 use Rattle.command_lang.specs.Names.{all_names, command_named}
-use Rattle.windows_model.specs.declared.limits.TheConstants.{WINDOWS}
+use Rattle.windows_model.specs.declared.rows.TheConstants.{WINDOWS}
 
 abbrev scoped : Mask → List MaskScope → List MaskEntry
 scoped m ss = flat_map (λ s. map (λ (b : BitChange). record { scope = s; bit = b.bit; value = b.value }) m.bits) ss

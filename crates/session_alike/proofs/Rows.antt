@@ -16,7 +16,7 @@ use Rattle.acl.specs.declared.act.Act.TheVariants as act
 use Rattle.command_lang.specs.declared.command.Command.TheVariants as command
 use Rattle.terminal_model.specs.Writing as written
 use Rattle.session_model.specs.declared.event.Reason.TheVariants as reason
-use Rattle.session_model.specs.windows_fault.WindowsFault.TheVariants as fault
+use Rattle.session_model.specs.rows.WindowsFault.TheVariants as fault
 use Rattle.session_alike.proofs.Answering.{given_alike, refused_alike, same_one, unless_alike}
 use Rattle.session_alike.proofs.Arranging as arrangement
 use Rattle.session_alike.proofs.Changing.{AnswersAlike, DeedsAlike, acting_alike, arranged_alike, closes_alike, deed_as}
@@ -31,8 +31,8 @@ use Rattle.session_alike.proofs.Naming.{objects_alike, taken_alike}
 use Rattle.session_alike.proofs.Lists.{Same, adding, changes_alike, group_fault_alike, known_fault_alike}
 use Rattle.session_alike.proofs.Lists.{leaders_named_alike, mask_fault_alike, no_list, quits_alike, removes_alike}
 use Rattle.session_alike.proofs.Lists.{setting}
-use Rattle.acl.specs.declared.faults.AclFault.{AclFault}
-use Rattle.regions.specs.declared.fault.RegionFault.TheVariants.{LastRegion, TooSmall}
+use Rattle.acl.specs.declared.entries.AclFault.{AclFault}
+use Rattle.regions.specs.declared.layout.RegionFault.TheVariants.{LastRegion, TooSmall}
 use Rattle.regions.specs.declared.rect.Rect.{Rect}
 
 -- what a command lists: only the lists of `displays` differ, in the serials of clients

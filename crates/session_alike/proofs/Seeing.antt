@@ -5,7 +5,7 @@ use Rattle.session_alike.proofs.Vocabulary.{granted_view, layout_of, message_tex
 use Rattle.session_alike.proofs.Vocabulary.{status_text, Client, Tables, Window, focused, window_at, terminal_of}
 use Rattle.session_alike.proofs.Vocabulary.{Renaming, shown_as, ClientsAlike, TablesAlike, WindowsAlike}
 use Rattle.acl.specs.declared.act.Object.TheVariants as object
-use Rattle.session_model.specs.declared.message.StatusMessage.TheVariants as message
+use Rattle.session_model.specs.declared.event.StatusMessage.TheVariants as message
 use Rattle.session_alike.proofs.Finding.{focused_as, may_alike, window_alike}
 use Rattle.session_alike.proofs.Listing.{windows_text_alike}
 

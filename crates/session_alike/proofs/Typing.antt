@@ -13,7 +13,7 @@ use Rattle.session_alike.proofs.Vocabulary.{verdict_as, ClientsAlike, TablesAlik
 use Rattle.session_alike.proofs.Vocabulary.{EffectsAlike, made_as, append_match, cases_as, cases_both, map_append}
 use Rattle.session_alike.proofs.Vocabulary.{weaker_match}
 use Rattle.command_lang.specs.declared.command.Command.TheVariants as command
-use Rattle.session_model.specs.declared.message.StatusMessage.TheVariants as message
+use Rattle.session_model.specs.declared.event.StatusMessage.TheVariants as message
 use Rattle.session_alike.proofs.Changing.{AnswersAlike, DeedsAlike, clients_as, declined, deed_as, done, heard_alike}
 use Rattle.session_alike.proofs.Changing.{put_client_alike}
 use Rattle.session_alike.proofs.Checking.{CallersAlike, check_as, checks_alike, fault_alike, typing_as, verdicts_alike}

@@ -12,7 +12,7 @@ pub use Rattle.acl.specs.declared.act.Object.{Object}
 pub use Rattle.acl.specs.declared.bits.Bit.{Bit}
 pub use Rattle.acl.specs.declared.bits.Bit.TheVariants.{Execute, Read, Write}
 pub use Rattle.acl.specs.declared.bits.BitChange.{BitChange}
-pub use Rattle.acl.specs.declared.edition.Edition.{Edition}
+pub use Rattle.acl.specs.declared.leaders.Edition.{Edition}
 pub use Rattle.acl.specs.declared.entries.MaskEntry.{MaskEntry}
 pub use Rattle.acl.specs.declared.entries.MaskScope.{MaskScope}
 pub use Rattle.acl.specs.declared.entries.NewLeader.{NewLeader}
@@ -23,8 +23,8 @@ pub use Rattle.keys.specs.Grammar.{Item, Rest, bound, items, line, nothing, rest
 unfoldable pub use Rattle.keys.specs.Grammar.{items_from}
 pub use Rattle.regions.specs.Layouts.{Arrangement, emptied, empty, kept_alone, next_focus, one_region, remove_focused}
 pub use Rattle.regions.specs.Layouts.{split_fault, split_focused}
-pub use Rattle.regions.specs.declared.shown.Shown.{Shown}
-pub use Rattle.regions.specs.declared.way.Way.{Way}
+pub use Rattle.regions.specs.declared.layout.Shown.{Shown}
+pub use Rattle.regions.specs.declared.node.Way.{Way}
 pub use Rattle.session_alike.proofs.Matching.{any_both, cases_as, cases_both, find_same, if_as, made_both, map_append}
 pub use Rattle.session_alike.proofs.Matching.{map_both, or_both, pick, put_both, read_one, read_or, row_both, then_both}
 pub use Rattle.session_alike.specs.Alike.{ClientsAlike, ListsAlike, TablesAlike, TerminalsAlike, TextsAlike}
@@ -69,15 +69,15 @@ pub use Rattle.session_model.specs.Texts.{group_text, in_order, letter, missing_
 pub use Rattle.session_model.specs.Texts.{windows_text}
 pub use Rattle.session_model.specs.Trace.{Attach, Closed, Command, Detach, Draw, Entry, EventValue, Keys, Open, Output}
 pub use Rattle.session_model.specs.Trace.{Reply, Resize}
-pub use Rattle.session_model.specs.declared.check.Check.{Check}
-pub use Rattle.session_model.specs.declared.check.Check.TheVariants.{Must as must, Right as right, Unlocked as unlocked}
+pub use Rattle.session_model.specs.declared.refusal.Check.{Check}
+pub use Rattle.session_model.specs.declared.refusal.Check.TheVariants.{Must as must, Right as right, Unlocked as unlocked}
 pub use Rattle.session_model.specs.declared.event.Effect.{Effect}
 pub use Rattle.session_model.specs.declared.event.Effect.TheVariants.{Gone, Input, Say, Size}
-pub use Rattle.session_model.specs.declared.message.StatusMessage.{StatusMessage}
+pub use Rattle.session_model.specs.declared.event.StatusMessage.{StatusMessage}
 pub use Rattle.session_model.specs.declared.refusal.Refusal.{Refusal}
 pub use Rattle.session_model.specs.declared.refusal.Refusal.TheVariants.{Acl, BadSize, Line, LockDenied, NoWindow}
 pub use Rattle.session_model.specs.declared.refusal.Refusal.TheVariants.{NotMultiuser, Regions, UnknownUser, Windows}
-pub use Rattle.session_model.specs.declared.verdict.Verdict.{Verdict}
+pub use Rattle.session_model.specs.declared.refusal.Verdict.{Verdict}
 pub use Rattle.std.proofs.Common.{Bool, Err, List, None, Ok, Option, Result, Some, [], ap, append_assoc, arith, drop}
 pub use Rattle.std.proofs.Common.{false, filter, inl, inr, length, map, not, refl, subst, suc, sym, take, true, zero, ℕ}
 pub use Rattle.std.proofs.Common.{◌%◌, ◌++◌, ◌+◌, ◌-◌, ◌/◌, ◌<◌, ◌∙◌, ◌∷◌, ◌≡◌}

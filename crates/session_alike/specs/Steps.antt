@@ -5,8 +5,8 @@ use Rattle.windows_model.specs.Matched.{Matched, BothOrNone}
 use Rattle.session_model.specs.declared.event.Done.{Done}
 use Rattle.session_model.specs.declared.event.Effect.{Effect}
 use Rattle.session_model.specs.declared.event.Effect.TheVariants.{Say}
-use Rattle.session_model.specs.declared.limits.TheConstants.{SERIALS}
-use Rattle.session_model.specs.declared.message.StatusMessage.TheVariants as message
+use Rattle.session_model.specs.declared.event.TheConstants.{SERIALS}
+use Rattle.session_model.specs.declared.event.StatusMessage.TheVariants as message
 use Rattle.session_model.specs.Granted.{granted_view}
 use Rattle.session_model.specs.Run.{IsStep, IsRunFrom, after, tables_from}
 use Rattle.session_model.specs.Tables.{Client, Tables, client_at, fresh}

@@ -5,9 +5,9 @@ use Rattle.std.proofs.Common.{inl, inr, ◌∙◌, append_assoc}
 use Rattle.std.specs.Prelude.{if◌then◌else◌, option_to_list, ◌⊎◌, IsErrAnd}
 use Rattle.session_model.specs.declared.refusal.Refusal.{Refusal}
 use Rattle.session_model.specs.declared.refusal.Refusal.TheVariants.{NoMemory}
-use Rattle.session_model.specs.declared.verdict.Verdict.{Verdict}
+use Rattle.session_model.specs.declared.refusal.Verdict.{Verdict}
 use Rattle.session_model.specs.Tables.{Tables}
-use Rattle.session_model.specs.declared.check.Check.{Check}
+use Rattle.session_model.specs.declared.refusal.Check.{Check}
 use Rattle.session_model.specs.Checks.{passes, verdict, refusal_of, first_fault, verdicts}
 use Rattle.session_checks.specs.Checked.{Passed, Failed, Checked, AllMade, listed}
 

@@ -8,15 +8,15 @@ use Rattle.acl.specs.declared.act.Object.TheVariants as object
 use Rattle.acl.specs.History.{is_open}
 use Rattle.command_lang.specs.declared.command.Command.{Command}
 use Rattle.command_lang.specs.Names.{name_of}
-use Rattle.session_model.specs.declared.check.Check.{Check}
-use Rattle.session_model.specs.declared.check.Check.TheVariants.{Right, Must}
+use Rattle.session_model.specs.declared.refusal.Check.{Check}
+use Rattle.session_model.specs.declared.refusal.Check.TheVariants.{Right, Must}
 use Rattle.command_lang.specs.declared.needs.Needs.{Needs}
 use Rattle.session_model.specs.declared.refusal.Refusal.TheVariants.{NotMultiuser, NoWindow}
 use Rattle.session_model.specs.Tables.{Window, Tables, window_at}
 use Rattle.session_model.specs.Checks.{where_needed, window_checks, checks, typing_checks}
 use Rattle.command_lang.specs.Needs.{needs}
 use Rattle.windows_model.proofs.Serials.{serial_is}
-use Rattle.session_state.specs.declared.caller.Caller.{Caller}
+use Rattle.session_state.specs.declared.state.Caller.{Caller}
 use Rattle.session_model.specs.Sound.{AreFit}
 use Rattle.session_state.specs.Doing.{caller_in}
 use Rattle.session_checks.specs.Checked.{AllMade, listed, only_if, access, writing, writing_on}

@@ -7,15 +7,15 @@ use Rattle.acl.specs.declared.user_id.UserId.{UserId}
 use Rattle.acl.specs.declared.bits.Bit.TheVariants.{Write, Execute}
 use Rattle.acl.specs.declared.act.Object.TheVariants as object
 use Rattle.acl.specs.History.{there}
-use Rattle.session_model.specs.declared.check.Check.{Check}
-use Rattle.session_model.specs.declared.check.Check.TheVariants.{Right, Unlocked, Must}
-use Rattle.session_model.specs.declared.limits.TheConstants.{CLIENTS, SERIALS}
+use Rattle.session_model.specs.declared.refusal.Check.{Check}
+use Rattle.session_model.specs.declared.refusal.Check.TheVariants.{Right, Unlocked, Must}
+use Rattle.session_model.specs.declared.event.TheConstants.{CLIENTS, SERIALS}
 use Rattle.session_model.specs.declared.refusal.Refusal.{Refusal}
 use Rattle.session_model.specs.declared.refusal.Refusal.TheVariants.{NoMemory, NoWindow}
-use Rattle.session_model.specs.declared.verdict.Verdict.{Verdict}
+use Rattle.session_model.specs.declared.refusal.Verdict.{Verdict}
 use Rattle.session_model.specs.Tables.{Window, Tables}
 use Rattle.session_model.specs.Checks.{verdicts, first_fault}
-use Rattle.session_state.specs.declared.caller.Caller.{Caller}
+use Rattle.session_state.specs.declared.state.Caller.{Caller}
 use Rattle.session_state.specs.Doing.{caller_in}
 
 -- all checks pass, and their verdicts come after those before

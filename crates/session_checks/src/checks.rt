@@ -1,17 +1,39 @@
-//! How checks are made, one after another.
+//! How checks are made, one after another, and what a failed one denies.
 
 ghost use Rattle.std.specs.Prelude.{◌≡◌, ◌∷◌, [], true, option_to_list};
 ghost use Rattle.acl.specs.History.{there};
 ghost use Rattle.session_model.specs.Tables.{Tables};
-ghost use Rattle.session_model.specs.declared.check.Check.TheVariants.{Right as right};
-ghost use Rattle.session_model.specs.declared.check.Check.TheVariants.{Unlocked as unlocked};
+ghost use Rattle.session_model.specs.declared.refusal.Check.TheVariants.{Right as right, Unlocked as unlocked};
 ghost use Rattle.session_state.specs.Stands.{Stands};
 ghost use Rattle.session_checks.specs.Checked.{Checked, AllMade, listed};
+ghost use Rattle.session_model.specs.Denials.{number_of, denied_on};
 
-use crate::denials::{denied_on, number_of};
 use acl::{Bit, Object, UserId};
-use session_model::{Check, EntryDenied, LockDenied, Refusal, Verdict};
+use session_model::{Check, Denied, EntryDenied, LockDenied, Refusal, Verdict};
 use session_state::State;
+
+/// The number of the window with this serial.
+fn number_of(state: &State, window: u32) -> u8
+    ensures { (t : Tables) → Stands t state.now → result ≡ number_of t window }
+{
+    match state.windows.get(window) {
+        Some(window) => window.number,
+        None => 0,
+    }
+}
+
+/// What a denial names: a window with its number, or a command.
+fn denied_on(state: &State, object: Object) -> Denied
+    ensures { (t : Tables) → Stands t state.now → result ≡ denied_on t object }
+{
+    match object {
+        Object::Window(serial) => Denied::Window {
+            serial,
+            number: number_of(state, serial),
+        },
+        Object::Command(name) => Denied::Command(name),
+    }
+}
 
 /// Checks a user's right on a command, or on an open window.
 fn check_right(

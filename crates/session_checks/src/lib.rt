@@ -3,7 +3,6 @@
 
 mod checks;
 mod commands;
-mod denials;
 mod events;
 
 pub use commands::check_command;

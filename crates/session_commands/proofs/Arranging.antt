@@ -1,6 +1,6 @@
 -- A deed that changes a client's page changes the row of the model's client.
 use Rattle.std.proofs.Common.{◌≡◌, ◌∙◌, ℕ, List, Some, true, ap, refl, sym}
-use Rattle.regions.specs.declared.way.Way.{Way}
+use Rattle.regions.specs.declared.node.Way.{Way}
 use Rattle.regions.specs.Layouts.{Arrangement, split_focused, split_fault}
 use Rattle.regions.specs.Pages.{has_room}
 use Rattle.session_model.specs.Tables as model

@@ -8,8 +8,8 @@ use Rattle.terminal_model.specs.Writing as terminal
 use Rattle.terminal_model.specs.Writing.{Writing}
 use Rattle.session_model.specs.declared.refusal.Refusal.TheVariants.{Windows}
 use Rattle.session_model.specs.Faults.{refusal_of}
-use Rattle.session_model.specs.windows_fault.WindowsFault.{WindowsFault}
-use Rattle.session_model.specs.windows_fault.WindowsFault.TheVariants.{NumberTaken, BadTitle, NoMemory}
+use Rattle.session_model.specs.rows.WindowsFault.{WindowsFault}
+use Rattle.session_model.specs.rows.WindowsFault.TheVariants.{NumberTaken, BadTitle, NoMemory}
 use Rattle.session_model.specs.Tables.{Tables, Window, with_window, with_row}
 use Rattle.session_model.specs.Naming.{is_title}
 use Rattle.session_model.specs.Lines as model
@@ -21,8 +21,8 @@ use Rattle.windows.specs.declared.window.Window.{Window as Row}
 use Rattle.windows.specs.Standing.{StandFor, Change, Answered, changed, serial}
 use Rattle.windows.specs.Standing.{written, written_to, retitled, with_new_number}
 use Rattle.windows.proofs.Callers.{row_done, row_refused_as}
-use Rattle.session_state.specs.declared.caller.Caller.{Caller}
-use Rattle.session_state.specs.declared.step_output.StepOutput.{StepOutput}
+use Rattle.session_state.specs.declared.state.Caller.{Caller}
+use Rattle.session_state.specs.declared.state.StepOutput.{StepOutput}
 use Rattle.session_state.specs.declared.state.State.{State}
 use Rattle.session_state.specs.Stands.{Stands}
 use Rattle.session_state.specs.Doing.{Answers, caller_in}

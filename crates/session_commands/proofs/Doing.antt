@@ -10,7 +10,7 @@ use Rattle.session_model.specs.Lines as model
 use Rattle.session_model.specs.Deeds.{Answer, changing, given, input_of}
 use Rattle.session_model.specs.Commands.{does, on_window}
 use Rattle.windows_model.proofs.Serials.{if_true, if_false}
-use Rattle.session_state.specs.declared.caller.Caller.{Caller}
+use Rattle.session_state.specs.declared.state.Caller.{Caller}
 use Rattle.session_state.specs.Doing.{caller_in}
 use Rattle.session_commands.proofs.Passing.{IsOn}
 

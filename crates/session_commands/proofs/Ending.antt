@@ -6,7 +6,7 @@ use Rattle.std.specs.List.{AllByRecursion}
 use Rattle.std.proofs.lemmas.Bool.Decides.{nat_tests}
 use Rattle.std.proofs.lemmas.List.{map-append}
 use Rattle.acl.specs.declared.user_id.UserId.{UserId}
-use Rattle.acl.specs.declared.edition.Edition.{Edition}
+use Rattle.acl.specs.declared.leaders.Edition.{Edition}
 use Rattle.acl.specs.declared.act.Act.{Act}
 use Rattle.acl.specs.declared.act.Act.TheVariants.{Closed, Parted, Gone}
 use Rattle.acl.specs.History.{History, followed_by}
@@ -21,8 +21,8 @@ use Rattle.session_model.specs.declared.event.Effect.TheVariants.{Gone}
 use Rattle.session_model.specs.declared.event.Peer.TheVariants as peer
 use Rattle.session_model.specs.declared.event.Reason.{Reason}
 use Rattle.session_model.specs.declared.event.Reason.TheVariants as reason
-use Rattle.session_model.specs.windows_fault.WindowsFault.{WindowsFault}
-use Rattle.session_model.specs.windows_fault.WindowsFault.TheVariants as fault
+use Rattle.session_model.specs.rows.WindowsFault.{WindowsFault}
+use Rattle.session_model.specs.rows.WindowsFault.TheVariants as fault
 use Rattle.session_model.specs.Faults.{refusal_of}
 use Rattle.session_model.specs.declared.refusal.Refusal.TheVariants.{NoWindow}
 use Rattle.session_model.specs.Tables as model
@@ -34,7 +34,7 @@ use Rattle.windows.specs.declared.window.Window.{Window}
 use Rattle.windows.specs.Standing.{StandFor, closed, without}
 use Rattle.session_state.specs.declared.client.Client.{Client}
 use Rattle.session_state.specs.Clients.{AreClients, Keeps, ChangesAll}
-use Rattle.session_state.specs.declared.step_output.StepOutput.{StepOutput}
+use Rattle.session_state.specs.declared.state.StepOutput.{StepOutput}
 use Rattle.session_state.specs.declared.state.State.{State}
 use Rattle.session_state.specs.Stands.{Stands}
 use Rattle.session_model.specs.Sound.{AreFit}

@@ -12,8 +12,8 @@ use Rattle.session_model.specs.Deeds.{Deed, Answer, listing, unless}
 use Rattle.session_model.specs.declared.refusal.Refusal.TheVariants.{Acl}
 use Rattle.command_lang.specs.declared.command.Command.TheVariants as command
 use Rattle.acl.specs.declared.user_id.UserId.{UserId}
-use Rattle.acl.specs.declared.faults.AclFault.{AclFault}
-use Rattle.acl.specs.declared.faults.AclFault.TheVariants.{OwnerKept, UnknownUser}
+use Rattle.acl.specs.declared.entries.AclFault.{AclFault}
+use Rattle.acl.specs.declared.entries.AclFault.TheVariants.{OwnerKept, UnknownUser}
 use Rattle.acl.specs.Names.{named_by}
 use Rattle.acl.specs.Same.{same_user}
 use Rattle.acl.specs.History.{among}
@@ -21,7 +21,7 @@ use Rattle.acl.specs.Table.{knows}
 use Rattle.acl.specs.Commands.{known_name_fault}
 use Rattle.acl.proofs.FollowingLemmas.{known-among}
 use Rattle.session_state.specs.declared.state.State.{State}
-use Rattle.session_state.specs.declared.step_output.StepOutput.{StepOutput}
+use Rattle.session_state.specs.declared.state.StepOutput.{StepOutput}
 use Rattle.session_state.specs.Stands.{Stands}
 use Rattle.session_state.specs.Doing.{Answers}
 

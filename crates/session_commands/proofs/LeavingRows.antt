@@ -3,8 +3,8 @@ use Rattle.std.proofs.Common.{◌≡◌, ◌∙◌, ℕ, List, Option, Some, Non
 use Rattle.std.specs.Prelude.{◌==◌}
 use Rattle.std.specs.Option.{option_and_then}
 use Rattle.acl.specs.declared.user_id.UserId.{UserId}
-use Rattle.acl.specs.declared.faults.AclFault.{AclFault}
-use Rattle.acl.specs.declared.faults.AclFault.TheVariants as fault
+use Rattle.acl.specs.declared.entries.AclFault.{AclFault}
+use Rattle.acl.specs.declared.entries.AclFault.TheVariants as fault
 use Rattle.acl.specs.Names.{named_by}
 use Rattle.acl.specs.Commands.{known_name_fault}
 use Rattle.acl.specs.Commands as acl
@@ -18,7 +18,7 @@ use Rattle.session_model.specs.Lines as model_lines
 use Rattle.session_model.specs.Deeds.{Answer, given, unless, closes, parts, removes}
 use Rattle.session_model.specs.Commands.{does}
 use Rattle.windows_model.proofs.Serials.{serial_is}
-use Rattle.session_state.specs.declared.caller.Caller.{Caller}
+use Rattle.session_state.specs.declared.state.Caller.{Caller}
 use Rattle.session_state.specs.Doing.{caller_in}
 use Rattle.session_commands.specs.Closing.{closing}
 use Rattle.session_commands.specs.Settling.{detaching}

@@ -5,8 +5,8 @@ use Rattle.std.specs.Prelude.{Result, OnOk, IfOk, ◌⊎◌}
 use Rattle.acl.specs.declared.user_id.UserId.{UserId}
 use Rattle.acl.specs.declared.act.Act.{Act}
 use Rattle.acl.specs.declared.act.Object.{Object}
-use Rattle.acl.specs.declared.faults.AclFault.{AclFault}
-use Rattle.acl.specs.declared.faults.AclFault.TheVariants as faults
+use Rattle.acl.specs.declared.entries.AclFault.{AclFault}
+use Rattle.acl.specs.declared.entries.AclFault.TheVariants as faults
 use Rattle.acl.specs.Commands as acl
 use Rattle.acl.specs.Commands.{change_fault}
 use Rattle.acl.specs.Deeds.{IsDone}
@@ -15,10 +15,10 @@ use Rattle.writelock.specs.declared.locks.Locks.{Locks}
 use Rattle.writelock.specs.LockTable.{LocksStandFor}
 use Rattle.session_model.specs.declared.refusal.Refusal.{Refusal}
 use Rattle.session_model.specs.declared.refusal.Refusal.TheVariants.{NoMemory, Acl, Windows}
-use Rattle.session_model.specs.windows_fault.WindowsFault.TheVariants.{NoSuchWindow}
+use Rattle.session_model.specs.rows.WindowsFault.TheVariants.{NoSuchWindow}
 use Rattle.session_model.specs.Tables.{Tables, known_users}
 use Rattle.session_model.specs.Deeds.{Deed, Answer, acting, changes, unless, given}
-use Rattle.session_state.specs.declared.step_output.StepOutput.{StepOutput}
+use Rattle.session_state.specs.declared.state.StepOutput.{StepOutput}
 use Rattle.session_state.specs.declared.state.State.{State}
 use Rattle.session_state.specs.Stands.{Stands}
 use Rattle.session_state.specs.Doing.{Answers}

@@ -11,8 +11,8 @@ use Rattle.windows_model.proofs.Matching.{none_back}
 use Rattle.windows_model.proofs.Serials.{serial_is, with_same}
 use Rattle.session_state.specs.declared.client.Client.{Client}
 use Rattle.session_state.specs.Clients.{ClientStands, AreClients, Changes}
-use Rattle.session_state.specs.declared.caller.Caller.{Caller}
-use Rattle.session_state.specs.declared.step_output.StepOutput.{StepOutput}
+use Rattle.session_state.specs.declared.state.Caller.{Caller}
+use Rattle.session_state.specs.declared.state.StepOutput.{StepOutput}
 use Rattle.session_state.specs.declared.state.State.{State}
 use Rattle.session_state.specs.Stands.{Stands}
 use Rattle.session_state.specs.Doing.{HasDone, GivesBy, caller_in}

@@ -9,9 +9,9 @@ use Rattle.acl.specs.declared.bits.Bit.TheVariants.{Write, Execute}
 use Rattle.acl.specs.declared.act.Object.TheVariants as object
 use Rattle.command_lang.specs.declared.command.Command.{Command}
 use Rattle.command_lang.specs.Names.{name_of}
-use Rattle.session_model.specs.declared.check.Check.{Check}
-use Rattle.session_model.specs.declared.check.Check.TheVariants.{Right as right, Must as must}
-use Rattle.session_model.specs.declared.check.Check.TheVariants.{Unlocked as unlocked}
+use Rattle.session_model.specs.declared.refusal.Check.{Check}
+use Rattle.session_model.specs.declared.refusal.Check.TheVariants.{Right as right, Must as must}
+use Rattle.session_model.specs.declared.refusal.Check.TheVariants.{Unlocked as unlocked}
 use Rattle.command_lang.specs.declared.needs.Needs.{Needs}
 use Rattle.session_model.specs.declared.refusal.Refusal.{Refusal}
 use Rattle.session_model.specs.declared.refusal.Refusal.TheVariants.{NotMultiuser, NoWindow}
@@ -22,7 +22,7 @@ use Rattle.command_lang.specs.Needs.{needs}
 use Rattle.session_model.specs.Checks.{passes, refusal_of, first_fault, checks, checks_by}
 use Rattle.session_model.specs.Checks.{window_checks, where_needed}
 use Rattle.windows_model.proofs.Serials.{serial_is}
-use Rattle.session_state.specs.declared.caller.Caller.{Caller}
+use Rattle.session_state.specs.declared.state.Caller.{Caller}
 use Rattle.session_state.specs.Doing.{caller_in}
 
 module _ (t : Tables) where

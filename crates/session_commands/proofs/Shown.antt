@@ -4,7 +4,7 @@ use Rattle.std.proofs.Common.{◌∙◌, subst}
 use Rattle.std.specs.Prelude.{slice_get, slice_set, if◌then◌else◌, ◌==◌}
 use Rattle.std.specs.List.{AllByRecursion, remove}
 use Rattle.std.specs.Option.{option_and_then}
-use Rattle.regions.specs.declared.shown.Shown.{Shown}
+use Rattle.regions.specs.declared.layout.Shown.{Shown}
 use Rattle.regions.specs.Layouts.{remove_focused}
 use Rattle.session_model.specs.Tables.{Client, Tables, row_of, client_at, focused, with_layout}
 use Rattle.session_model.specs.Sound.{AreFit, IsOpen, ShowsOpen}

@@ -6,16 +6,16 @@ use Rattle.std.specs.List.{AllByRecursion, list_all}
 use Rattle.std.specs.Option.{option_map, option_and_then}
 use Rattle.std.proofs.lemmas.Bool.Decides.{nat_tests}
 use Rattle.regions.specs.declared.rect.Rect.{Rect}
-use Rattle.regions.specs.declared.way.Way.TheVariants.{Below, Right}
-use Rattle.regions.specs.declared.fault.RegionFault.TheVariants.{TooSmall}
+use Rattle.regions.specs.declared.node.Way.TheVariants.{Below, Right}
+use Rattle.regions.specs.declared.layout.RegionFault.TheVariants.{TooSmall}
 use Rattle.regions.specs.Shapes.{Shape, region, split, boxes, upper, lower, left, right}
 use Rattle.regions.specs.Pages.{box_of, is_roomy, has_room}
 use Rattle.terminal_model.specs.Writing as terminal
 use Rattle.session_model.specs.declared.event.Effect.TheVariants.{Size}
 use Rattle.session_model.specs.declared.refusal.Refusal.TheVariants.{NoMemory, NoWindow, Regions}
 use Rattle.session_model.specs.Faults.{refusal_of}
-use Rattle.session_model.specs.windows_fault.WindowsFault.{WindowsFault}
-use Rattle.session_model.specs.windows_fault.WindowsFault.TheVariants as fault
+use Rattle.session_model.specs.rows.WindowsFault.{WindowsFault}
+use Rattle.session_model.specs.rows.WindowsFault.TheVariants as fault
 use Rattle.session_model.specs.Tables as model
 use Rattle.session_model.specs.Tables.{Window, Tables, window_at, with_row}
 use Rattle.session_model.specs.Deeds.{Deed, Answer, focused_box, fits, given, writes}
@@ -27,8 +27,8 @@ use Rattle.windows.specs.Standing.{StandFor, Answered, serial, resized, resized_
 use Rattle.windows.proofs.Callers.{row_done, row_refused_as}
 use Rattle.session_state.specs.declared.client.Client.{Client}
 use Rattle.session_state.specs.Clients.{ClientStands}
-use Rattle.session_state.specs.declared.caller.Caller.{Caller}
-use Rattle.session_state.specs.declared.step_output.StepOutput.{StepOutput}
+use Rattle.session_state.specs.declared.state.Caller.{Caller}
+use Rattle.session_state.specs.declared.state.StepOutput.{StepOutput}
 use Rattle.session_state.specs.declared.state.State.{State}
 use Rattle.session_state.specs.Stands.{Stands}
 use Rattle.session_state.specs.Doing.{Answers, caller_in}

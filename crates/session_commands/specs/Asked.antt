@@ -10,8 +10,8 @@ use Rattle.acl.specs.declared.act.Object.TheVariants as object
 use Rattle.acl.specs.declared.bits.BitChange.{BitChange}
 use Rattle.acl.specs.declared.entries.MaskEntry.{MaskEntry}
 use Rattle.acl.specs.declared.entries.MaskScope.{MaskScope}
-use Rattle.acl.specs.declared.faults.AclFault.{AclFault}
-use Rattle.acl.specs.declared.faults.AclFault.TheVariants as fault
+use Rattle.acl.specs.declared.entries.AclFault.{AclFault}
+use Rattle.acl.specs.declared.entries.AclFault.TheVariants as fault
 use Rattle.acl.specs.Names.{named_by}
 use Rattle.acl.specs.Same.{same_user}
 use Rattle.acl.specs.Table.{Table, users_in}
@@ -20,7 +20,7 @@ use Rattle.command_lang.specs.declared.command.Users.TheVariants as users
 use Rattle.command_lang.specs.Names.{command_named}
 use Rattle.session_model.specs.declared.refusal.Refusal.{Refusal}
 use Rattle.session_model.specs.declared.refusal.Refusal.TheVariants as refusal
-use Rattle.session_model.specs.windows_fault.WindowsFault.TheVariants.{NoSuchWindow}
+use Rattle.session_model.specs.rows.WindowsFault.TheVariants.{NoSuchWindow}
 use Rattle.session_model.specs.Tables as model
 use Rattle.session_model.specs.Tables.{Tables, others}
 use Rattle.session_model.specs.Naming.{every_command, window_named, names_of}

@@ -2,9 +2,9 @@
 use Rattle.std.specs.Prelude.{ℕ, ◌≡◌, List, Option, Result}
 use Rattle.command_lang.specs.declared.command.Command.{Command}
 use Rattle.session_model.specs.declared.refusal.Refusal.{Refusal}
-use Rattle.session_state.specs.declared.caller.Caller.{Caller}
+use Rattle.session_state.specs.declared.state.Caller.{Caller}
 use Rattle.session_state.specs.Doing as state
-use Rattle.session_commands.specs.declared.context.Context.{Context}
+use Rattle.session_commands.specs.declared.giver.Context.{Context}
 
 abbrev pub HasRoomToAct : Context → Type 0
 HasRoomToAct context = state.HasRoomToAct context.made.now

@@ -6,11 +6,11 @@ use Rattle.acl.specs.declared.act.Act.TheVariants as act
 use Rattle.acl.specs.History.{is_open}
 use Rattle.session_model.specs.Tables.{Window, Client, Tables, client_at, focused}
 use Rattle.session_model.specs.Deeds.{acting, entering, selects}
-use Rattle.session_state.specs.declared.step_output.StepOutput.{StepOutput}
+use Rattle.session_state.specs.declared.state.StepOutput.{StepOutput}
 use Rattle.session_state.specs.declared.state.State.{State}
 use Rattle.session_state.specs.Stands.{Stands}
 use Rattle.session_state.specs.Doing.{HasRoom, HasRoomToLeave, HasDone}
-use Rattle.session_commands.specs.declared.context.Context.{Context}
+use Rattle.session_commands.specs.declared.giver.Context.{Context}
 use Rattle.session_commands.specs.Contexts.{LendsTheSame}
 
 -- the tables with one act more

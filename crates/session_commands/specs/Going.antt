@@ -18,7 +18,7 @@ use Rattle.session_model.specs.Deeds.{parts}
 use Rattle.session_state.specs.declared.client.Client.{Client}
 use Rattle.session_state.specs.Stands.{Stands}
 use Rattle.session_state.specs.Doing.{HasDone}
-use Rattle.session_commands.specs.declared.context.Context.{Context}
+use Rattle.session_commands.specs.declared.giver.Context.{Context}
 use Rattle.session_commands.specs.Contexts.{IsWhole}
 use Rattle.session_commands.specs.declared.going.Going.{Going}
 use Rattle.session_commands.specs.declared.going.Going.TheVariants.{One, Of, AllBut, All}

@@ -5,12 +5,12 @@ use Rattle.session_model.specs.declared.refusal.Refusal.{Refusal}
 use Rattle.session_model.specs.declared.refusal.Refusal.TheVariants.{NoWindow}
 use Rattle.session_model.specs.Tables.{Tables, client_at}
 use Rattle.session_model.specs.Deeds.{Answer, given, parts}
-use Rattle.session_state.specs.declared.step_output.StepOutput.{StepOutput}
+use Rattle.session_state.specs.declared.state.StepOutput.{StepOutput}
 use Rattle.session_state.specs.declared.state.State.{State}
 use Rattle.session_state.specs.Stands.{Stands}
 use Rattle.session_model.specs.Sound.{AreFit}
 use Rattle.session_state.specs.Doing.{Answers}
-use Rattle.session_commands.specs.declared.context.Context.{Context}
+use Rattle.session_commands.specs.declared.giver.Context.{Context}
 use Rattle.session_commands.specs.Contexts.{IsWhole}
 
 -- the answer of a command that lists nothing

@@ -1,21 +1,21 @@
-//! Commands on the access lists: which users are known, what they may do, and whom they follow.
+//! Commands on the access lists: which users are known, what they may do, and whom they follow; and on write locks.
 
 ghost use Rattle.std.specs.Prelude.{◌≡◌, None, Some};
-ghost use Rattle.command_lang.specs.declared.command.Command.TheVariants as command;
+ghost use Rattle.command_lang.specs.declared.command.Command.{TheVariants as command};
 ghost use Rattle.session_model.specs.Tables.{Tables};
-ghost use Rattle.session_state.specs.declared.step_output.StepOutput.{StepOutput};
-ghost use Rattle.session_state.specs.Doing as doing;
+ghost use Rattle.session_state.specs.declared.state.StepOutput.{StepOutput};
+ghost use Rattle.session_state.specs.{Doing as doing};
 ghost use Rattle.session_state.specs.Stands.{Stands};
 ghost use Rattle.session_commands.specs.Asked.{answered, refusal_of};
-ghost use Rattle.session_commands.specs.Contexts.{Does, DoesForAll};
+ghost use Rattle.session_commands.specs.Contexts.{Does, DoesForAll, DoesIf, HasRoomToAct};
 ghost use Rattle.session_state.specs.Leaders.{IsKnownUser};
 
-use crate::context::{CommandReply, Context};
+use crate::giver::{CommandReply, Context};
 use crate::going::{Going, gone_clients, note_parted};
 use crate::masks::entries_of;
 use crate::names::{named, names_of, new_leader};
 use crate::objects::{every_object, objects_of};
-use acl::{AclFault, LeaderChange, MaskChange, NewUsers, RightsChange, UserId};
+use acl::{AclFault, Act, LeaderChange, LockMode, MaskChange, NewUsers, RightsChange, UserId};
 use command_lang::{BitList, Leader, Masks, Text, Texts, Users};
 use session_model::{Reason, Refusal};
 use session_state::{Caller, State, leaders_text};
@@ -159,4 +159,31 @@ pub fn aclumask(context: &mut Context, caller: Caller, masks: &Masks) -> Command
     };
     let (acts, locks) = (&mut made.acts, &mut state.locks);
     answered(state.acl.mask(change, acts, ROOM, locks))
+}
+
+/// `writelock`: sets the lock mode of the caller's window. Then the caller holds the lock, or nobody in
+/// mode off.
+pub fn writelock(context: &mut Context, caller: Caller, window: u32, mode: LockMode) -> CommandReply
+    requires { HasRoomToAct context.old }
+    ensures { DoesIf (caller.window ≡ Some window) caller (command.Writelock mode)
+        context.old result context.new }
+{
+    let by = caller.user;
+    context
+        .made
+        .acts
+        .push(Act::Mode { by, window, mode })
+        .unwrap();
+    context.state.locks.set_mode(by, window, mode);
+    Ok(None)
+}
+
+/// `defwritelock`: sets the lock mode of windows that are opened later.
+pub fn defwritelock(context: &mut Context, mode: LockMode) -> CommandReply
+    requires { HasRoomToAct context.old }
+    ensures { DoesForAll (command.Defwritelock mode) context.old result context.new }
+{
+    context.made.acts.push(Act::Default { mode }).unwrap();
+    context.state.locks.set_default(mode);
+    Ok(None)
 }

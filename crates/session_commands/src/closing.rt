@@ -2,14 +2,14 @@
 
 ghost use Rattle.std.specs.Prelude.{◌≡◌, ◌≤◌, ◌+◌, ◌++◌, ℕ, map, length};
 ghost use Rattle.std.specs.Prelude.{vec_len, vec_capacity, IfOk};
-ghost use Rattle.acl.specs.declared.edition.Edition.{Edition};
+ghost use Rattle.acl.specs.declared.leaders.Edition.{Edition};
 ghost use Rattle.acl.specs.History.{History, followed_by};
 ghost use Rattle.acl.specs.Table.{StandsFor};
 ghost use Rattle.writelock.specs.LockTable.{LocksStandFor};
 ghost use Rattle.session_commands.specs.Closing.{closing, gone_row, closed_acts};
 ghost use Rattle.session_commands.specs.Settling.{Settles};
 
-use crate::context::Context;
+use crate::giver::Context;
 use acl::{Acl, Act, UserId};
 use session_model::{Effect, Peer, Reason, Refusal};
 use std::alloc::{AllocError, Global};

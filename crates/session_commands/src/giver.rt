@@ -1,4 +1,4 @@
-//! The client that gives a command, and the window that the command is for.
+//! What a command works on: the session's state, the client that gives it, and the window that it is for.
 
 ghost use Rattle.std.specs.Prelude.{◌≡◌, IfOk, IfErr};
 ghost use Rattle.session_model.specs.declared.refusal.Refusal.TheVariants.{NoWindow};
@@ -6,8 +6,18 @@ ghost use Rattle.session_state.specs.Doing.{GivesBy};
 ghost use Rattle.session_commands.specs.Giving.{NobodyGives, FindsWindow, HasNumber, refusal_of};
 
 use regions::RegionFault;
-use session_model::Refusal;
-use session_state::{Caller, State};
+use session_model::{Bytes, Refusal};
+use session_state::{Caller, State, StepOutput};
+
+/// The session's state while a step lasts, and what the step has made so far.
+#[derive(Drop)]
+pub struct Context<'s> {
+    pub state: &'s mut State,
+    pub made: &'s mut StepOutput,
+}
+
+/// What a command lists, if it lists anything, or why it is refused.
+pub type CommandReply = Result<Option<Bytes>, Refusal>;
 
 /// The serial of the client that gives a command. It is attached.
 pub fn client_of(state: &State, caller: Caller) -> Result<u32, Refusal>

@@ -4,7 +4,7 @@ ghost use Rattle.std.specs.Prelude.{◌≡◌, ◌≤◌, ◌+◌, ◌++◌, ◌
 ghost use Rattle.std.specs.Prelude.{length, reverse, vec_len, vec_capacity};
 ghost use Rattle.std.specs.Prelude.{IfOk};
 ghost use Rattle.std.specs.List.{list_any};
-ghost use Rattle.acl.specs.declared.edition.Edition.{Edition};
+ghost use Rattle.acl.specs.declared.leaders.Edition.{Edition};
 ghost use Rattle.acl.specs.History.{History, followed_by};
 ghost use Rattle.writelock.specs.Holding.{clients_of};
 ghost use Rattle.writelock.specs.LockTable.{LocksStandFor};
@@ -14,7 +14,7 @@ ghost use Rattle.session_commands.specs.Going.{goes, goes_now, gone_now, parted_
 ghost use Rattle.session_commands.specs.Going.{serials_now, attached_now, is_of_now};
 ghost use Rattle.session_commands.specs.Going.{last_of, Goes};
 
-use crate::context::Context;
+use crate::giver::Context;
 use acl::{Act, UserId};
 use session_model::{Effect, Peer, Reason};
 use session_state::{Client, Clients};

@@ -1,17 +1,21 @@
-//! Commands and events by which clients go or windows are closed.
+//! Commands and events by which clients go or windows are closed, and the one that speaks to all clients.
 
-ghost use Rattle.std.specs.Prelude.{◌≡◌, true, IsOk};
-ghost use Rattle.command_lang.specs.declared.command.Command.TheVariants as command;
-ghost use Rattle.session_model.specs.declared.event.Reason.TheVariants as reason;
+ghost use Rattle.std.specs.Prelude.{◌≡◌, true, IsOk, ◌++◌, codes, IfOk};
+ghost use Rattle.command_lang.specs.declared.command.Command.{TheVariants as command};
+ghost use Rattle.session_model.specs.declared.event.Reason.{TheVariants as reason};
 ghost use Rattle.session_state.specs.Doing.{HasRoomToLeave};
-ghost use Rattle.session_commands.specs.Contexts.{DoesForAll, DoesBy, DoesOn};
+ghost use Rattle.session_commands.specs.Contexts.{DoesForAll, DoesBy, DoesOn, Does, HasRoomToAct};
 ghost use Rattle.session_commands.specs.Closing.{closing};
 ghost use Rattle.session_commands.specs.Settling.{Settles, detaching};
+ghost use Rattle.acl.specs.Names.{name_of};
 
 use crate::closing::{close, gone_windows, note_closed};
-use crate::context::{CommandReply, Context};
+use crate::giver::{CommandReply, Context};
 use crate::going::{Going, go, gone_clients, note_parted};
+use acl::UserId;
 use session_model::{Reason, Refusal};
+use session_state::{Caller, messages_of};
+use std::alloc::{AllocError, Global};
 
 /// Removes a client whose terminal went.
 pub fn detach_client(context: &mut Context, client: u32) -> Result<(), Refusal>
@@ -80,5 +84,30 @@ pub fn multiuser(context: &mut Context, is_on: bool) -> CommandReply
     let owner = context.state.acl.owner();
     go(context, Going::AllBut(owner), Reason::SingleUser)?;
     context.state.is_multiuser = false;
+    Ok(None)
+}
+
+/// The message of a user to all: `USER: TEXT`.
+fn said_by(alloc: Global, user: UserId, text: &[u8]) -> Result<Vec<u8>, AllocError>
+    ensures { IfOk result (λ said. said.items ≡ name_of user ++ (codes ": " ++ text.now)) }
+{
+    let mut said = Vec::new(alloc);
+    said.extend_from_slice(user.as_bytes())?;
+    said.extend_from_slice(b": ")?;
+    said.extend_from_slice(text)?;
+    Ok(said)
+}
+
+/// `wall`: tells every client the caller's message.
+pub fn wall(context: &mut Context, caller: Caller, text: &[u8]) -> CommandReply
+    requires { HasRoomToAct context.old }
+    ensures { Does caller (command.Wall text.now) context.old result context.new }
+{
+    let (state, made) = (&mut *context.state, &mut *context.made);
+    let said = said_by(state.alloc, caller.user, text)?;
+    let mut messages = messages_of(state.alloc, &said, state.clients.len())?;
+    let mut says = state.clients.says(state.alloc, &said)?;
+    made.effects.append(&mut says)?;
+    state.clients.hear_all(&mut messages);
     Ok(None)
 }

@@ -4,26 +4,19 @@
 
 mod access;
 mod closing;
-mod context;
-mod entering;
 mod giver;
 mod going;
 mod leaving;
 mod lists;
-mod locks;
 mod masks;
-mod messages;
 mod names;
 mod objects;
 mod pages;
 mod window;
 
-pub use access::{acladd, aclchg, acldel, aclgrp, aclgrp_of, aclumask};
-pub use context::{CommandReply, Context};
-pub use giver::client_of;
-pub use leaving::{close_window, detach, detach_client, kill, multiuser, quit};
+pub use access::{acladd, aclchg, acldel, aclgrp, aclgrp_of, aclumask, defwritelock, writelock};
+pub use giver::{CommandReply, Context, client_of};
+pub use leaving::{close_window, detach, detach_client, kill, multiuser, quit, wall};
 pub use lists::{displays, screen, windows};
-pub use locks::{defwritelock, writelock};
-pub use messages::wall;
 pub use pages::{focus, next, only, other, prev, remove, scrollview, select, split};
 pub use window::{fit, number, stuff, title, write};

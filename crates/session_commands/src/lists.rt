@@ -5,11 +5,11 @@ ghost use Rattle.std.specs.Prelude.{◌≡◌};
 ghost use Rattle.command_lang.specs.declared.command.Command.TheVariants as command;
 ghost use Rattle.session_model.specs.Commands.{focus_of as model_focus};
 ghost use Rattle.session_model.specs.Tables.{Tables};
-ghost use Rattle.session_state.specs.declared.step_output.StepOutput.{StepOutput};
+ghost use Rattle.session_state.specs.declared.state.StepOutput.{StepOutput};
 ghost use Rattle.session_state.specs.Doing.{Does, caller_in};
 ghost use Rattle.session_state.specs.Stands.{Stands};
 
-use crate::context::CommandReply;
+use crate::giver::CommandReply;
 use session_model::Bytes;
 use session_state::{Caller, State, clients_text, windows_text};
 

@@ -1,21 +1,50 @@
-//! Commands on the page of the client that gives them: which window the focused region shows, how the
-//! page is split, which region has the focus, and how far that is scrolled back.
+//! Commands on the page of the client that gives them: which window the focused region shows, how the page is split,
+//! which region has the focus, and how far that is scrolled back. A user enters the window in focus.
 
 ghost use Rattle.std.specs.Prelude.{◌≡◌};
-ghost use Rattle.command_lang.specs.declared.command.Command.TheVariants as command;
+ghost use Rattle.command_lang.specs.declared.command.Command.{TheVariants as command};
 ghost use Rattle.session_model.specs.Commands.{way_of};
-ghost use Rattle.session_state.specs.Doing.{GivesBy};
+ghost use Rattle.session_state.specs.Doing.{GivesBy, HasRoom};
 ghost use Rattle.session_commands.specs.Contexts.{DoesBy, DoesIf, HasRoomToAct};
 ghost use Rattle.session_commands.specs.Giving.{IsFormer};
-ghost use Rattle.session_commands.specs.Entering.{Shows};
+ghost use Rattle.session_commands.specs.Entering.{Shows, Enters, EntersInFocus};
 ghost use Rattle.session_commands.specs.Scrolling.{scrolled};
 
-use crate::context::{CommandReply, Context};
-use crate::entering::enter_focused;
-use crate::giver::{number_of, refusal_of};
+use crate::giver::{CommandReply, Context, number_of, refusal_of};
+use acl::{Act, Bit, Object, UserId};
 use regions::{Layout, RegionFault, Shown, Way};
 use session_model::{Refusal, WindowsFault};
 use session_state::{Caller, Client};
+
+/// A user enters an open window. If they may write there and its lock is free in mode auto, they take
+/// the lock.
+fn enter(context: &mut Context, user: UserId, window: u32)
+    requires { HasRoom 1 context.old.made.now }
+    ensures { Enters user window context.old context.new }
+{
+    let (state, made) = (&mut *context.state, &mut *context.made);
+    made.acts.push(Act::Entered { user, window }).unwrap();
+    let may_write = state
+        .acl
+        .may(user, Bit::Write, Object::Window(window))
+        .is_ok();
+    state.locks.entered(user, window, may_write);
+}
+
+/// A client's user enters the window in focus, if there is one. That window is open.
+fn enter_focused(context: &mut Context, client: u32)
+    requires { HasRoomToAct context.old }
+    ensures { EntersInFocus client context.old context.new }
+{
+    let Some(row) = context.state.clients.get(client) else {
+        return;
+    };
+    let user = row.user;
+    let focused = row.layout.focused();
+    if let Some(window) = focused.window {
+        enter(context, user, window);
+    }
+}
 
 /// Shows an open window in a client's focused region. The client's user enters it.
 fn show(context: &mut Context, client: u32, window: u32)

@@ -8,8 +8,7 @@ ghost use Rattle.session_commands.specs.Contexts.{DoesIf, DoesOn, HasRoomToAct};
 ghost use Rattle.session_commands.specs.Giving.{IsFocusedBox};
 ghost use Rattle.session_commands.specs.Written.{writes, writing_of};
 
-use crate::context::{CommandReply, Context};
-use crate::giver::{refusal_of, window_of};
+use crate::giver::{CommandReply, Context, refusal_of, window_of};
 use command_lang::{Coding, Command};
 use regions::{Rect, RegionFault};
 use session_model::{Bytes, Effect, Refusal};

@@ -13,8 +13,8 @@ use Rattle.session_model.specs.Deeds.{changing}
 use Rattle.session_model.specs.Outcomes.{Outcome, finished, refused, done, left_acts}
 use Rattle.session_model.specs.Events.{outcome}
 use Rattle.session_model.specs.Run.{IsDraw, drawn_on}
-use Rattle.session_state.specs.declared.step_notes.Step.{Step}
-use Rattle.session_state.specs.declared.step_output.StepOutput.{StepOutput}
+use Rattle.session_state.specs.declared.state.Step.{Step}
+use Rattle.session_state.specs.declared.state.StepOutput.{StepOutput}
 use Rattle.session_state.specs.declared.state.State.{State}
 use Rattle.session_state.specs.Stands.{Stands}
 use Rattle.session_state.specs.Doing.{IsAsBefore}

@@ -1,7 +1,7 @@
 -- The steps of a call, and of a new session's run, obey the laws of guests.
 use Rattle.std.proofs.Common.{◌≡◌, Bool, List, [], ◌∷◌, refl, ap, sym, subst}
 use Rattle.acl.specs.declared.user_id.UserId.{UserId}
-use Rattle.acl.specs.declared.edition.Edition.{Edition}
+use Rattle.acl.specs.declared.leaders.Edition.{Edition}
 use Rattle.session_model.specs.Trace.{Entry, Trace, with_step, begun}
 use Rattle.session_model.specs.Tables.{Tables}
 use Rattle.session_model.specs.Run.{IsStep, IsRun, IsRunFrom, after, tables_of, tables_from}

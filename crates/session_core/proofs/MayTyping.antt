@@ -13,7 +13,7 @@ use Rattle.windows.specs.Standing.{WindowStands}
 use Rattle.windows_model.proofs.Serials.{serial_is}
 use Rattle.windows_model.specs.Matched.{BothOrNone}
 use Rattle.session_model.specs.Checks.{passes, typing_checks}
-use Rattle.session_model.specs.declared.check.Check.TheVariants.{Right, Unlocked}
+use Rattle.session_model.specs.declared.refusal.Check.TheVariants.{Right, Unlocked}
 use Rattle.session_model.specs.Sound.{AreFit}
 use Rattle.session_model.specs.Tables as model
 use Rattle.session_model.specs.Tables.{Tables, window_at}

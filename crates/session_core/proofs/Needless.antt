@@ -8,8 +8,8 @@ use Rattle.keys.specs.Grammar.{items}
 use Rattle.terminal_model.specs.Shows.{View, ShowsFromAny, LooksLike, NeedsNoDraw}
 use Rattle.view.specs.Granted.{view_in}
 use Rattle.session_model.specs.declared.event.Effect.{Effect}
-use Rattle.session_model.specs.declared.message.StatusMessage.{StatusMessage}
-use Rattle.session_model.specs.declared.message.StatusMessage.TheVariants as message
+use Rattle.session_model.specs.declared.event.StatusMessage.{StatusMessage}
+use Rattle.session_model.specs.declared.event.StatusMessage.TheVariants as message
 use Rattle.session_model.specs.declared.refusal.Refusal.TheVariants.{NoWindow}
 use Rattle.session_model.specs.Trace.{EventValue, Draw, Entry, Reply}
 use Rattle.session_model.specs.Tables.{Tables, Client, client_at, with_client, row_of, with_row}

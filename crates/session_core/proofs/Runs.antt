@@ -7,7 +7,7 @@ use Rattle.acl.specs.declared.act.Act.{Act}
 use Rattle.session_model.specs.declared.event.Effect.{Effect}
 use Rattle.session_model.specs.declared.event.Event.{Event}
 use Rattle.session_model.specs.declared.event.Event.TheVariants as told
-use Rattle.session_model.specs.declared.verdict.Verdict.{Verdict}
+use Rattle.session_model.specs.declared.refusal.Verdict.{Verdict}
 use Rattle.session_model.specs.Trace.{EventValue, Keys, Draw}
 use Rattle.session_model.specs.Trace.{happening, Reply, Entry, Trace, with_step}
 use Rattle.session_model.specs.Tables.{Tables, fresh}
@@ -16,7 +16,7 @@ use Rattle.session_model.specs.Outcomes.{done}
 use Rattle.session_model.specs.Run as run
 use Rattle.session_model.specs.Run.{IsRun, IsStep, tables_of}
 use Rattle.session_laws.proofs.Promising.{step_keeps}
-use Rattle.session_state.specs.declared.step_notes.Step.{Step}
+use Rattle.session_state.specs.declared.state.Step.{Step}
 use Rattle.session_state.specs.declared.state.State.{State}
 use Rattle.session_state.specs.Stands.{Stands}
 use Rattle.session_core.specs.declared.sharing.Sharing.{Sharing}

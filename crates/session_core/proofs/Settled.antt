@@ -7,8 +7,8 @@ use Rattle.session_model.specs.Trace.{Reply}
 use Rattle.session_model.specs.Tables.{Tables}
 use Rattle.session_model.specs.Deeds.{Deed, given}
 use Rattle.session_model.specs.Outcomes.{Outcome, finished, refused, done}
-use Rattle.session_state.specs.declared.step_notes.Step.{Step}
-use Rattle.session_state.specs.declared.step_output.StepOutput.{StepOutput}
+use Rattle.session_state.specs.declared.state.Step.{Step}
+use Rattle.session_state.specs.declared.state.StepOutput.{StepOutput}
 use Rattle.session_state.specs.declared.state.State.{State}
 use Rattle.session_state.specs.Stands.{Stands}
 use Rattle.session_state.specs.Doing.{HasDone, IsAsBefore}

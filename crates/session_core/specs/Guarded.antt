@@ -1,7 +1,7 @@
 -- What the laws of guests say of a call of a session.
 use Rattle.std.specs.Prelude.{◌≡◌, Bool, List, Some}
 use Rattle.acl.specs.declared.user_id.UserId.{UserId}
-use Rattle.acl.specs.declared.edition.Edition.{Edition}
+use Rattle.acl.specs.declared.leaders.Edition.{Edition}
 use Rattle.session_model.specs.Trace.{Entry, Trace, begun}
 use Rattle.session_model.specs.Run.{after, tables_of}
 use Rattle.session_laws.specs.Changing.{RightsAreGated}

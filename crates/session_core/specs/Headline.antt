@@ -1,7 +1,7 @@
 -- What a run of a session shows.
 use Rattle.std.specs.Prelude.{ℕ, List, [], ◌∷◌, ◌++◌, ◌≡◌, ◌⊎◌, ◌≤◌, None, Result}
 use Rattle.std.specs.Prelude.{Ok, Err, if◌then◌else◌, nat_lt, drop, length, map, MatchOption}
-use Rattle.acl.specs.declared.edition.Edition.{Edition}
+use Rattle.acl.specs.declared.leaders.Edition.{Edition}
 use Rattle.acl.specs.declared.user_id.UserId.{UserId}
 use Rattle.terminal_model.specs.Shows.{View}
 use Rattle.session_model.specs.declared.event.Effect.{Effect}

@@ -1,14 +1,15 @@
-//! How clients attach and change their sizes, and how windows open.
+//! How clients attach, change their sizes and go, and how windows open, print and close.
 
 ghost use Rattle.std.specs.Prelude.{◌≡◌, OnErr};
-ghost use Rattle.session_model.specs.Trace.{Attach, Resize, Open};
+ghost use Rattle.session_model.specs.Trace.{Attach, Resize, Open, Output, Detach, Closed};
 ghost use Rattle.session_model.specs.Outcomes.{reply_of};
 ghost use Rattle.session_state.specs.Doing.{IsAsBefore};
 ghost use Rattle.session_input.specs.Stepping.{Steps};
 
 use acl::UserId;
 use session_checks::{check_attach, check_open, check_resize};
-use session_events::{Focuses, attach, leave, open, resize};
+use session_commands::{Context, close_window, detach_client};
+use session_events::{Focuses, attach, leave, open, output, resize};
 use session_model::{Done, Refusal, Reply};
 use session_state::{State, Step, WindowSize};
 
@@ -83,4 +84,47 @@ pub(crate) fn open_window(
     let (window, number) = open(state, user, size, title, &mut step.made)?;
     leave(state, &focuses, &mut step.made);
     Ok(made_so(window, number))
+}
+
+/// Takes what a window's program writes. No client's page changes, so nobody leaves a window, and no act
+/// needs room.
+pub(crate) fn write(state: &mut State, window: u32, bytes: &[u8], step: &mut Step) -> Reply
+    ensures step { Steps (Output window bytes.now) state.old result state.new step.old step.new }
+    ensures err { OnErr result (IsAsBefore state.old state.new step.old.made step.new.made) }
+{
+    let Some(_window) = state.windows.get(window) else {
+        return Err(Refusal::NoWindow);
+    };
+    output(state, window, bytes, &mut step.made)?;
+    Ok(made_so(0, 0))
+}
+
+/// Removes a client whose terminal went.
+pub(crate) fn let_go(state: &mut State, client: u32, step: &mut Step) -> Reply
+    ensures step { Steps (Detach client) state.old result state.new step.old step.new }
+    ensures err { OnErr result (IsAsBefore state.old state.new step.old.made step.new.made) }
+{
+    let focuses = Focuses::of(state);
+    let mut context = Context {
+        state,
+        made: &mut step.made,
+    };
+    detach_client(&mut context, client)?;
+    leave(state, &focuses, &mut step.made);
+    Ok(made_so(0, 0))
+}
+
+/// Closes a window whose program ended.
+pub(crate) fn end_window(state: &mut State, window: u32, step: &mut Step) -> Reply
+    ensures step { Steps (Closed window) state.old result state.new step.old step.new }
+    ensures err { OnErr result (IsAsBefore state.old state.new step.old.made step.new.made) }
+{
+    let focuses = Focuses::of(state);
+    let mut context = Context {
+        state,
+        made: &mut step.made,
+    };
+    close_window(&mut context, window)?;
+    leave(state, &focuses, &mut step.made);
+    Ok(made_so(0, 0))
 }

@@ -5,7 +5,7 @@ ghost use Rattle.acl.specs.History.{is_open};
 ghost use Rattle.acl.specs.declared.act.Object.TheVariants.{Window};
 ghost use Rattle.acl.specs.declared.bits.Bit.TheVariants.{Write};
 ghost use Rattle.session_model.specs.Checks.{passes};
-ghost use Rattle.session_model.specs.declared.check.Check.TheVariants.{Right, Unlocked};
+ghost use Rattle.session_model.specs.declared.refusal.Check.TheVariants.{Right, Unlocked};
 ghost use Rattle.session_model.specs.Sound.{AreFit};
 ghost use Rattle.session_model.specs.Tables.{Tables};
 ghost use Rattle.session_state.specs.Stands.{Stands};

@@ -3,7 +3,7 @@
 ghost use Rattle.std.specs.Prelude.{◌≡◌, ◌≤◌, ◌<◌, Err, false, true, length, map, nat_le};
 ghost use Rattle.std.specs.Prelude.{IfOk, IfErr, IfSome};
 ghost use Rattle.std.specs.List.{position};
-ghost use Rattle.acl.specs.declared.edition.Edition.TheVariants as edition;
+ghost use Rattle.acl.specs.declared.leaders.Edition.TheVariants as edition;
 ghost use Rattle.session_model.specs.declared.refusal.Refusal.TheVariants.{NoMemory};
 ghost use Rattle.session_model.specs.Trace.{Keys, happening, Trace, begun};
 ghost use Rattle.session_model.specs.Run.{tables_of};

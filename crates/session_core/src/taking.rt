@@ -6,10 +6,8 @@ ghost use Rattle.session_model.specs.Trace.{happening};
 ghost use Rattle.session_state.specs.Doing.{IsAsBefore};
 ghost use Rattle.session_core.specs.Taking.{Takes};
 
-use crate::coming::{attach_client, open_window, resize_client};
+use crate::coming::{attach_client, end_window, let_go, open_window, resize_client, write};
 use crate::drawing::draw_client;
-use crate::going::{end_window, let_go};
-use crate::programs::write;
 use crate::sharing::Sharing;
 use session_input::{give_keys, give_line};
 use session_model::{Event, Reply};

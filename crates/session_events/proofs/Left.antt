@@ -5,10 +5,10 @@ use Rattle.std.specs.Prelude.{Result, Ok, Err, IsOk, is_ok, if◌then◌else◌,
 use Rattle.std.specs.List.{AllByRecursion, list_any}
 use Rattle.std.proofs.lemmas.List.{take_all}
 use Rattle.std.specs.Option.{option_and_then}
-use Rattle.regions.specs.declared.shown.Shown.{Shown}
+use Rattle.regions.specs.declared.layout.Shown.{Shown}
 use Rattle.regions.specs.Layouts.{Arrangement}
 use Rattle.acl.specs.declared.user_id.UserId.{UserId}
-use Rattle.acl.specs.declared.edition.Edition.{Edition}
+use Rattle.acl.specs.declared.leaders.Edition.{Edition}
 use Rattle.acl.specs.declared.act.Act.{Act}
 use Rattle.acl.specs.declared.act.Act.TheVariants.{Left}
 use Rattle.acl.specs.Commands.{IsAside}

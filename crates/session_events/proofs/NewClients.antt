@@ -17,7 +17,7 @@ use Rattle.session_state.specs.declared.client.Client.{Client as Row}
 use Rattle.session_state.specs.Clients as clients
 use Rattle.session_state.specs.Clients.{AreClients}
 use Rattle.windows_model.proofs.Serials.{serial_is as serial_at}
-use Rattle.session_state.specs.declared.step_output.StepOutput.{StepOutput}
+use Rattle.session_state.specs.declared.state.StepOutput.{StepOutput}
 use Rattle.session_state.specs.declared.state.State.{State}
 use Rattle.session_state.specs.Stands.{Stands}
 use Rattle.session_model.specs.Sound.{AreFit}

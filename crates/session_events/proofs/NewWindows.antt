@@ -10,8 +10,8 @@ use Rattle.acl.specs.declared.act.Act.TheVariants as act
 use Rattle.acl.specs.Table as acl
 use Rattle.writelock.specs.declared.locks.Locks.{Locks}
 use Rattle.writelock.specs.LockTable.{LocksStandFor}
-use Rattle.session_model.specs.windows_fault.WindowsFault.{WindowsFault}
-use Rattle.session_model.specs.windows_fault.WindowsFault.TheVariants as fault
+use Rattle.session_model.specs.rows.WindowsFault.{WindowsFault}
+use Rattle.session_model.specs.rows.WindowsFault.TheVariants as fault
 use Rattle.session_model.specs.Faults.{refusal_of}
 use Rattle.session_model.specs.declared.refusal.Refusal.TheVariants.{NoMemory}
 use Rattle.session_model.specs.Tables.{Tables, Window, is_known}
@@ -22,7 +22,7 @@ use Rattle.session_model.specs.Sound.{AreFit, Rises, window_serials}
 use Rattle.windows.specs.declared.window.Window.{Window as Row}
 use Rattle.windows.specs.Standing.{StandFor, AnsweredIfRoom, is_above, opened, new_row, numbered}
 use Rattle.windows_model.proofs.Serials.{if_true}
-use Rattle.session_state.specs.declared.step_output.StepOutput.{StepOutput}
+use Rattle.session_state.specs.declared.state.StepOutput.{StepOutput}
 use Rattle.session_state.specs.declared.state.State.{State}
 use Rattle.session_state.specs.Stands.{Stands}
 use Rattle.session_state.specs.Doing.{HasDone}

@@ -3,8 +3,8 @@ use Rattle.std.specs.Prelude.{ℕ, ◌≡◌, ◌∷◌, [], true, List, Option,
 use Rattle.std.specs.Prelude.{nat_lt, if◌then◌else◌}
 use Rattle.acl.specs.declared.user_id.UserId.{UserId}
 use Rattle.acl.specs.History.{History, is_open}
-use Rattle.session_model.specs.declared.check.Check.TheVariants.{Must as must}
-use Rattle.session_model.specs.declared.limits.TheConstants.{SERIALS}
+use Rattle.session_model.specs.declared.refusal.Check.TheVariants.{Must as must}
+use Rattle.session_model.specs.declared.event.TheConstants.{SERIALS}
 use Rattle.session_model.specs.declared.refusal.Refusal.{Refusal}
 use Rattle.session_model.specs.declared.refusal.Refusal.TheVariants.{NoMemory, BadSize}
 use Rattle.session_model.specs.Tables.{Window, Client, Tables, window_at, client_at, with_client}
@@ -12,7 +12,7 @@ use Rattle.session_model.specs.Checks.{first_fault}
 use Rattle.session_model.specs.Deeds.{Deed, changing}
 use Rattle.session_model.specs.Comings.{is_client_size, attach_checks, new_client, attaches}
 use Rattle.session_model.specs.Comings.{open_checks, new_window, opens, resized, outputs}
-use Rattle.session_state.specs.declared.step_output.StepOutput.{StepOutput}
+use Rattle.session_state.specs.declared.state.StepOutput.{StepOutput}
 use Rattle.session_state.specs.declared.state.State.{State}
 use Rattle.session_state.specs.Stands.{Stands}
 use Rattle.session_model.specs.Sound.{AreFit}

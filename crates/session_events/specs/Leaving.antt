@@ -12,7 +12,7 @@ use Rattle.session_model.specs.Deeds.{Deed}
 use Rattle.session_model.specs.Outcomes.{left_acts, finished, done}
 use Rattle.session_state.specs.declared.client.Client.{Client}
 use Rattle.session_state.specs.Moves.{in_focus}
-use Rattle.session_state.specs.declared.step_output.StepOutput.{StepOutput}
+use Rattle.session_state.specs.declared.state.StepOutput.{StepOutput}
 use Rattle.session_state.specs.declared.state.State.{State}
 use Rattle.session_state.specs.Stands.{Stands}
 use Rattle.session_state.specs.Doing.{did}

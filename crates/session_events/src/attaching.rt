@@ -1,20 +1,30 @@
-//! Clients that attach, and their sizes.
+//! Clients that attach, and their sizes; windows that open, and what their programs print.
 
-ghost use Rattle.std.specs.Prelude.{◌≡◌, false};
+ghost use Rattle.std.specs.Prelude.{◌≡◌, false, OnErr};
 ghost use Rattle.std.specs.Option.{option_map};
 ghost use Rattle.session_model.specs.Tables.{Tables, Window};
 ghost use Rattle.session_model.specs.Naming.{lowest};
 ghost use Rattle.session_model.specs.Deeds.{acting, entering};
 ghost use Rattle.session_model.specs.Comings.{is_client_size};
 ghost use Rattle.session_state.specs.Stands.{Stands};
-ghost use Rattle.session_state.specs.Doing.{HasDone, IsAsBefore, IsWhole};
-ghost use Rattle.session_state.specs.Doing.{HasRoom, HasRoomToAct, HasRoomToLeave};
-ghost use Rattle.session_events.specs.Events.{IsOpenIn, Attaches, Resizes};
+ghost use Rattle.session_state.specs.Doing.{HasDone, IsAsBefore, IsWhole, HasRoom, HasRoomToAct, HasRoomToLeave};
+ghost use Rattle.session_events.specs.Events.{IsOpenIn, Attaches, Resizes, Opens, serial_from, Outputs};
 
-use crate::serials::serial_from;
 use acl::{Act, Bit, Object, UserId};
-use session_model::Refusal;
-use session_state::{NewClient, State, StepOutput, is_client_size};
+use session_model::{Bytes, Effect, Refusal, SERIALS, WindowsFault};
+use session_state::{NewClient, State, StepOutput, WindowSize, is_client_size};
+use windows::is_window_size;
+
+/// The next serial, unless all of them are given out.
+fn serial_from(next: u64) -> Option<u32>
+    ensures { result ≡ serial_from next }
+{
+    if next < SERIALS {
+        Some(next as u32)
+    } else {
+        None
+    }
+}
 
 /// The window with the lowest number.
 fn first_window(state: &State) -> Option<u32>
@@ -92,4 +102,54 @@ pub fn resize(state: &mut State, client: u32, rows: u16, columns: u16, made: &mu
         return;
     }
     state.clients.resize(client, rows, columns);
+}
+
+/// Opens a window for a user, whose checks have passed. It gets the next serial and the lowest free
+/// number, which are returned.
+pub fn open(
+    state: &mut State,
+    user: UserId,
+    size: WindowSize,
+    title: &str,
+    made: &mut StepOutput,
+) -> Result<(u32, u8), Refusal>
+    requires { HasRoomToAct made.old }
+    ensures answer { Opens user size.rows size.columns size.keep title.now
+        state.old result state.new made.old made.new }
+    ensures whole { IsWhole result state.old state.new made.old made.new }
+{
+    let Some(window) = serial_from(state.next_window) else {
+        return Err(Refusal::Windows(WindowsFault::Full));
+    };
+    if !is_window_size(size.rows, size.columns, size.keep) {
+        return Err(Refusal::BadSize);
+    }
+    let number = state.windows.open(state.alloc, window, size, title)?;
+    state.next_window += 1;
+    made.acts.push(Act::Opened { by: user, window }).unwrap();
+    state.acl.window_opened(user, window);
+    state.locks.opened(user, window);
+    Ok((window, number))
+}
+
+/// The program of an open window writes: the window's terminal reads the bytes, and what it answers is
+/// input for the program.
+pub fn output(
+    state: &mut State,
+    window: u32,
+    bytes: &[u8],
+    made: &mut StepOutput,
+) -> Result<(), Refusal>
+    ensures answer { Outputs window bytes.now state.old result state.new made.old made.new }
+    ensures err { OnErr result (IsAsBefore state.old state.new made.old made.new) }
+{
+    made.effects.reserve(1)?;
+    let mut reports = Vec::new(state.alloc);
+    state.windows.feed_all(window, bytes, &mut reports)?;
+    let input = Bytes::from_vec(reports);
+    if input.is_empty() {
+        return Ok(());
+    }
+    made.effects.push(Effect::Input(window, input)).unwrap();
+    Ok(())
 }

@@ -6,13 +6,8 @@ mod attaching;
 mod dropping;
 mod focuses;
 mod leaving;
-mod opening;
-mod programs;
-mod serials;
 
-pub use attaching::{attach, resize};
+pub use attaching::{attach, open, output, resize};
 pub use dropping::drop_said;
 pub use focuses::{Focus, Focuses};
 pub use leaving::leave;
-pub use opening::open;
-pub use programs::output;

@@ -16,8 +16,8 @@ use Rattle.session_model.specs.Tables.{Tables, window_at}
 use Rattle.session_model.specs.Lines as model
 use Rattle.session_model.specs.Deeds.{given}
 use Rattle.session_model.specs.Commands.{does, caller_client}
-use Rattle.session_state.specs.declared.caller.Caller.{Caller}
-use Rattle.session_state.specs.declared.step_output.StepOutput.{StepOutput}
+use Rattle.session_state.specs.declared.state.Caller.{Caller}
+use Rattle.session_state.specs.declared.state.StepOutput.{StepOutput}
 use Rattle.session_state.specs.declared.state.State.{State}
 use Rattle.session_state.specs.Doing.{Does, IsAsBefore, IsSilent, caller_in}
 use Rattle.session_commands.specs.Giving.{NobodyGives}

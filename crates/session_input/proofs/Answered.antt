@@ -22,8 +22,8 @@ use Rattle.session_model.specs.Outcomes.{Outcome, refused, reply_of}
 use Rattle.session_model.specs.Events.{outcome}
 use Rattle.session_model.specs.Answering.{answered, commanded, line_ruling, keys_outcome}
 use Rattle.windows_model.proofs.Serials.{if_true}
-use Rattle.session_state.specs.declared.step_notes.Step.{Step}
-use Rattle.session_state.specs.declared.step_output.StepOutput.{StepOutput}
+use Rattle.session_state.specs.declared.state.Step.{Step}
+use Rattle.session_state.specs.declared.state.StepOutput.{StepOutput}
 use Rattle.session_state.specs.declared.state.State.{State}
 use Rattle.session_state.specs.Stands.{Stands}
 use Rattle.session_state.specs.Doing.{IsAsBefore, did}

@@ -6,8 +6,8 @@ use Rattle.std.specs.Option.{option_and_then}
 use Rattle.acl.specs.declared.user_id.UserId.{UserId}
 use Rattle.session_model.specs.declared.event.Effect.{Effect}
 use Rattle.session_model.specs.declared.event.Effect.TheVariants.{Input, Say}
-use Rattle.session_model.specs.declared.message.StatusMessage.{StatusMessage}
-use Rattle.session_model.specs.declared.message.StatusMessage.TheVariants.{Silence, Text}
+use Rattle.session_model.specs.declared.event.StatusMessage.{StatusMessage}
+use Rattle.session_model.specs.declared.event.StatusMessage.TheVariants.{Silence, Text}
 use Rattle.session_model.specs.declared.refusal.Refusal.{Refusal}
 use Rattle.session_model.specs.declared.refusal.Refusal.TheVariants.{NoMemory}
 use Rattle.session_model.specs.Tables.{Window, Client, Tables, window_at, client_at, focused}
@@ -17,7 +17,7 @@ use Rattle.session_model.specs.Deeds.{Deed, changing}
 use Rattle.session_model.specs.Answering.{input_in, says_why}
 use Rattle.session_model.specs.Texts.{text_of}
 use Rattle.windows_model.proofs.Serials.{serial_is}
-use Rattle.session_state.specs.declared.step_notes.Step.{Step}
+use Rattle.session_state.specs.declared.state.Step.{Step}
 use Rattle.session_checks.specs.Checked.{Passed, Failed}
 use Rattle.session_input.specs.Said.{wants_memory}
 use Rattle.session_input.specs.Typing.{Typed, input_to}

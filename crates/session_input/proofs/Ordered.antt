@@ -4,7 +4,7 @@ use Rattle.std.proofs.Common.{sym, subst, ◌∙◌, append-nil, append_assoc, i
 use Rattle.std.specs.Prelude.{OnOk}
 use Rattle.command_lang.specs.declared.command.Command.{Command}
 use Rattle.session_model.specs.declared.event.Effect.{Effect}
-use Rattle.session_model.specs.declared.message.StatusMessage.TheVariants.{Text}
+use Rattle.session_model.specs.declared.event.StatusMessage.TheVariants.{Text}
 use Rattle.session_model.specs.declared.refusal.Refusal.{Refusal}
 use Rattle.session_model.specs.Tables.{Client, Tables, client_at}
 use Rattle.session_model.specs.Lines as model
@@ -16,8 +16,8 @@ use Rattle.session_state.specs.Clients.{ClientStands}
 use Rattle.windows_model.proofs.Matching.{rows_match, both_there, both_back}
 use Rattle.session_state.proofs.Changing.{serials}
 use Rattle.session_state.specs.declared.client.Client.{Client as Row}
-use Rattle.session_state.specs.declared.step_notes.Step.{Step}
-use Rattle.session_state.specs.declared.step_output.StepOutput.{StepOutput}
+use Rattle.session_state.specs.declared.state.Step.{Step}
+use Rattle.session_state.specs.declared.state.StepOutput.{StepOutput}
 use Rattle.session_state.specs.declared.state.State.{State}
 use Rattle.session_state.specs.Stands.{Stands}
 use Rattle.session_state.specs.Doing.{HasDone, caller_in, did}

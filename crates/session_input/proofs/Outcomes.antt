@@ -3,17 +3,17 @@ use Rattle.std.proofs.Common.{◌≡◌, ◌++◌, List, [], Option, Some, None,
 use Rattle.std.proofs.Common.{refl, ap, sym, subst, ◌∙◌, append-nil, append_assoc}
 use Rattle.acl.specs.History.{followed_by}
 use Rattle.acl.specs.declared.act.Act.{Act}
-use Rattle.session_model.specs.declared.check.Check.{Check}
+use Rattle.session_model.specs.declared.refusal.Check.{Check}
 use Rattle.session_model.specs.declared.refusal.Refusal.{Refusal}
 use Rattle.session_model.specs.declared.refusal.Refusal.TheVariants.{NoWindow}
-use Rattle.session_model.specs.declared.verdict.Verdict.{Verdict}
+use Rattle.session_model.specs.declared.refusal.Verdict.{Verdict}
 use Rattle.session_model.specs.Trace.{Reply}
 use Rattle.session_model.specs.Tables.{Tables}
 use Rattle.session_model.specs.Checks.{verdicts, first_fault}
 use Rattle.session_model.specs.Deeds.{Deed}
 use Rattle.session_model.specs.Outcomes.{Outcome, finished, refused, where_passed, left_acts}
-use Rattle.session_state.specs.declared.step_notes.Step.{Step}
-use Rattle.session_state.specs.declared.step_output.StepOutput.{StepOutput}
+use Rattle.session_state.specs.declared.state.Step.{Step}
+use Rattle.session_state.specs.declared.state.StepOutput.{StepOutput}
 use Rattle.session_state.specs.declared.state.State.{State}
 use Rattle.session_state.specs.Stands.{Stands}
 use Rattle.session_state.specs.Doing.{HasDone, IsAsBefore, did}

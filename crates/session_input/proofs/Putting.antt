@@ -4,10 +4,10 @@ use Rattle.std.proofs.Common.{sym, subst, ◌∙◌}
 use Rattle.std.specs.Prelude.{if◌then◌else◌, ◌==◌, reverse}
 use Rattle.std.specs.List.{AllByRecursion}
 use Rattle.acl.specs.declared.user_id.UserId.{UserId}
-use Rattle.regions.specs.declared.shown.Shown.{Shown}
+use Rattle.regions.specs.declared.layout.Shown.{Shown}
 use Rattle.regions.specs.Layouts.{Arrangement}
 use Rattle.keys.specs.Kept.{Keeping, StandsFor}
-use Rattle.session_model.specs.declared.message.StatusMessage.{StatusMessage}
+use Rattle.session_model.specs.declared.event.StatusMessage.{StatusMessage}
 use Rattle.session_model.specs.Tables.{Tables, Client, client_at, row_of, with_row, with_client}
 use Rattle.session_model.specs.Sound.{Rises}
 use Rattle.windows_model.proofs.Serials.{serial_is}

@@ -3,15 +3,15 @@ use Rattle.std.specs.Prelude.{ℕ, ◌≡◌, ◌++◌, List, Option, Some, Resu
 use Rattle.command_lang.specs.declared.command.Command.{Command}
 use Rattle.command_lang.specs.declared.fault.ParseFault.{ParseFault}
 use Rattle.keys.specs.Kept.{Keeping, StandsFor}
-use Rattle.session_model.specs.declared.message.StatusMessage.{StatusMessage}
+use Rattle.session_model.specs.declared.event.StatusMessage.{StatusMessage}
 use Rattle.session_model.specs.Tables.{Tables, Client, client_at, with_client, row_of}
 use Rattle.session_model.specs.Deeds.{hearing}
 use Rattle.session_model.specs.Keying.{items_behind, taken, typed_bytes, command_item}
 use Rattle.session_model.specs.Answering.{reading}
 use Rattle.session_state.specs.declared.client.Client.{Client as Row}
 use Rattle.session_state.specs.Moves.{in_focus}
-use Rattle.session_state.specs.declared.caller.Caller.{Caller}
-use Rattle.session_state.specs.declared.step_notes.Step.{Step}
+use Rattle.session_state.specs.declared.state.Caller.{Caller}
+use Rattle.session_state.specs.declared.state.Step.{Step}
 use Rattle.session_state.specs.declared.state.State.{State}
 use Rattle.session_state.specs.Stands.{Stands}
 use Rattle.session_model.specs.Sound.{AreFit}

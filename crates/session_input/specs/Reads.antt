@@ -2,14 +2,14 @@
 use Rattle.std.specs.Prelude.{ℕ, ◌≡◌, ◌++◌, List, Option, Some, None, Result, Ok, Err, length, take}
 use Rattle.session_model.specs.declared.refusal.Refusal.{Refusal}
 use Rattle.session_model.specs.declared.refusal.Refusal.TheVariants.{NoMemory, NoWindow}
-use Rattle.session_model.specs.declared.verdict.Verdict.{Verdict}
+use Rattle.session_model.specs.declared.refusal.Verdict.{Verdict}
 use Rattle.session_model.specs.Tables.{Tables, Client, client_at, with_client}
 use Rattle.session_model.specs.Deeds.{Deed}
 use Rattle.session_model.specs.Keying.{items_behind, taken, typed_bytes, command_item}
 use Rattle.session_model.specs.Answering.{Ordered, ordered, types, typing_verdicts, reading, unsaid}
 use Rattle.session_model.specs.Outcomes.{left_acts}
-use Rattle.session_state.specs.declared.step_output.StepOutput.{StepOutput}
-use Rattle.session_state.specs.declared.step_notes.Step.{Step}
+use Rattle.session_state.specs.declared.state.StepOutput.{StepOutput}
+use Rattle.session_state.specs.declared.state.Step.{Step}
 use Rattle.session_state.specs.declared.state.State.{State}
 use Rattle.session_state.specs.Stands.{Stands}
 use Rattle.session_model.specs.Sound.{AreFit}

@@ -6,13 +6,13 @@ use Rattle.session_model.specs.declared.refusal.Refusal.{Refusal}
 use Rattle.session_model.specs.declared.refusal.Refusal.TheVariants.{NoMemory}
 use Rattle.session_model.specs.Tables.{Tables}
 use Rattle.session_model.specs.Commands.{Ruling, ruling}
-use Rattle.session_state.specs.declared.caller.Caller.{Caller}
-use Rattle.session_state.specs.declared.step_notes.Step.{Step}
+use Rattle.session_state.specs.declared.state.Caller.{Caller}
+use Rattle.session_state.specs.declared.state.Step.{Step}
 use Rattle.session_state.specs.declared.state.State.{State}
 use Rattle.session_state.specs.Stands.{Stands}
 use Rattle.session_model.specs.Sound.{AreFit}
 use Rattle.session_state.specs.Doing.{Answers, Does, IsAsBefore, caller_in}
-use Rattle.session_commands.specs.declared.context.Context.{Context}
+use Rattle.session_commands.specs.declared.giver.Context.{Context}
 use Rattle.session_commands.specs.Contexts.{IsWhole}
 
 -- a command answers as its row says; one that lists changes nothing

@@ -5,7 +5,7 @@ use Rattle.session_model.specs.Trace.{EventValue, Reply}
 use Rattle.session_model.specs.Tables.{Tables}
 use Rattle.session_model.specs.Outcomes.{Outcome}
 use Rattle.session_model.specs.Events.{outcome}
-use Rattle.session_state.specs.declared.step_notes.Step.{Step}
+use Rattle.session_state.specs.declared.state.Step.{Step}
 use Rattle.session_state.specs.declared.state.State.{State}
 use Rattle.session_state.specs.Stands.{Stands}
 use Rattle.session_model.specs.Sound.{AreFit}

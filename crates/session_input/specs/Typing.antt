@@ -3,14 +3,14 @@ use Rattle.std.specs.Prelude.{ℕ, ◌≡◌, ◌++◌, List, [], ◌∷◌, Opt
 use Rattle.std.specs.Option.{option_map_or}
 use Rattle.session_model.specs.declared.event.Effect.{Effect}
 use Rattle.session_model.specs.declared.event.Effect.TheVariants.{Input}
-use Rattle.session_model.specs.declared.message.StatusMessage.{StatusMessage}
-use Rattle.session_model.specs.declared.message.StatusMessage.TheVariants.{Silence, Text}
+use Rattle.session_model.specs.declared.event.StatusMessage.{StatusMessage}
+use Rattle.session_model.specs.declared.event.StatusMessage.TheVariants.{Silence, Text}
 use Rattle.session_model.specs.Tables.{Tables, Client, client_at, focused, focused_window}
 use Rattle.session_model.specs.Checks.{first_fault, typing_checks}
 use Rattle.session_model.specs.Answering.{types, typing_verdicts}
 use Rattle.session_model.specs.Texts.{text_of}
-use Rattle.session_state.specs.declared.caller.Caller.{Caller}
-use Rattle.session_state.specs.declared.step_notes.Step.{Step}
+use Rattle.session_state.specs.declared.state.Caller.{Caller}
+use Rattle.session_state.specs.declared.state.Step.{Step}
 use Rattle.session_state.specs.declared.state.State.{State}
 use Rattle.session_state.specs.Stands.{Stands}
 use Rattle.session_model.specs.Sound.{AreFit}

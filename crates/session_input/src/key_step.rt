@@ -4,8 +4,9 @@ ghost use Rattle.std.specs.Prelude.{◌≡◌, Some, None, IfOk, IfErr, OnOk, On
 ghost use Rattle.session_model.specs.declared.refusal.Refusal.TheVariants.{NoMemory};
 ghost use Rattle.session_state.specs.Doing.{HasRoomToLeave, IsAsBefore};
 ghost use Rattle.session_input.specs.Reads.{Reads};
-ghost use Rattle.session_input.specs.KeyStepping.{caller_now, IsHere, ReadsOf, ObeysRead};
-ghost use Rattle.session_input.specs.KeyStepping.{Gives, Ends};
+ghost use Rattle.session_input.specs.KeyStepping.{caller_now, IsHere, ReadsOf, ObeysRead, Gives, Ends};
+ghost use Rattle.session_model.specs.Trace.{Keys};
+ghost use Rattle.session_input.specs.Stepping.{Steps};
 
 use crate::given::command_given;
 use crate::obeying::obey;
@@ -13,7 +14,7 @@ use crate::typing::type_bytes;
 use command_lang::{Command, ParseFault};
 use keys::KeyReader;
 use session_events::{Focuses, drop_said, leave};
-use session_model::{Bytes, Refusal, StatusMessage};
+use session_model::{Bytes, Done, Refusal, Reply, StatusMessage};
 use session_state::{Caller, Client, KeyCaller, KeyOrder, State, Step, read_keys};
 use std::alloc::{AllocError, Global};
 
@@ -171,4 +172,19 @@ pub fn keys(state: &mut State, client: u32, bytes: &[u8], step: &mut Step) -> Re
         None => give_typed(state, by, &mut reader, typed, step)?,
     }
     Ok(taken)
+}
+
+/// Takes the keys of a client, up to the first that completes a command or a line. Users leave windows
+/// only if there is one.
+pub fn give_keys(state: &mut State, client: u32, bytes: &[u8], step: &mut Step) -> Reply
+    ensures step { Steps (Keys client bytes.now) state.old result state.new step.old step.new }
+    ensures err { OnErr result (IsAsBefore state.old state.new step.old.made step.new.made) }
+{
+    let taken = keys(state, client, bytes, step)?;
+    Ok(Done {
+        taken,
+        made: 0,
+        number: 0,
+        text: None,
+    })
 }

@@ -7,9 +7,8 @@ mod given;
 mod key_step;
 mod obeying;
 mod orders;
-mod reading;
 mod saying;
 mod typing;
 
 pub use commanding::give_line;
-pub use reading::give_keys;
+pub use key_step::give_keys;

@@ -3,7 +3,7 @@
 ghost use Rattle.std.specs.Prelude.{◌≡◌, ◌++◌, ◌∷◌, [], IfOk, IfErr, OnOk, OnErr};
 ghost use Rattle.session_model.specs.Texts.{text_of};
 ghost use Rattle.session_model.specs.declared.event.Effect.TheVariants.{Say};
-ghost use Rattle.session_model.specs.declared.message.StatusMessage.TheVariants.{Text};
+ghost use Rattle.session_model.specs.declared.event.StatusMessage.TheVariants.{Text};
 ghost use Rattle.session_model.specs.declared.refusal.Refusal.TheVariants.{NoMemory};
 ghost use Rattle.session_input.specs.Typing.{Types, Grows, input_to};
 

@@ -8,7 +8,7 @@ use Rattle.session_laws.proofs.Vocabulary.{is_of, without_window, without_window
 use Rattle.session_laws.proofs.Vocabulary.{does, caller_client, SomeOf, Rises, client_serials, row_replaced, other_way}
 use Rattle.session_laws.proofs.Vocabulary.{entered_by, all_weaken, all_filter, all_map, members, some_weaken, itself}
 use Rattle.acl.specs.declared.act.Act.TheVariants as act
-use Rattle.session_model.specs.declared.message.StatusMessage.TheVariants as message
+use Rattle.session_model.specs.declared.event.StatusMessage.TheVariants as message
 use Rattle.session_model.specs.Deeds as deeds
 use Rattle.session_laws.proofs.Unread.{caller_row}
 use Rattle.session_laws.proofs.Doing.{Either, caller_is}

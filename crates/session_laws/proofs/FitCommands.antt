@@ -6,7 +6,7 @@ use Rattle.session_laws.proofs.Vocabulary.{Arrangement, emptied, Reason, Killed,
 use Rattle.session_laws.proofs.Vocabulary.{Client, client_at, with_window, with_client, with_layout, Caller, Deed}
 use Rattle.session_laws.proofs.Vocabulary.{removes, closes, without_window, without_windows, hearing, does}
 use Rattle.session_laws.proofs.Vocabulary.{caller_client, other_way, all_weaken, all_map, all_filter, some_row}
-use Rattle.session_model.specs.declared.message.StatusMessage.TheVariants as message
+use Rattle.session_model.specs.declared.event.StatusMessage.TheVariants as message
 use Rattle.session_laws.proofs.DifferentNumbers.{serial_of}
 use Rattle.session_laws.proofs.Doing.{Either}
 use Rattle.session_laws.proofs.Moving.{serials}

@@ -7,7 +7,7 @@ use Rattle.session_laws.proofs.Vocabulary.{part_shown, part_of_window, window_re
 use Rattle.session_laws.proofs.Vocabulary.{layout_of, lists_clients}
 use Rattle.acl.specs.declared.act.Object.TheVariants as object
 use Rattle.view.specs.Granted as view
-use Rattle.session_model.specs.declared.message.StatusMessage.TheVariants as message
+use Rattle.session_model.specs.declared.event.StatusMessage.TheVariants as message
 
 module _ (t u : Tables) (windows : u.windows ≡ t.windows)
     (rights : (v : UserId) (bit : Bit) (o : Object) → may_in u v bit o ≡ may_in t v bit o) where

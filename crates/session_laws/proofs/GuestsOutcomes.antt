@@ -14,7 +14,7 @@ use Rattle.session_laws.proofs.Vocabulary.{line_ruling, answered, commanded, wit
 use Rattle.std.specs.Option.{is_some}
 use Rattle.acl.specs.declared.act.Object.TheVariants as object
 use Rattle.acl.specs.declared.act.Act.TheVariants as act
-use Rattle.session_model.specs.declared.message.StatusMessage.TheVariants as message
+use Rattle.session_model.specs.declared.event.StatusMessage.TheVariants as message
 use Rattle.session_laws.proofs.Cutting.{length_cut, append_cut, cut_window, cut_client, cut}
 use Rattle.session_laws.proofs.Cutting.{cut_deed, cut_caller, client_cut, window_cut}
 use Rattle.session_laws.proofs.Finding.{lowest_cut, free_cut, in_focus_cut, given_number_cut}

@@ -52,8 +52,8 @@ pub write_on : (t : Tables) (user : UserId) (o : Option Window) (w : ℕ) → Is
 write_on t user None w on is = absurd on
 write_on t user (Some v) w on is =
     let rest : first_fault t
-    (Rattle.session_model.specs.declared.check.Check.TheVariants.Right user Write (object.Window v.serial) ∷
-    Rattle.session_model.specs.declared.check.Check.TheVariants.Unlocked user v.serial ∷ []) ≡ None =
+    (Rattle.session_model.specs.declared.refusal.Check.TheVariants.Right user Write (object.Window v.serial) ∷
+    Rattle.session_model.specs.declared.refusal.Check.TheVariants.Unlocked user v.serial ∷ []) ≡ None =
     then_passed (may_in t user Execute (object.Window v.serial)) _ _ is in
     subst (λ n. may_in t user Write (object.Window n) ≡ true) on
     (first_passed (may_in t user Write (object.Window v.serial)) _ _ rest)

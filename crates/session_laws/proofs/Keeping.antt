@@ -5,7 +5,7 @@ use Rattle.session_laws.proofs.Vocabulary.{named_by, Order, one_region, empty, T
 use Rattle.session_laws.proofs.Vocabulary.{client_at, with_client, Caller, Deed, removes, without_window}
 use Rattle.session_laws.proofs.Vocabulary.{without_windows, hearing, does, caller_client, SomeOf, all_weaken, all_map}
 use Rattle.session_laws.proofs.Vocabulary.{all_filter, members, some_weaken, some_row}
-use Rattle.session_model.specs.declared.message.StatusMessage.TheVariants as message
+use Rattle.session_model.specs.declared.event.StatusMessage.TheVariants as message
 use Rattle.session_laws.proofs.Unread.{caller_row}
 use Rattle.session_laws.proofs.Doing.{Either}
 use Rattle.session_laws.proofs.Shapes as shapes

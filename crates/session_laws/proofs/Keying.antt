@@ -13,7 +13,7 @@ use Rattle.session_laws.proofs.Vocabulary.{message_of, with_listed, keyed, Order
 use Rattle.session_laws.proofs.Vocabulary.{reading, keys_outcome, outcome, row_serial, is_hidden}
 use Rattle.terminal_model.specs.Writing as written
 use Rattle.session_model.specs.declared.event.Reason.TheVariants as reason
-use Rattle.session_model.specs.declared.message.StatusMessage.TheVariants as message
+use Rattle.session_model.specs.declared.event.StatusMessage.TheVariants as message
 use Rattle.session_laws.proofs.Outcomes.{undrawn, Change, Changes, changes}
 use Rattle.session_laws.proofs.Cutting.{cut_window, cut_client, cut, cut_deed, cut_caller, cut_writing, client_cut}
 use Rattle.session_laws.proofs.Cutting.{with_client_cut, with_window_cut}

@@ -8,7 +8,7 @@ use Rattle.session_laws.proofs.Vocabulary.{by_number, separated, client_item, fo
 use Rattle.session_laws.proofs.Vocabulary.{seen_if, seen_by}
 use Rattle.acl.specs.declared.act.Object.TheVariants as object
 use Rattle.view.specs.Granted as view
-use Rattle.session_model.specs.declared.message.StatusMessage.TheVariants as message
+use Rattle.session_model.specs.declared.event.StatusMessage.TheVariants as message
 use Rattle.acl.specs.Names.{name_of}
 
 serial_seen : (b : Bool) (w : Window) → (seen_if b w).serial ≡ w.serial

@@ -16,8 +16,8 @@ use Rattle.command_lang.specs.declared.command.Command.TheVariants as command
 use Rattle.terminal_model.specs.Writing as written
 use Rattle.session_model.specs.declared.event.Peer.TheVariants as peer
 use Rattle.session_model.specs.declared.event.Reason.TheVariants as reason
-use Rattle.session_model.specs.windows_fault.WindowsFault.TheVariants as fault
-use Rattle.session_model.specs.declared.message.StatusMessage.TheVariants as message
+use Rattle.session_model.specs.rows.WindowsFault.TheVariants as fault
+use Rattle.session_model.specs.declared.event.StatusMessage.TheVariants as message
 use Rattle.session_model.specs.Deeds as deeds
 use Rattle.session_laws.proofs.Cutting.{read_all, change_all, filter_cut, cut_window, cut_client, cut, cut_deed}
 use Rattle.session_laws.proofs.Cutting.{cut_caller, cut_writing, is_no_output, client_cut, with_window_cut}

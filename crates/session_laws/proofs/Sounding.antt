@@ -130,7 +130,7 @@ lasting t (Draw client) effects s =
     (sound t (Draw client) s)
 lasting t event effects s = sound t event s
 
-pub fresh_sound : (edition : Rattle.acl.specs.declared.edition.Edition.Edition) (owner : UserId)
+pub fresh_sound : (edition : Rattle.acl.specs.declared.leaders.Edition.Edition) (owner : UserId)
     → AreSound (fresh edition owner)
 fresh_sound edition owner = record
     { windows_rise = tt; clients_rise = tt; numbers = tt; few_windows = omega arith; few_clients = omega arith }

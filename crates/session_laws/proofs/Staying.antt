@@ -138,7 +138,7 @@ by_deed u v windows clients h = record {
       (subst (AllByRecursion (PageIn (serials u))) (sym clients) h.pages);
 }
 
-ended : (t : Tables) (d : Deed) (vs : List Rattle.session_model.specs.declared.verdict.Verdict.Verdict)
+ended : (t : Tables) (d : Deed) (vs : List Rattle.session_model.specs.declared.refusal.Verdict.Verdict)
     (reply : Rattle.session_model.specs.Trace.Reply) → Holds d.tables → HoldsIn (finished t vs reply d)
 ended t d vs reply h = by_deed d.tables (finished t vs reply d).tables refl refl h
 

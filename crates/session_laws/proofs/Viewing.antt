@@ -7,7 +7,7 @@ use Rattle.session_laws.proofs.Vocabulary.{part_of_window, window_read, message_
 use Rattle.session_laws.proofs.Vocabulary.{terminal_of, row_serial, itself, is_shown}
 use Rattle.acl.specs.declared.act.Object.TheVariants as object
 use Rattle.view.specs.Granted as view
-use Rattle.session_model.specs.declared.message.StatusMessage.TheVariants as message
+use Rattle.session_model.specs.declared.event.StatusMessage.TheVariants as message
 use Rattle.session_laws.proofs.Cutting.{cut_window, cut_client, cut, cut_writing, window_cut}
 use Rattle.session_laws.proofs.Finding.{windows_text_cut, clients_text_cut}
 

@@ -18,12 +18,12 @@ pub use Rattle.acl.specs.declared.bits.Bit.TheVariants.{Execute, Read, Write}
 pub use Rattle.acl.specs.declared.bits.BitChange.{BitChange}
 pub use Rattle.acl.specs.declared.command_name.CommandName.{CommandName}
 pub use Rattle.acl.specs.declared.command_name.CommandName.TheVariants.{Screen}
-pub use Rattle.acl.specs.declared.edition.Edition.{Edition}
-pub use Rattle.acl.specs.declared.edition.Edition.TheVariants.{First, Second}
+pub use Rattle.acl.specs.declared.leaders.Edition.{Edition}
+pub use Rattle.acl.specs.declared.leaders.Edition.TheVariants.{First, Second}
 pub use Rattle.acl.specs.declared.entries.MaskEntry.{MaskEntry}
 pub use Rattle.acl.specs.declared.entries.MaskScope.{MaskScope}
 pub use Rattle.acl.specs.declared.entries.NewLeader.{NewLeader}
-pub use Rattle.acl.specs.declared.faults.AclFault.{AclFault}
+pub use Rattle.acl.specs.declared.entries.AclFault.{AclFault}
 pub use Rattle.acl.specs.declared.user_id.UserId.{UserId}
 unfoldable pub use Rattle.charsets.specs.Sets.{character_at}
 unfoldable pub use Rattle.charsets.specs.Shifts.{mapped}
@@ -51,7 +51,7 @@ unfoldable pub use Rattle.keys.specs.Grammar.{items_from}
 pub use Rattle.regions.specs.Layouts.{Arrangement, emptied, empty, kept_alone, one_region}
 pub use Rattle.regions.specs.Pages.{has_room}
 pub use Rattle.regions.specs.declared.rect.Rect.{Rect}
-pub use Rattle.regions.specs.declared.shown.Shown.{Shown}
+pub use Rattle.regions.specs.declared.layout.Shown.{Shown}
 pub use Rattle.session_laws.proofs.Lists.{all_append, all_filter, all_made, all_map, all_of, all_passed, all_weaken}
 pub use Rattle.session_laws.proofs.Lists.{and_first, and_second, both_true, contradicts, equal, filter_all, itself}
 pub use Rattle.session_laws.proofs.Lists.{members, not_so, other_way, row_goes, row_goes as row_replaced, row_serial}
@@ -141,23 +141,23 @@ pub use Rattle.session_model.specs.Texts.{by_number, client_item, clients_text, 
 pub use Rattle.session_model.specs.Texts.{number_text, separated, text_of, window_item, windows_text}
 pub use Rattle.session_model.specs.Trace.{Attach, Closed, Command, Detach, Draw, Entry, EventValue, Keys, Open, Output}
 pub use Rattle.session_model.specs.Trace.{Reply, Resize, Trace}
-pub use Rattle.session_model.specs.declared.check.Check.{Check}
-pub use Rattle.session_model.specs.declared.check.Check.TheVariants.{Must as must, Right as right, Unlocked as unlocked}
+pub use Rattle.session_model.specs.declared.refusal.Check.{Check}
+pub use Rattle.session_model.specs.declared.refusal.Check.TheVariants.{Must as must, Right as right, Unlocked as unlocked}
 pub use Rattle.session_model.specs.declared.event.Done.{Done}
 pub use Rattle.session_model.specs.declared.event.Effect.{Effect}
 pub use Rattle.session_model.specs.declared.event.Effect.TheVariants.{Deliver, Gone, Input, Say, Size}
 pub use Rattle.session_model.specs.declared.event.Reason.{Reason}
 pub use Rattle.session_model.specs.declared.event.Reason.TheVariants.{Detached, Killed, Quit, Removed, SingleUser}
-pub use Rattle.session_model.specs.declared.message.StatusMessage.{StatusMessage}
-pub use Rattle.session_model.specs.declared.message.StatusMessage.TheVariants.{Text}
+pub use Rattle.session_model.specs.declared.event.StatusMessage.{StatusMessage}
+pub use Rattle.session_model.specs.declared.event.StatusMessage.TheVariants.{Text}
 pub use Rattle.session_model.specs.declared.refusal.EntryDenied.{EntryDenied as EntryDenial}
 pub use Rattle.session_model.specs.declared.refusal.LockDenied.{LockDenied as LockDenial}
 pub use Rattle.session_model.specs.declared.refusal.Refusal.{Refusal}
 pub use Rattle.session_model.specs.declared.refusal.Refusal.TheVariants.{Acl, BadSize, EntryDenied, Line, LockDenied}
 pub use Rattle.session_model.specs.declared.refusal.Refusal.TheVariants.{NoWindow, NotMultiuser, TooManyClients}
 pub use Rattle.session_model.specs.declared.refusal.Refusal.TheVariants.{UnknownUser, Windows}
-pub use Rattle.session_model.specs.declared.verdict.Verdict.{Verdict}
-pub use Rattle.session_model.specs.windows_fault.WindowsFault.TheVariants.{BadTitle, Full, NoSuchWindow}
+pub use Rattle.session_model.specs.declared.refusal.Verdict.{Verdict}
+pub use Rattle.session_model.specs.rows.WindowsFault.TheVariants.{BadTitle, Full, NoSuchWindow}
 pub use Rattle.std.proofs.Common.{Bool, Err, List, None, Ok, Option, Result, Some, [], ap, append_assoc, arith, drop}
 pub use Rattle.std.proofs.Common.{false, filter, inl, inr, length, map, not, refl, reverse, subst, suc, sym, take, true}
 pub use Rattle.std.proofs.Common.{true≢false, zero, ℕ, ⊎_elim, ◌++◌, ◌+◌, ◌-◌, ◌<◌, ◌∙◌, ◌∷◌, ◌≡◌, ◌≤◌}

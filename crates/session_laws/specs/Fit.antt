@@ -1,5 +1,5 @@
 -- Tables that are fit stay fit.
-use Rattle.acl.specs.declared.edition.Edition.{Edition}
+use Rattle.acl.specs.declared.leaders.Edition.{Edition}
 use Rattle.acl.specs.declared.user_id.UserId.{UserId}
 use Rattle.session_model.specs.Trace.{Entry, Trace}
 use Rattle.session_model.specs.Tables.{Tables, fresh}

@@ -9,7 +9,7 @@ use Rattle.acl.specs.declared.act.Act.{Act}
 use Rattle.acl.specs.declared.act.Act.TheVariants as act
 use Rattle.acl.specs.declared.act.Object.TheVariants as object
 use Rattle.acl.specs.Same.{same_user}
-use Rattle.regions.specs.declared.shown.Shown.{Shown}
+use Rattle.regions.specs.declared.layout.Shown.{Shown}
 use Rattle.session_model.specs.Trace.{EventValue, Output, Draw, Entry}
 use Rattle.session_model.specs.Tables.{Client, Tables, client_at, is_window}
 use Rattle.session_model.specs.Rights.{may_in}

@@ -6,7 +6,7 @@ use Rattle.command_lang.specs.declared.command.Command.{Command as Order}
 use Rattle.keys.specs.Grammar.{Item, bound, line}
 use Rattle.session_model.specs.declared.event.Effect.{Effect}
 use Rattle.session_model.specs.declared.event.Effect.TheVariants.{Say}
-use Rattle.session_model.specs.declared.message.StatusMessage.TheVariants.{Text}
+use Rattle.session_model.specs.declared.event.StatusMessage.TheVariants.{Text}
 use Rattle.session_model.specs.declared.refusal.Refusal.{Refusal}
 use Rattle.session_model.specs.declared.refusal.Refusal.TheVariants.{Line}
 use Rattle.session_model.specs.Trace.{EventValue, Keys, Entry}

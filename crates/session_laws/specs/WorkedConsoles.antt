@@ -2,7 +2,7 @@
 -- that contrib/mux-rights and contrib/mux-guest give.
 use Rattle.std.specs.Prelude.{◌≡◌, ℕ, true, Bool, List, [], ◌∷◌, ◌++◌, codes}
 use Rattle.acl.specs.declared.user_id.UserId.{UserId}
-use Rattle.acl.specs.declared.edition.Edition.{Edition}
+use Rattle.acl.specs.declared.leaders.Edition.{Edition}
 use Rattle.acl.specs.declared.bits.Bit.{Bit}
 use Rattle.session_model.specs.Tables.{Tables, fresh}
 use Rattle.session_laws.specs.Contained.{AreGuests}

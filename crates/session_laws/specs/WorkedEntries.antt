@@ -1,9 +1,9 @@
 -- Worked rows on the rights of several users: entries, leaders, masks and presets.
 use Rattle.std.specs.Prelude.{◌≡◌, ℕ, true, false, List, [], ◌∷◌, ◌++◌, Some, None, Err, codes}
-use Rattle.acl.specs.declared.edition.Edition.TheVariants.{First, Second}
+use Rattle.acl.specs.declared.leaders.Edition.TheVariants.{First, Second}
 use Rattle.acl.specs.declared.bits.Bit.TheVariants.{Read, Write, Execute}
 use Rattle.acl.specs.declared.act.Object.TheVariants as object
-use Rattle.acl.specs.declared.faults.AclFault.TheVariants as fault
+use Rattle.acl.specs.declared.entries.AclFault.TheVariants as fault
 use Rattle.command_lang.specs.declared.command.Command.TheVariants as command
 use Rattle.command_lang.specs.declared.command.Mask.{Mask}
 use Rattle.command_lang.specs.declared.command.Users.TheVariants.{Listed}

@@ -1,7 +1,7 @@
 -- Worked rows on which output is hidden from bob, whose client shows window 2, and from own, who
 -- opened all windows.
 use Rattle.std.specs.Prelude.{◌≡◌, ℕ, List, [], ◌∷◌, codes}
-use Rattle.acl.specs.declared.edition.Edition.TheVariants.{Second}
+use Rattle.acl.specs.declared.leaders.Edition.TheVariants.{Second}
 use Rattle.acl.specs.declared.bits.Bit.TheVariants.{Read}
 use Rattle.session_model.specs.Trace.{EventValue, Keys, Output, Draw, Entry}
 use Rattle.session_model.specs.Tables.{Tables}

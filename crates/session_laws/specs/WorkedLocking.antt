@@ -1,6 +1,6 @@
 -- Worked rows on write locks: whom they stop, and what frees them.
 use Rattle.std.specs.Prelude.{◌≡◌, [], ◌∷◌, Some, codes}
-use Rattle.acl.specs.declared.edition.Edition.TheVariants.{Second}
+use Rattle.acl.specs.declared.leaders.Edition.TheVariants.{Second}
 use Rattle.acl.specs.declared.bits.Bit.TheVariants.{Write}
 use Rattle.acl.specs.declared.act.LockMode.TheVariants.{Off, Auto, On}
 use Rattle.command_lang.specs.declared.command.Command.TheVariants as command

@@ -1,6 +1,6 @@
 -- Worked rows of a lock: eve holds the lock of window 2, and others take steps.
 use Rattle.std.specs.Prelude.{◌≡◌, ℕ, false, List, [], ◌∷◌, Some, None, codes}
-use Rattle.acl.specs.declared.edition.Edition.TheVariants.{Second}
+use Rattle.acl.specs.declared.leaders.Edition.TheVariants.{Second}
 use Rattle.acl.specs.declared.bits.Bit.TheVariants.{Write}
 use Rattle.acl.specs.declared.act.LockMode.TheVariants.{Off, On}
 use Rattle.command_lang.specs.declared.command.Command.{Command as Order}

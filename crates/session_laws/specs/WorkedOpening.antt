@@ -2,14 +2,14 @@
 use Rattle.std.specs.Prelude.{◌≡◌, false, [], ◌∷◌, Some, None}
 use Rattle.std.specs.Prelude.{Err, codes, map}
 use Rattle.std.specs.List.{range_with_len}
-use Rattle.acl.specs.declared.edition.Edition.TheVariants.{Second}
+use Rattle.acl.specs.declared.leaders.Edition.TheVariants.{Second}
 use Rattle.command_lang.specs.declared.command.Command.TheVariants as command
 use Rattle.session_model.specs.declared.event.Effect.TheVariants.{Input, Say, Gone}
 use Rattle.session_model.specs.declared.event.Peer.TheVariants as peer
 use Rattle.session_model.specs.declared.event.Reason.TheVariants as reason
 use Rattle.session_model.specs.declared.refusal.Refusal.TheVariants.{NotMultiuser, UnknownUser}
 use Rattle.session_model.specs.declared.refusal.Refusal.TheVariants.{BadSize, NoWindow, Windows}
-use Rattle.session_model.specs.windows_fault.WindowsFault.TheVariants as fault
+use Rattle.session_model.specs.rows.WindowsFault.TheVariants as fault
 use Rattle.session_model.specs.Trace.{Keys, Attach, Open, Resize}
 use Rattle.session_model.specs.Tables.{Tables}
 use Rattle.session_model.specs.Events.{outcome}

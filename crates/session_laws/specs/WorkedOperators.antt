@@ -2,7 +2,7 @@
 -- opener, console.
 use Rattle.std.specs.Prelude.{◌≡◌, Bool, List, [], ◌∷◌, codes}
 use Rattle.acl.specs.declared.user_id.UserId.{UserId}
-use Rattle.acl.specs.declared.edition.Edition.{Edition}
+use Rattle.acl.specs.declared.leaders.Edition.{Edition}
 use Rattle.acl.specs.declared.bits.Bit.TheVariants.{Write, Execute}
 use Rattle.session_model.specs.Tables.{Tables}
 use Rattle.session_laws.specs.Contained.{AreGuests}

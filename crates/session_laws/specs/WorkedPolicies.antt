@@ -4,8 +4,8 @@ use Rattle.std.specs.Prelude.{◌≡◌, ℕ, ◌-◌, Bool, true, false, ◌&&�
 use Rattle.std.specs.Prelude.{codes, replicate, length, is_ok}
 use Rattle.std.specs.List.{filter}
 use Rattle.acl.specs.declared.user_id.UserId.{UserId}
-use Rattle.acl.specs.declared.edition.Edition.{Edition}
-use Rattle.acl.specs.declared.edition.Edition.TheVariants.{First, Second}
+use Rattle.acl.specs.declared.leaders.Edition.{Edition}
+use Rattle.acl.specs.declared.leaders.Edition.TheVariants.{First, Second}
 use Rattle.acl.specs.declared.bits.Bit.TheVariants.{Read, Write, Execute}
 use Rattle.acl.specs.declared.command_name.CommandName.{CommandName}
 use Rattle.acl.specs.declared.command_name.CommandName.TheVariants as name

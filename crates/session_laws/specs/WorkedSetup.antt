@@ -4,7 +4,7 @@
 use Rattle.std.specs.Prelude.{ℕ, ◌-◌, true, false, List, [], ◌∷◌, ◌++◌, Option, Some, None}
 use Rattle.std.specs.Prelude.{Ok, Err, codes, replicate, length}
 use Rattle.acl.specs.declared.user_id.UserId.{UserId}
-use Rattle.acl.specs.declared.edition.Edition.{Edition}
+use Rattle.acl.specs.declared.leaders.Edition.{Edition}
 use Rattle.acl.specs.declared.act.Act.TheVariants as act
 use Rattle.acl.specs.History.{followed_by}
 use Rattle.acl.specs.declared.bits.Bit.{Bit}
@@ -15,7 +15,7 @@ use Rattle.command_lang.specs.declared.command.Users.TheVariants.{Listed}
 use Rattle.command_lang.specs.declared.command.Leader.TheVariants.{Named}
 use Rattle.regions.specs.Layouts.{one_region}
 use Rattle.session_model.specs.declared.event.Effect.{Effect}
-use Rattle.session_model.specs.declared.message.StatusMessage.TheVariants.{Silence}
+use Rattle.session_model.specs.declared.event.StatusMessage.TheVariants.{Silence}
 use Rattle.session_model.specs.Trace.{EventValue, Keys}
 use Rattle.session_model.specs.Texts.{text_of}
 use Rattle.session_model.specs.Tables.{Tables, Window, Client, fresh}

@@ -1,7 +1,7 @@
 -- Worked rows of traps beside the policies: what goes wrong, and the lines that prevent it.
 use Rattle.std.specs.Prelude.{◌≡◌, ℕ, true, false, List, [], ◌∷◌, Some, None, codes, length, is_ok}
 use Rattle.acl.specs.declared.user_id.UserId.{UserId}
-use Rattle.acl.specs.declared.edition.Edition.{Edition}
+use Rattle.acl.specs.declared.leaders.Edition.{Edition}
 use Rattle.acl.specs.declared.command_name.CommandName.TheVariants as name
 use Rattle.command_lang.specs.Names.{all_names}
 use Rattle.session_model.specs.declared.event.Effect.TheVariants.{Input}

@@ -1,6 +1,6 @@
 -- Worked rows of bob, who watches a window of own's, by the policy of a support call.
 use Rattle.std.specs.Prelude.{◌≡◌, ℕ, true, false, List, [], ◌∷◌, Some, codes}
-use Rattle.acl.specs.declared.edition.Edition.TheVariants.{Second}
+use Rattle.acl.specs.declared.leaders.Edition.TheVariants.{Second}
 use Rattle.acl.specs.declared.bits.Bit.TheVariants.{Read, Write, Execute}
 use Rattle.acl.specs.declared.bits.BitChange.{BitChange}
 use Rattle.acl.specs.declared.act.Act.TheVariants as act

@@ -5,11 +5,14 @@
 ghost use Rattle.session_laws.specs.Changing.{RightsGate};
 ghost use Rattle.session_laws.specs.Contained.{GuestsAreContained};
 ghost use Rattle.session_laws.specs.Gates.{ModeGate, ClientsStay};
-ghost use Rattle.session_laws.specs.Locking.{StepsKeepHolders, RunsHaveHolders, LocksAreTaken};
-ghost use Rattle.session_laws.specs.Locking.{HoldersStay};
+ghost use Rattle.session_laws.specs.Locking.{StepsKeepHolders, RunsHaveHolders, LocksAreTaken, HoldersStay};
 ghost use Rattle.session_laws.specs.Naming.{WindowsStay};
 ghost use Rattle.session_laws.specs.Opening.{NewWindowsAreMasked};
 ghost use Rattle.session_laws.specs.Seeing.{PagesShowWhatIsRead};
+ghost use Rattle.session_laws.specs.Confined.{StepsConfine, GuestsAreConfined, GuestsStayContained};
+ghost use Rattle.session_laws.specs.Keeping.{LocksStay, LocksStayInRuns};
+ghost use Rattle.session_laws.specs.Unseen.{HiddenOutputIsUnseen};
+ghost use Rattle.session_laws.specs.Watching.{SpectatorsLeaveOthers};
 
 /// Rights change only by a granted list command. A step leaves unchanged who is known, who leads
 /// whom, masks, presets, and what everyone may do, except on a window that it opens. Or it gives
@@ -83,3 +86,53 @@ pub fn holders_stay()
 pub fn pages_show_what_is_read()
     ensures { PagesShowWhatIsRead }
 {}
+
+/// Confinement on windows to come. Users have x on no command that changes rights; they and their
+/// leaders are known and may not open windows; and whoever may open windows masks a bit for each
+/// of them. Then none of these users has this bit on any window that is opened later, as long as
+/// nobody else is granted such a command; and all of these premises still hold afterwards. On what
+/// was there, rights stay as they are even without masks (`contained`).
+pub fn guests_are_confined()
+    ensures step { StepsConfine }
+    ensures run { GuestsAreConfined }
+    ensures contained { GuestsStayContained }
+{
+    crate::steps_keep_promise();
+    crate::commands_do_their_rows();
+    crate::keys_do_their_rows();
+}
+
+/// A lock can't be stolen. After each step that isn't the holder's own, the holder of a window's
+/// lock still has it, or nobody has. In the second case the window's program ended, or somebody was
+/// granted kill on this window, quit, a `multiuser off` that sends the holder away, or acladd,
+/// aclchg, acldel or aclgrp whose acts took w on the window from the holder or removed the holder.
+pub fn locks_stay()
+    ensures step { LocksStay }
+    ensures run { LocksStayInRuns }
+{
+    crate::steps_keep_promise();
+    crate::commands_do_their_rows();
+    crate::keys_do_their_rows();
+    crate::tables_stay_fit();
+    crate::guests::locks_are_taken();
+}
+
+/// Output is hidden from a user if it is of a window that they didn't open, and no later draw of a client
+/// of theirs shows that window while they may read it. Of two runs that differ only in such output, they
+/// observe the same. They observe the views of their clients at each draw, and whether anything was
+/// delivered; the replies to their events; what their clients are told, and when these go; and, of the
+/// windows that they opened, the bytes typed, the sizes and the end.
+pub fn hidden_output_is_unseen()
+    ensures { HiddenOutputIsUnseen }
+{}
+
+/// A user changes nothing that others have if they may write nowhere, and have x at most on the commands
+/// of a page, which need a client and no window (`detach`, `select`, `split` and so on), on `windows` and
+/// on `displays`. Each step of theirs leaves windows with their contents, others' clients, rights, locks
+/// and the mode as they are, and each of its effects is for a client of theirs.
+pub fn spectators_leave_others()
+    ensures { SpectatorsLeaveOthers }
+{
+    crate::guests::holders_stay();
+    crate::guests::locks_are_taken();
+}

@@ -3,9 +3,7 @@
 //! contract says what holds.
 #![tactic(auto)]
 
-mod confined;
 mod guests;
-mod unseen;
 pub mod worked;
 
 ghost use Rattle.session_laws.specs.Entries.{ClientsAreRemembered};
@@ -19,12 +17,11 @@ ghost use Rattle.session_laws.specs.Laws.{StepsAreFew, StepsSayOnce, CommandsDoT
 ghost use Rattle.session_laws.specs.Laws.{CommandsAreRefusedSo};
 ghost use Rattle.session_laws.specs.Laws.{ActsAreNoted, ActsStayAgreed, RunsAgree};
 
-pub use confined::{guests_are_confined, locks_stay};
 pub use guests::{
-    guests_are_contained, holders_stay, locks_are_taken, new_windows_are_masked, others_are_gated,
-    pages_show_what_is_read, rights_are_gated,
+    guests_are_confined, guests_are_contained, hidden_output_is_unseen, holders_stay,
+    locks_are_taken, locks_stay, new_windows_are_masked, others_are_gated, pages_show_what_is_read,
+    rights_are_gated, spectators_leave_others,
 };
-pub use unseen::{hidden_output_is_unseen, spectators_leave_others};
 
 /// Each step keeps the promise, for any tables. Typed bytes reach windows exactly by rights and
 /// locks; if they don't, it is told why. Commands act exactly if x is granted. Draws show the

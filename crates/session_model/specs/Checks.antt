@@ -9,14 +9,14 @@ use Rattle.acl.specs.declared.act.Object.TheVariants as object
 use Rattle.writelock.specs.LockTable.{stops_nobody_but}
 use Rattle.command_lang.specs.declared.command.Command.{Command}
 use Rattle.command_lang.specs.Names.{name_of}
-use Rattle.session_model.specs.declared.check.Check.{Check}
-use Rattle.session_model.specs.declared.check.Check.TheVariants.{Right as right}
-use Rattle.session_model.specs.declared.check.Check.TheVariants.{Unlocked as unlocked, Must as must}
+use Rattle.session_model.specs.declared.refusal.Check.{Check}
+use Rattle.session_model.specs.declared.refusal.Check.TheVariants.{Right as right}
+use Rattle.session_model.specs.declared.refusal.Check.TheVariants.{Unlocked as unlocked, Must as must}
 use Rattle.command_lang.specs.declared.needs.Needs.{Needs}
 use Rattle.session_model.specs.declared.refusal.Refusal.{Refusal}
 use Rattle.session_model.specs.declared.refusal.Refusal.TheVariants.{NotMultiuser, NoWindow}
-use Rattle.session_model.specs.declared.verdict.Verdict.{Verdict}
-use Rattle.session_model.specs.declared.verdict.Verdict.TheVariants.{Right, Lock}
+use Rattle.session_model.specs.declared.refusal.Verdict.{Verdict}
+use Rattle.session_model.specs.declared.refusal.Verdict.TheVariants.{Right, Lock}
 use Rattle.session_model.specs.Tables.{Window, Tables}
 use Rattle.session_model.specs.Rights.{may_in, holder_in}
 use Rattle.session_model.specs.Denials.{entry_denial, lock_denial}

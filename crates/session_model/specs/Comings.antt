@@ -7,20 +7,20 @@ use Rattle.acl.specs.declared.command_name.CommandName.TheVariants.{Screen}
 use Rattle.acl.specs.declared.bits.Bit.TheVariants.{Execute}
 use Rattle.acl.specs.declared.act.Object.TheVariants as object
 use Rattle.acl.specs.declared.act.Act.TheVariants as act
-use Rattle.acl.specs.limits.TheConstants.{WINDOWS}
+use Rattle.acl.specs.slots.TheConstants.{WINDOWS}
 use Rattle.acl.specs.Same.{same_user}
 use Rattle.regions.specs.Layouts.{one_region, kept_alone}
 use Rattle.regions.specs.Pages.{has_room}
 use Rattle.terminal_model.specs.Reading.{reads}
 use Rattle.terminal_model.specs.Writing as written
-use Rattle.session_model.specs.declared.check.Check.{Check}
-use Rattle.session_model.specs.declared.check.Check.TheVariants.{Right as right, Must as must}
-use Rattle.session_model.specs.declared.message.StatusMessage.TheVariants as message
+use Rattle.session_model.specs.declared.refusal.Check.{Check}
+use Rattle.session_model.specs.declared.refusal.Check.TheVariants.{Right as right, Must as must}
+use Rattle.session_model.specs.declared.event.StatusMessage.TheVariants as message
 use Rattle.session_model.specs.declared.refusal.Refusal.TheVariants.{NotMultiuser, UnknownUser}
 use Rattle.session_model.specs.declared.refusal.Refusal.TheVariants.{TooManyClients, BadSize}
 use Rattle.session_model.specs.declared.refusal.Refusal.TheVariants.{Windows}
-use Rattle.windows_model.specs.declared.windows_fault.WindowsFault.TheVariants.{Full, BadTitle}
-use Rattle.session_model.specs.declared.limits.TheConstants.{CLIENTS, SERIALS}
+use Rattle.windows_model.specs.declared.rows.WindowsFault.TheVariants.{Full, BadTitle}
+use Rattle.session_model.specs.declared.event.TheConstants.{CLIENTS, SERIALS}
 use Rattle.session_model.specs.Tables.{Window, Client, Tables, focused, seeing, is_known}
 pub use Rattle.windows_model.specs.Table.{is_window_size}
 use Rattle.session_model.specs.Terminals.{terminal_of}

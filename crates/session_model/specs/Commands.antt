@@ -12,7 +12,7 @@ use Rattle.acl.specs.declared.act.Act.{Act}
 use Rattle.acl.specs.declared.act.Act.TheVariants as act
 use Rattle.acl.specs.declared.act.Object.{Object}
 use Rattle.acl.specs.declared.entries.MaskEntry.{MaskEntry}
-use Rattle.acl.specs.declared.faults.AclFault.{AclFault}
+use Rattle.acl.specs.declared.entries.AclFault.{AclFault}
 use Rattle.acl.specs.Names.{named_by, name_of}
 use Rattle.acl.specs.Commands.{change_acts}
 use Rattle.acl.specs.Commands.{known_name_fault, group_acts, mask_fault, mask_acts}
@@ -21,19 +21,19 @@ use Rattle.command_lang.specs.declared.command.Command.TheVariants as command
 use Rattle.command_lang.specs.declared.command.Mask.{Mask}
 use Rattle.command_lang.specs.declared.command.Coding.{Coding}
 use Rattle.command_lang.specs.declared.command.Coding.TheVariants as coding
-use Rattle.charsets.specs.declared.unit.Coding as charsets
-use Rattle.charsets.specs.declared.unit.Coding.TheVariants as units
-use Rattle.regions.specs.declared.way.Way.{Way}
-use Rattle.regions.specs.declared.way.Way.TheVariants.{Below, Right}
-use Rattle.regions.specs.declared.fault.RegionFault.TheVariants.{LastRegion}
+use Rattle.charsets.specs.declared.decoder.Coding as charsets
+use Rattle.charsets.specs.declared.decoder.Coding.TheVariants as units
+use Rattle.regions.specs.declared.node.Way.{Way}
+use Rattle.regions.specs.declared.node.Way.TheVariants.{Below, Right}
+use Rattle.regions.specs.declared.layout.RegionFault.TheVariants.{LastRegion}
 use Rattle.regions.specs.Layouts.{kept_alone, split_focused, remove_focused, next_focus}
 use Rattle.regions.specs.Layouts.{split_fault}
 use Rattle.terminal_model.specs.Writing as written
 use Rattle.session_model.specs.declared.event.Reason.TheVariants as reason
 use Rattle.session_model.specs.declared.refusal.Refusal.TheVariants.{NoWindow, Acl}
 use Rattle.session_model.specs.declared.refusal.Refusal.TheVariants.{Windows, Regions}
-use Rattle.windows_model.specs.declared.windows_fault.WindowsFault.TheVariants as fault
-use Rattle.session_model.specs.declared.verdict.Verdict.{Verdict}
+use Rattle.windows_model.specs.declared.rows.WindowsFault.TheVariants as fault
+use Rattle.session_model.specs.declared.refusal.Verdict.{Verdict}
 use Rattle.session_model.specs.Tables.{Window, Client, Tables, window_at, client_at, with_window}
 use Rattle.session_model.specs.Tables.{known_users}
 use Rattle.session_model.specs.Rights.{leaders_in, add_acts_in, group_fault_in}

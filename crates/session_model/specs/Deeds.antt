@@ -9,8 +9,8 @@ use Rattle.acl.specs.declared.act.Object.{Object}
 use Rattle.acl.specs.Same.{same_user}
 use Rattle.acl.specs.Commands.{change_fault}
 use Rattle.regions.specs.declared.rect.Rect.{Rect}
-use Rattle.regions.specs.declared.shown.Shown.{Shown}
-use Rattle.regions.specs.declared.fault.RegionFault.TheVariants.{TooSmall}
+use Rattle.regions.specs.declared.layout.Shown.{Shown}
+use Rattle.regions.specs.declared.layout.RegionFault.TheVariants.{TooSmall}
 use Rattle.regions.specs.Shapes.{boxes}
 use Rattle.regions.specs.Pages.{box_of}
 use Rattle.regions.specs.Layouts.{Arrangement, empty, emptied}
@@ -24,9 +24,9 @@ use Rattle.session_model.specs.declared.event.Reason.{Reason}
 use Rattle.session_model.specs.declared.event.Reason.TheVariants as reason
 use Rattle.session_model.specs.declared.refusal.Refusal.{Refusal}
 use Rattle.session_model.specs.declared.refusal.Refusal.TheVariants.{Acl, Windows, Regions}
-use Rattle.windows_model.specs.declared.windows_fault.WindowsFault.TheVariants.{NoSuchWindow}
-use Rattle.session_model.specs.declared.message.StatusMessage.{StatusMessage}
-use Rattle.session_model.specs.declared.message.StatusMessage.TheVariants as message
+use Rattle.windows_model.specs.declared.rows.WindowsFault.TheVariants.{NoSuchWindow}
+use Rattle.session_model.specs.declared.event.StatusMessage.{StatusMessage}
+use Rattle.session_model.specs.declared.event.StatusMessage.TheVariants as message
 use Rattle.session_model.specs.Tables.{Window, Client, Tables, with_window, with_client}
 use Rattle.session_model.specs.Tables.{focused, with_layout, known_users}
 

@@ -1,6 +1,6 @@
 -- What each event does, event by event.
 use Rattle.std.specs.Prelude.{ℕ, ◌==◌, [], ◌∷◌, Some, None, if◌then◌else◌, take}
-use Rattle.session_model.specs.declared.check.Check.TheVariants.{Must as must}
+use Rattle.session_model.specs.declared.refusal.Check.TheVariants.{Must as must}
 use Rattle.session_model.specs.declared.event.Reason.TheVariants as reason
 use Rattle.session_model.specs.declared.refusal.Refusal.TheVariants.{UnknownUser, NoWindow}
 use Rattle.session_model.specs.declared.refusal.Refusal.TheVariants.{BadSize}

@@ -1,8 +1,8 @@
 -- Refusals of a session for faults of the table of windows.
 use Rattle.session_model.specs.declared.refusal.Refusal.{Refusal}
 use Rattle.session_model.specs.declared.refusal.Refusal.TheVariants as refusal
-use Rattle.windows_model.specs.declared.windows_fault.WindowsFault.{WindowsFault}
-use Rattle.windows_model.specs.declared.windows_fault.WindowsFault.TheVariants as fault
+use Rattle.windows_model.specs.declared.rows.WindowsFault.{WindowsFault}
+use Rattle.windows_model.specs.declared.rows.WindowsFault.TheVariants as fault
 
 -- NoSuchWindow becomes NoWindow, and NoMemory is the session's own.
 abbrev pub refusal_of : WindowsFault → Refusal

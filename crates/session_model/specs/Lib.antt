@@ -1,4 +1,4 @@
-pub use Rattle.windows_model.specs.declared.windows_fault
+pub use Rattle.windows_model.specs.declared.rows
 pub mod Trace
 pub mod Tables
 pub mod Rights

@@ -4,10 +4,10 @@ use Rattle.std.specs.Prelude.{if◌then◌else◌}
 use Rattle.acl.specs.declared.act.Act.{Act}
 use Rattle.acl.specs.declared.act.Act.TheVariants as act
 use Rattle.acl.specs.History.{followed_by}
-use Rattle.session_model.specs.declared.check.Check.{Check}
+use Rattle.session_model.specs.declared.refusal.Check.{Check}
 use Rattle.session_model.specs.declared.event.Effect.{Effect}
 use Rattle.session_model.specs.declared.refusal.Refusal.{Refusal}
-use Rattle.session_model.specs.declared.verdict.Verdict.{Verdict}
+use Rattle.session_model.specs.declared.refusal.Verdict.{Verdict}
 use Rattle.session_model.specs.Trace.{Reply}
 use Rattle.session_model.specs.Tables.{Client, Tables, focused, is_in_focus}
 use Rattle.session_model.specs.Checks.{verdicts, first_fault}

@@ -19,7 +19,7 @@ use Rattle.session_model.specs.declared.event.Effect.TheVariants.{Input, Deliver
 use Rattle.session_model.specs.declared.event.Effect.TheVariants.{Gone}
 use Rattle.session_model.specs.declared.event.Peer.TheVariants as peer
 use Rattle.session_model.specs.declared.event.Reason.TheVariants as reason
-use Rattle.session_model.specs.declared.message.StatusMessage.TheVariants as message
+use Rattle.session_model.specs.declared.event.StatusMessage.TheVariants as message
 use Rattle.session_model.specs.declared.refusal.Refusal.{Refusal}
 use Rattle.session_model.specs.declared.refusal.Refusal.TheVariants.{EntryDenied, NoWindow}
 use Rattle.session_model.specs.Trace.{EventValue, Detach, Keys, Command, Output, Closed, Draw}

@@ -6,7 +6,7 @@ use Rattle.acl.specs.declared.bits.Bit.{Bit}
 use Rattle.acl.specs.declared.act.Act.{Act}
 use Rattle.acl.specs.declared.act.Object.{Object}
 use Rattle.acl.specs.declared.entries.NewLeader.{NewLeader}
-use Rattle.acl.specs.declared.faults.AclFault.{AclFault}
+use Rattle.acl.specs.declared.entries.AclFault.{AclFault}
 use Rattle.acl.specs.History.{may, has, leaders_of}
 use Rattle.acl.specs.Commands.{add_acts, group_fault}
 use Rattle.writelock.specs.Holding.{holder}

@@ -3,10 +3,10 @@ use Rattle.std.specs.Prelude.{◌≡◌, ◌<◌, ◌≤◌, ℕ, List, [], ◌�
 use Rattle.std.specs.Prelude.{None, is_some, true}
 use Rattle.std.specs.List.{AllByRecursion}
 use Rattle.acl.specs.History.{is_open, open_count}
-use Rattle.acl.specs.limits.TheConstants.{WINDOWS}
-use Rattle.regions.specs.declared.shown.Shown.{Shown}
+use Rattle.acl.specs.slots.TheConstants.{WINDOWS}
+use Rattle.regions.specs.declared.layout.Shown.{Shown}
 use Rattle.writelock.specs.Holding.{clients_of}
-use Rattle.session_model.specs.declared.limits.TheConstants.{CLIENTS}
+use Rattle.session_model.specs.declared.event.TheConstants.{CLIENTS}
 use Rattle.session_model.specs.Tables.{Window, Client, Tables, window_at}
 use Rattle.session_model.specs.Naming.{with_number}
 

@@ -6,13 +6,13 @@ use Rattle.std.specs.Option.{option_and_then}
 use Rattle.acl.specs.declared.user_id.UserId.{UserId}
 use Rattle.acl.specs.Same.{same_user}
 use Rattle.acl.specs.History as acl
-use Rattle.regions.specs.declared.shown.Shown.{Shown}
+use Rattle.regions.specs.declared.layout.Shown.{Shown}
 use Rattle.regions.specs.Layouts.{Arrangement}
 use Rattle.terminal_model.specs.Shows.{View}
 pub use Rattle.windows_model.specs.Finding.{row_of, with_row}
 pub use Rattle.windows_model.specs.Table.{Window}
-use Rattle.session_model.specs.declared.message.StatusMessage.{StatusMessage}
-use Rattle.acl.specs.declared.edition.Edition.{Edition}
+use Rattle.session_model.specs.declared.event.StatusMessage.{StatusMessage}
+use Rattle.acl.specs.declared.leaders.Edition.{Edition}
 
 -- A client: its user; the size of its terminal; all its keys; everything that was delivered to it
 -- since it attached or last changed its size, and the view that was drawn last since then; its

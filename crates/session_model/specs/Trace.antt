@@ -7,8 +7,8 @@ use Rattle.session_model.specs.declared.event.Event.TheVariants as event
 use Rattle.session_model.specs.declared.event.Effect.{Effect}
 use Rattle.session_model.specs.declared.event.Done.{Done}
 use Rattle.session_model.specs.declared.refusal.Refusal.{Refusal}
-use Rattle.session_model.specs.declared.verdict.Verdict.{Verdict}
-use Rattle.acl.specs.declared.edition.Edition.{Edition}
+use Rattle.session_model.specs.declared.refusal.Verdict.{Verdict}
+use Rattle.acl.specs.declared.leaders.Edition.{Edition}
 
 -- an event by its value: the places in memory that lent its bytes and texts are left out
 pub data EventValue : Type 0 where

@@ -1,8 +1,15 @@
-//! The events of a session, and what comes of them.
+//! The events of a session, what comes of them, and how many clients and serials there may be.
 
 use crate::refusal::Refusal;
 use acl::UserId;
 use strings::Bytes;
+
+/// The most clients that may be attached at once.
+pub const CLIENTS: usize = 64;
+
+/// The number of serials that there are for windows, and as many for clients. Each serial is given
+/// once.
+pub const SERIALS: u64 = 1 << 32;
 
 /// An event. It lends its bytes and its texts. Windows and clients are named by their serial
 /// numbers, which count from 0 in the order in which they came; only a command names its window by
@@ -134,4 +141,13 @@ pub struct Ran {
     pub part: usize,
     /// Whether the run stopped because memory was refused, for a step or for its reply.
     pub stopped: bool,
+}
+
+/// What a client's status line says: nothing, a text, or a list that each draw makes again.
+#[derive(Debug, Drop)]
+pub enum StatusMessage {
+    Silence,
+    Text(Bytes),
+    AllWindows,
+    AllClients,
 }

@@ -3,20 +3,12 @@
 //! definitions share.
 #![tactic(auto)]
 
-mod check;
 mod event;
-mod limits;
-mod message;
 mod refusal;
 mod text;
-mod verdict;
 
-pub use check::Check;
-pub use event::{Done, Effect, Event, Peer, Ran, Reason, Reply};
-pub use limits::{CLIENTS, SERIALS};
-pub use message::StatusMessage;
-pub use refusal::{Denied, EntryDenied, LockDenied, Refusal};
+pub use event::{CLIENTS, Done, Effect, Event, Peer, Ran, Reason, Reply, SERIALS, StatusMessage};
+pub use refusal::{Check, Denied, EntryDenied, LockDenied, Refusal, Verdict};
 pub use strings::Bytes;
 pub use text::push_decimal;
-pub use verdict::Verdict;
 pub use windows_model::WindowsFault;

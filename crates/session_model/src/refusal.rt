@@ -1,14 +1,23 @@
-//! Why a step was refused.
+//! What is checked, and why a step was refused.
 
 ghost use Rattle.std.specs.Prelude.{◌≡◌};
 ghost use Rattle.session_model.specs.declared.refusal.Refusal.TheVariants.{NoMemory};
 ghost use Rattle.session_model.specs.Faults.{refusal_of};
 
-use acl::{AclFault, Bit, CommandName, Leaders, UserId};
+use acl::{AclFault, Bit, CommandName, Leaders, Object, UserId};
 use command_lang::ParseFault;
 use regions::RegionFault;
 use std::alloc::{AllocError, AllocFailed};
 use windows_model::WindowsFault;
+
+/// A check: a right that a user needs, a lock that no other user may hold, or a fact with the
+/// refusal if it doesn't hold.
+#[derive(Clone, Copy, PartialEq, Eq, Debug)]
+pub enum Check {
+    Right(UserId, Bit, Object),
+    Unlocked(UserId, u32),
+    Must(bool, Refusal),
+}
 
 /// The object on which a bit is missing: a window, by its serial and its number, or a command.
 #[derive(Clone, Copy, PartialEq, Eq, Debug)]
@@ -81,4 +90,20 @@ impl<T: Drop> From<AllocFailed<T>> for Refusal {
     fn from(_e: AllocFailed<T>) -> Refusal {
         Refusal::NoMemory
     }
+}
+
+/// The verdict of a check: of a bit, with its answer, or of a lock, with its holder.
+#[derive(Clone, Copy, PartialEq, Eq, Debug)]
+pub enum Verdict {
+    Right {
+        user: UserId,
+        bit: Bit,
+        object: Object,
+        answer: bool,
+    },
+    Lock {
+        user: UserId,
+        window: u32,
+        holder: Option<UserId>,
+    },
 }

@@ -3,7 +3,7 @@ use denote.Builtin.{u32}
 use denote.Param.Send.{IsSend, plain_send, view_send}
 use denote.Param.SendFields.{declared_send}
 use Rattle.std.proofs.option.Option.TheSendSync as option
-use Rattle.session_model.proofs.message.StatusMessage.TheSendSync as message
+use Rattle.session_model.proofs.event.StatusMessage.TheSendSync as message
 use Rattle.acl.proofs.user_id.UserId.TheSendSync as user
 use Rattle.keys.proofs.reader.KeyReader.TheSendSync as reader
 use Rattle.redraw.proofs.shadow.Shadow.TheSendSync as shadow

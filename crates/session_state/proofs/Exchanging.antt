@@ -1,8 +1,8 @@
 -- A reader and a message that are exchanged twice leave the row as it was.
 use Rattle.std.proofs.Common.{◌≡◌, ℕ, List, ◌++◌, Some, sym, subst, ◌∙◌, ap}
 use Rattle.keys.specs.Kept.{Keeping, StandsFor}
-use Rattle.session_model.specs.declared.message.StatusMessage.{StatusMessage}
-use Rattle.session_model.specs.declared.message.StatusMessage.TheVariants.{Silence}
+use Rattle.session_model.specs.declared.event.StatusMessage.{StatusMessage}
+use Rattle.session_model.specs.declared.event.StatusMessage.TheVariants.{Silence}
 use Rattle.session_model.specs.Tables as model
 use Rattle.session_model.specs.Tables.{row_of, with_row}
 use Rattle.session_model.specs.Answering.{reading}

@@ -9,15 +9,15 @@ use Rattle.regions.specs.Layouts.{Arrangement, kept_alone, emptied}
 use Rattle.regions.specs.Shapes.{region}
 use Rattle.regions.specs.Pages.{has_room}
 use Rattle.terminal_model.specs.Reading.{Terminal, Read, nothing_read, reads}
-use Rattle.session_model.specs.declared.message.StatusMessage.{StatusMessage}
-use Rattle.session_model.specs.declared.message.StatusMessage.TheVariants.{Silence}
+use Rattle.session_model.specs.declared.event.StatusMessage.{StatusMessage}
+use Rattle.session_model.specs.declared.event.StatusMessage.TheVariants.{Silence}
 use Rattle.session_model.specs.Tables as model
 use Rattle.session_model.specs.Tables.{with_layout, focused, last_after, former_after}
 use Rattle.terminal_model.specs.Shows.{IsOfSize}
 use Rattle.redraw.specs.Shadow.{Knowledge}
 use Rattle.keys.specs.Kept as keys
 use Rattle.regions.specs.Layouts.{one_region, split_fault, remove_focused}
-use Rattle.regions.specs.declared.way.Way.{Way}
+use Rattle.regions.specs.declared.node.Way.{Way}
 use Rattle.session_model.specs.Deeds.{hearing, without_window}
 use Rattle.session_model.specs.Comings.{resized, is_client_size}
 use Rattle.session_state.specs.declared.client.Client.{Client}

@@ -1,7 +1,7 @@
 -- A client's reader and message that are exchanged for others.
 use Rattle.std.specs.Prelude.{◌≡◌, ℕ, List, ◌++◌, Some}
 use Rattle.keys.specs.Kept.{Keeping, StandsFor}
-use Rattle.session_model.specs.declared.message.StatusMessage.{StatusMessage}
+use Rattle.session_model.specs.declared.event.StatusMessage.{StatusMessage}
 use Rattle.session_model.specs.Tables.{row_of, with_row}
 use Rattle.session_state.specs.declared.client.Client.{Client}
 

@@ -3,7 +3,7 @@ use Rattle.std.specs.Prelude.{ℕ, ◌≡◌, List, [], ◌∷◌, ◌++◌, Som
 use Rattle.std.specs.List.{flat_map}
 use Rattle.std.proofs.Common.{refl, ap, ◌∙◌, sym, append_assoc}
 use Rattle.acl.specs.declared.user_id.UserId.{UserId}
-use Rattle.acl.specs.declared.faults.AclFault.{AclFault}
+use Rattle.acl.specs.declared.entries.AclFault.{AclFault}
 use Rattle.acl.specs.Names.{named_by}
 use Rattle.session_model.specs.Tables.{Tables}
 use Rattle.session_model.specs.Commands.{known_fault}

@@ -1,12 +1,12 @@
 -- Clients whose pages change.
 use Rattle.std.specs.Prelude.{ℕ, List, Option, None, Result, Ok, Err, slice_get, map, if◌then◌else◌}
 use Rattle.std.specs.Option.{option_and_then}
-use Rattle.regions.specs.declared.shown.Shown.{Shown}
+use Rattle.regions.specs.declared.layout.Shown.{Shown}
 use Rattle.regions.specs.Layouts.{Arrangement, emptied, kept_alone}
 use Rattle.regions.specs.Pages.{has_room}
 use Rattle.session_model.specs.declared.event.Effect.{Effect}
 use Rattle.session_model.specs.declared.event.Effect.TheVariants.{Say}
-use Rattle.session_model.specs.declared.message.StatusMessage.TheVariants.{Text}
+use Rattle.session_model.specs.declared.event.StatusMessage.TheVariants.{Text}
 use Rattle.session_model.specs.Tables.{last_after, former_after, focused}
 use Rattle.session_state.specs.declared.client.Client.{Client}
 

@@ -1,7 +1,7 @@
 -- What is noted of a step.
 use Rattle.std.specs.Prelude.{List, []}
 use Rattle.acl.specs.declared.act.Act.{Act}
-use Rattle.session_model.specs.declared.verdict.Verdict.{Verdict}
+use Rattle.session_model.specs.declared.refusal.Verdict.{Verdict}
 
 -- its acts and its verdicts, in their order
 pub record Noted : Type 0 where

@@ -5,8 +5,8 @@ ghost use Rattle.std.specs.Prelude.{true, false, not, Some, None, Ok, length, ma
 ghost use Rattle.std.specs.Prelude.{OnOk, OnErr, IfOk, IfNone, IfSome, option_copied};
 ghost use Rattle.std.specs.Fn.{FnOnceReturnsAtMut};
 ghost use Rattle.regions.specs.Layouts.{Arrangement};
-ghost use Rattle.session_model.specs.declared.message.StatusMessage.{StatusMessage as What};
-ghost use Rattle.session_model.specs.declared.message.StatusMessage.TheVariants as what;
+ghost use Rattle.session_model.specs.declared.event.StatusMessage.{StatusMessage as What};
+ghost use Rattle.session_model.specs.declared.event.StatusMessage.TheVariants as what;
 ghost use Rattle.session_model.specs.declared.event.Effect.TheVariants as effect;
 ghost use Rattle.session_model.specs.Tables as model;
 ghost use Rattle.session_model.specs.Tables.{row_of, with_row};

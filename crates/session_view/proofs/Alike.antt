@@ -6,13 +6,13 @@ use mathlib.Core.Bool.{beq}
 use Rattle.acl.specs.declared.user_id.UserId.{UserId}
 use Rattle.acl.specs.declared.bits.Bit.TheVariants.{Read}
 use Rattle.acl.specs.declared.act.Object.TheVariants as object
-use Rattle.regions.specs.declared.shown.Shown.{Shown}
+use Rattle.regions.specs.declared.layout.Shown.{Shown}
 use Rattle.regions.specs.Layouts.{Arrangement}
 use Rattle.regions.specs.Shapes.{boxes, separators}
 use Rattle.regions.specs.Pages.{box_of, status_of}
 use Rattle.view.specs.Granted as view
-use Rattle.session_model.specs.declared.message.StatusMessage.{StatusMessage}
-use Rattle.session_model.specs.declared.message.StatusMessage.TheVariants as message
+use Rattle.session_model.specs.declared.event.StatusMessage.{StatusMessage}
+use Rattle.session_model.specs.declared.event.StatusMessage.TheVariants as message
 use Rattle.session_model.specs.Tables as model
 use Rattle.session_model.specs.Tables.{Tables, window_at}
 use Rattle.session_model.specs.Rights.{may_in}

@@ -14,7 +14,7 @@ use Rattle.session_state.specs.declared.client.Client.{Client}
 use Rattle.session_state.specs.Clients.{AreClients}
 use Rattle.session_state.specs.Draws.{ShowsAlready, Draw}
 use Rattle.session_state.specs.declared.state.State.{State}
-use Rattle.session_state.specs.declared.step_output.StepOutput.{StepOutput}
+use Rattle.session_state.specs.declared.state.StepOutput.{StepOutput}
 use Rattle.session_state.specs.Stands.{Stands}
 use Rattle.redraw.specs.Shadow.{Knowledge, knowledge_of}
 use Rattle.redraw.specs.Frames.{Made}

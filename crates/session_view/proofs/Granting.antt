@@ -7,7 +7,7 @@ use Rattle.std.proofs.lemmas.Bool.{leb-true}
 use Rattle.std.proofs.lemmas.List.{length-map}
 use Rattle.cells.specs.Page.{IsGridSize}
 use Rattle.regions.specs.declared.rect.Rect.{Rect}
-use Rattle.regions.specs.declared.rects.Rects.{Rects}
+use Rattle.regions.specs.declared.rect.Rects.{Rects}
 use Rattle.regions.specs.Layouts.{Arrangement}
 use Rattle.regions.specs.Pages.{IsRects, status_of}
 use Rattle.regions.proofs.Room.{both_true}

@@ -8,9 +8,9 @@ use Rattle.acl.specs.declared.bits.Bit.TheVariants.{Read}
 use Rattle.acl.specs.declared.act.Object.TheVariants as object
 use Rattle.acl.specs.History.{there}
 use Rattle.cells.specs.Line.{IsPaired}
-use Rattle.regions.specs.declared.shown.Shown.{Shown}
+use Rattle.regions.specs.declared.layout.Shown.{Shown}
 use Rattle.terminal_model.specs.Drawable.{IsDrawableLine}
-use Rattle.view.specs.declared.pane.Pane.{Pane}
+use Rattle.view.specs.declared.view.Pane.{Pane}
 use Rattle.view.specs.Granted as view
 use Rattle.session_model.specs.Tables as model
 use Rattle.session_model.specs.Tables.{Tables, window_at}

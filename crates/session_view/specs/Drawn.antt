@@ -8,7 +8,7 @@ use Rattle.session_model.specs.declared.refusal.Refusal.TheVariants.{NoMemory, N
 use Rattle.session_model.specs.Tables.{Client, Tables, client_at}
 use Rattle.session_model.specs.Run.{IsDraw, drawn_on}
 use Rattle.session_state.specs.declared.state.State.{State}
-use Rattle.session_state.specs.declared.step_output.StepOutput.{StepOutput}
+use Rattle.session_state.specs.declared.state.StepOutput.{StepOutput}
 use Rattle.session_state.specs.Stands.{Stands}
 use Rattle.session_model.specs.Sound.{AreFit}
 use Rattle.session_view.specs.Viewed.{IsGranted}

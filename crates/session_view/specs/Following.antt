@@ -4,7 +4,7 @@ use Rattle.terminal_model.specs.Shows.{View, NeedsNoDraw}
 use Rattle.session_model.specs.Tables.{Client, Tables, client_at}
 use Rattle.session_model.specs.Granted.{granted_view}
 use Rattle.session_state.specs.declared.state.State.{State}
-use Rattle.session_state.specs.declared.step_output.StepOutput.{StepOutput}
+use Rattle.session_state.specs.declared.state.StepOutput.{StepOutput}
 use Rattle.session_state.specs.Stands.{Stands}
 use Rattle.session_model.specs.Sound.{AreFit}
 use Rattle.session_view.specs.declared.following.Lead.{Lead}

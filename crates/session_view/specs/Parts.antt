@@ -3,8 +3,8 @@ use Rattle.std.specs.Prelude.{ℕ, ◌≡◌, List}
 use Rattle.std.specs.Borrow.{Bor}
 use Rattle.acl.specs.declared.user_id.UserId.{UserId}
 use Rattle.cells.specs.declared.cell.Cell.{Cell}
-use Rattle.regions.specs.declared.shown.Shown.{Shown}
-use Rattle.view.specs.declared.pane.Contents.{Contents}
+use Rattle.regions.specs.declared.layout.Shown.{Shown}
+use Rattle.view.specs.declared.view.Contents.{Contents}
 use Rattle.view.specs.Granted as view
 use Rattle.session_model.specs.Tables as model
 use Rattle.session_model.specs.Tables.{Tables}

@@ -3,9 +3,9 @@ use Rattle.std.specs.Prelude.{ℕ, ◌≡◌, ◌↔◌, Bool, true, false, List
 use Rattle.acl.specs.declared.user_id.UserId.{UserId}
 use Rattle.keys.specs.Grammar.{items, open_line}
 use Rattle.keys.specs.Kept.{rest_of}
-use Rattle.regions.specs.declared.shown.Shown.{Shown}
-use Rattle.session_model.specs.declared.message.StatusMessage.{StatusMessage}
-use Rattle.session_model.specs.declared.message.StatusMessage.TheVariants as message
+use Rattle.regions.specs.declared.layout.Shown.{Shown}
+use Rattle.session_model.specs.declared.event.StatusMessage.{StatusMessage}
+use Rattle.session_model.specs.declared.event.StatusMessage.TheVariants as message
 use Rattle.session_model.specs.Tables as model
 use Rattle.session_model.specs.Tables.{Tables, client_at}
 use Rattle.session_model.specs.Granted.{part_shown, granted_view}

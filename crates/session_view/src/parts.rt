@@ -2,14 +2,14 @@
 
 ghost use Rattle.std.specs.Prelude.{◌≡◌, IfOk, List, length, map};
 ghost use Rattle.acl.specs.declared.user_id.UserId.{UserId};
-ghost use Rattle.regions.specs.declared.shown.Shown.{Shown};
+ghost use Rattle.regions.specs.declared.layout.Shown.{Shown};
 ghost use Rattle.session_model.specs.Tables.{Tables};
 ghost use Rattle.session_model.specs.Granted.{part_shown};
 ghost use Rattle.windows_model.specs.Matched.{Matched};
 ghost use Rattle.view.specs.Granted.{part_of};
 ghost use Rattle.session_view.specs.Parts.{IsPart, AreParts, ShowsPart};
 
-use crate::contents::contents;
+use crate::viewing::contents;
 use acl::{Bit, Object, UserId};
 use cells::Cell;
 use regions::Shown;

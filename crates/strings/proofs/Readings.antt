@@ -4,7 +4,7 @@ use Rattle.std.proofs.Common.{refl, sym, ap, ◌∙◌, subst, arith, Option, So
 use Rattle.std.specs.Prelude.{◌==◌}
 use Rattle.std.specs.Option.{is_some}
 use Rattle.std.proofs.lemmas.Bool.Decides.{nat_tests}
-use Rattle.strings.specs.declared.word.Word.{Word}
+use Rattle.strings.specs.declared.text.Word.{Word}
 use Rattle.strings.specs.Grammar.{octal_front, Escaped, Character, Single, Double, Part, Parts, Line, IsCut}
 use Rattle.strings.specs.Grammar.{size, word_at}
 use Rattle.strings.specs.Lines.{Read, and_then, escaped, character, single, double, part, parts, and_words}

@@ -3,7 +3,7 @@
 -- the text and what follows it, as the relation of its name does.
 use Rattle.std.specs.Prelude.{ℕ, zero, suc, ◌-◌, true, false, ◌==◌, List, [], ◌∷◌, ◌++◌, length}
 use Rattle.std.specs.Prelude.{drop, Option, Some, None}
-use Rattle.strings.specs.declared.word.Word.{Word}
+use Rattle.strings.specs.declared.text.Word.{Word}
 use Rattle.strings.specs.Grammar.{space, double_quote, single_quote, backslash}
 use Rattle.strings.specs.Grammar.{octal_front, size, word_at}
 

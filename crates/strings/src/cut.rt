@@ -1,12 +1,13 @@
-//! A line is cut into words.
+//! A line is cut into words, in one way.
 
-ghost use Rattle.std.specs.Prelude.{◌≡◌, ◌≤◌, length, IfOk};
+ghost use Rattle.std.specs.Prelude.{◌≡◌, ◌≤◌, length, IfOk, ℕ, List};
 ghost use Rattle.std.specs.Str.{chars};
 ghost use Rattle.strings.specs.Grammar.{size, IsCut};
+ghost use Rattle.strings.specs.declared.text.Word.{Word};
+ghost use Rattle.strings.specs.Lines.{words};
 
 use crate::parts::put_parts;
-use crate::text::Text;
-use crate::word::Word;
+use crate::text::{Text, Word};
 use std::alloc::{AllocError, Global};
 
 /// The number of bytes of the characters in UTF-8.
@@ -58,3 +59,9 @@ pub fn words(alloc: Global, line: &str) -> Result<Vec<Word>, AllocError>
     let cs: Vec<char> = line.chars().collect(alloc)?;
     words_of(alloc, cs.as_slice())
 }
+
+/// Each line is cut into words, and in one way: no line has two readings.
+pub fn each_line_is_cut_once()
+    ensures cut { (cs : List ℕ) → IsCut cs (words cs) }
+    ensures once { (cs : List ℕ) (ws vs : List Word) → IsCut cs ws → IsCut cs vs → ws ≡ vs }
+{}

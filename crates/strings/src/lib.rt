@@ -4,15 +4,9 @@
 
 mod bytes;
 mod cut;
-mod items;
-mod laws;
 mod parts;
 mod text;
-mod word;
 
 pub use bytes::Bytes;
-pub use cut::words;
-pub use items::{Items, Texts};
-pub use laws::each_line_is_cut_once;
-pub use text::Text;
-pub use word::Word;
+pub use cut::{each_line_is_cut_once, words};
+pub use text::{Items, Text, Texts, Word};

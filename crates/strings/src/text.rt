@@ -1,12 +1,21 @@
-//! Texts. Contracts see a text as its bytes in UTF-8, while grammars are over characters, so no
-//! lemma cuts a text between bytes.
+//! Texts, lists of them, and words. Contracts see a text as its bytes in UTF-8, while grammars are over characters, so
+//! no lemma cuts a text between bytes.
 
-ghost use Rattle.std.specs.Prelude.{◌≡◌, IfOk, true};
+ghost use Rattle.std.specs.Prelude.{◌≡◌, IfOk, true, ◌++◌, ◌∷◌, [], OnOk, OnErr};
 ghost use Rattle.std.specs.Str.{is_utf8};
 ghost use Rattle.std.specs.String.{string_bytes};
 
 use std::alloc::{AllocError, Global};
 use std::marker::Model;
+
+/// A word of a line: the place of its first byte, its text in UTF-8, and whether it is closed. A
+/// word isn't closed if the line ends inside its quotes, or after its backslash.
+#[derive(Drop, Debug)]
+pub struct Word {
+    pub place: usize,
+    pub text: Text,
+    pub is_closed: bool,
+}
 
 /// A text, such as a name, a title or a word, in UTF-8 (Unicode core specification, section 3.9).
 #[derive(Drop, Debug)]
@@ -47,3 +56,47 @@ impl Text {
         self.text.as_str()
     }
 }
+
+/// A list of items, to which items can be added at the end. Contracts see it as its list.
+#[derive(Drop, Debug)]
+pub struct Items<T> {
+    items: Vec<T>,
+}
+
+impl<T> Model for Items<T> {
+    ghost use Rattle.std.specs.Prelude.{List};
+
+    ghost Value = { List T };
+
+    ghost view = { λ l. l.items.items };
+}
+
+impl<T: Drop> Items<T> {
+    /// A list without items.
+    pub fn new(alloc: Global) -> Items<T>
+        ensures { result ≡ [] }
+    {
+        Items {
+            items: Vec::new(alloc),
+        }
+    }
+
+    /// Puts an item at the end. `AllocError` if memory is refused; the list is then unchanged.
+    pub fn push(&mut self, item: T) -> Result<(), AllocError>
+        ensures ok { OnOk result (self.new ≡ self.old ++ item ∷ []) }
+        ensures err { OnErr result (self.new ≡ self.old) }
+    {
+        self.items.push(item)?;
+        Ok(())
+    }
+
+    /// The items in their order.
+    pub fn as_slice(&self) -> &[T]
+        ensures { result.now ≡ self.now }
+    {
+        self.items.as_slice()
+    }
+}
+
+/// A list of texts.
+pub type Texts = Items<Text>;

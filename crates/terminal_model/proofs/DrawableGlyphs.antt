@@ -8,15 +8,15 @@ use Rattle.std.proofs.lemmas.Bool.Decides.{nat_tests}
 use Rattle.std.proofs.Math.Utf8.{scalar}
 use Rattle.unicode_width.specs.Width.{char_width}
 use Rattle.unicode_width.proofs.Computing.{unicode_width}
-use Rattle.charsets.specs.declared.sets.CharacterSet.{CharacterSet}
-use Rattle.charsets.specs.declared.sets.CharacterSet.TheVariants.{Ascii, UnitedKingdom, SpecialGraphics, Supplemental}
+use Rattle.charsets.specs.declared.shifts.CharacterSet.{CharacterSet}
+use Rattle.charsets.specs.declared.shifts.CharacterSet.TheVariants.{Ascii, UnitedKingdom, SpecialGraphics, Supplemental}
 use Rattle.charsets.specs.declared.shifts.Shifts.{Shifts}
-use Rattle.charsets.specs.declared.unit.Unit.{Unit}
-use Rattle.charsets.specs.declared.unit.Unit.TheVariants.{Code, High}
+use Rattle.charsets.specs.declared.decoder.Unit.{Unit}
+use Rattle.charsets.specs.declared.decoder.Unit.TheVariants.{Code, High}
 use Rattle.charsets.specs.Sets.{graphics, supplement, character_at}
 use Rattle.charsets.specs.Shifts.{mapped}
 use Rattle.cells.specs.Glyph.{drawn_as, glyph_columns}
-use Rattle.control_parser.specs.declared.func.Func.TheVariants.{Print}
+use Rattle.control_parser.specs.declared.parser.Func.TheVariants.{Print}
 use Rattle.control_parser.specs.Grammar.{is_graphic}
 use Rattle.control_parser.specs.Spelling.{IsGiven}
 use Rattle.terminal_model.specs.Printing.{columns_of, drawn}

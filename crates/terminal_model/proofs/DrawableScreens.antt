@@ -9,8 +9,8 @@ use Rattle.cells.specs.Line.{blank, plain, cell_at, is_right, unprotected_erased
 use Rattle.cells.specs.Line.{left_cell, right_cell}
 use Rattle.cells.specs.Page.{line_at, page_marked, on_line}
 use Rattle.cells.specs.Moves.{filled}
-use Rattle.control_parser.specs.declared.func.Func.{Func}
-use Rattle.control_parser.specs.declared.func.Func.TheVariants as funcs
+use Rattle.control_parser.specs.declared.parser.Func.{Func}
+use Rattle.control_parser.specs.declared.parser.Func.TheVariants as funcs
 use Rattle.control_parser.specs.Spelling.{IsGiven}
 use Rattle.terminal_model.specs.declared.action.Action.{Action}
 use Rattle.terminal_model.specs.declared.action.Action.TheVariants.{Print, LineFeed, Index, NextLine, ReverseIndex}

@@ -3,10 +3,10 @@ use Rattle.std.proofs.lemmas.Grind.{common_steps}
 use Rattle.std.proofs.Common.{arith}
 use Rattle.std.proofs.Common.{◌≡◌, ℕ, List, [], ◌∷◌, ◌++◌, sym, ap, subst}
 use Rattle.std.specs.List.{AllByRecursion}
-use Rattle.charsets.specs.declared.unit.Unit.{Unit}
+use Rattle.charsets.specs.declared.decoder.Unit.{Unit}
 use Rattle.charsets.specs.Units.{IsUnit}
 use Rattle.charsets.proofs.Scalars.{units-are}
-use Rattle.control_parser.specs.declared.func.Func.{Func}
+use Rattle.control_parser.specs.declared.parser.Func.{Func}
 use Rattle.control_parser.specs.Grammar.{Rest, functions}
 use Rattle.control_parser.specs.Kept.{opening}
 use Rattle.control_parser.specs.Spelling.{IsGiven}

@@ -6,14 +6,14 @@ use Rattle.std.proofs.Common.{◌++◌, length, replicate, Option, Some, None, r
 use Rattle.std.specs.Prelude.{option_to_list}
 use Rattle.std.proofs.lemmas.List.{length-replicate}
 use Rattle.std.proofs.lemmas.Bool.{ne_eqb}
-use Rattle.charsets.specs.declared.unit.Unit.TheVariants.{Code}
+use Rattle.charsets.specs.declared.decoder.Unit.TheVariants.{Code}
 use Rattle.charsets.specs.Shifts.{is_graphic}
 use Rattle.charsets.proofs.Shifted.{mapped-ascii, spent-none}
 use Rattle.cells.specs.declared.cell.Cell.{Cell}
 use Rattle.cells.specs.Line.{blank, IsPaired, narrow_cell, left_cell, right_cell, spliced}
 use Rattle.cells.specs.Page.{page_from, edited}
 use Rattle.cells.proofs.Splicing.{IsPaired-blanks, narrow_pairs, wide_pairs}
-use Rattle.control_parser.specs.declared.func.Func.TheVariants.{Print, Esc, Csi}
+use Rattle.control_parser.specs.declared.parser.Func.TheVariants.{Print, Esc, Csi}
 use Rattle.terminal_model.specs.declared.action.Action.{Action}
 use Rattle.terminal_model.specs.declared.action.Action.TheVariants.{Render, SetMode}
 use Rattle.cells.specs.declared.rendition.Attribute.{Attribute}

@@ -4,8 +4,8 @@ use Rattle.std.proofs.lemmas.Grind.{common_steps}
 use Rattle.std.proofs.Common.{◌≡◌, ℕ, Bool, List, [], ◌∷◌, ◌++◌, Some, None, refl}
 use Rattle.std.proofs.Common.{sym, arith, append-nil}
 use Rattle.control_parser.specs.Spelling.{spelling}
-use Rattle.control_parser.specs.declared.func.Func.TheVariants.{Esc, Csi}
-use Rattle.control_parser.specs.declared.func.Func.{Func}
+use Rattle.control_parser.specs.declared.parser.Func.TheVariants.{Esc, Csi}
+use Rattle.control_parser.specs.declared.parser.Func.{Func}
 use Rattle.terminal_model.specs.declared.action.Action.{Action}
 use Rattle.terminal_model.specs.Screen.{Page, Screen, IsSound}
 use Rattle.terminal_model.specs.Functions.{plain_sequence, private_sequence, rendered, private_mode_set}

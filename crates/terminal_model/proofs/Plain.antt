@@ -5,7 +5,7 @@ use Rattle.std.proofs.lemmas.Bool.Decides.{nat_tests}
 use Rattle.unicode_width.specs.Width.{char_width}
 use Rattle.cells.specs.Glyph.{drawn_as, glyph_columns}
 use Rattle.charsets.specs.Units.{is_plain}
-use Rattle.control_parser.specs.declared.func.Func.TheVariants.{Print}
+use Rattle.control_parser.specs.declared.parser.Func.TheVariants.{Print}
 use Rattle.control_parser.specs.Grammar.{nothing}
 use Rattle.control_parser.proofs.Pieces.{functions-plain}
 use Rattle.terminal_model.specs.Screen.{Screen}

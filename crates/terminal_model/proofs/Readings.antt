@@ -2,8 +2,8 @@
 use Rattle.std.proofs.lemmas.Grind.{common_steps}
 use Rattle.std.proofs.Common.{arith}
 use Rattle.std.proofs.Common.{◌≡◌, ℕ, List, [], ◌∷◌, ◌++◌, refl, sym, ap, ◌∙◌, append_assoc, append-nil}
-use Rattle.charsets.specs.declared.unit.Unit.{Unit}
-use Rattle.control_parser.specs.declared.func.Func.{Func}
+use Rattle.charsets.specs.declared.decoder.Unit.{Unit}
+use Rattle.control_parser.specs.declared.parser.Func.{Func}
 use Rattle.control_parser.specs.Grammar.{Rest, functions, with_front}
 use Rattle.control_parser.specs.Kept.{opening}
 use Rattle.control_parser.proofs.Openings.{functions-go_on, functions-opening}

@@ -8,7 +8,7 @@ use Rattle.std.specs.List.{list_all}
 use Rattle.cells.specs.declared.rendition.Colour.{Colour}
 use Rattle.cells.specs.declared.rendition.Colour.TheVariants.{Default}
 use Rattle.cells.specs.declared.rendition.Rendition.{Rendition}
-use Rattle.control_parser.specs.declared.func.Func.TheVariants.{Csi}
+use Rattle.control_parser.specs.declared.parser.Func.TheVariants.{Csi}
 use Rattle.terminal_model.specs.declared.action.Action.{Action}
 use Rattle.terminal_model.specs.declared.action.Action.TheVariants.{Render}
 use Rattle.cells.specs.declared.rendition.Attribute.{Attribute}

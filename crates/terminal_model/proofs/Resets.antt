@@ -1,10 +1,10 @@
 -- The beginning of a first frame brings every terminal of a size to one screen.
 use Rattle.std.proofs.Common.{◌≡◌, ℕ, List, [], ◌∷◌, ◌++◌, Some, refl, ap, ◌∙◌, arith}
-use Rattle.charsets.specs.declared.unit.Unit.TheVariants as codes
-use Rattle.charsets.specs.declared.unit.Coding.{Coding}
+use Rattle.charsets.specs.declared.decoder.Unit.TheVariants as codes
+use Rattle.charsets.specs.declared.decoder.Coding.{Coding}
 use Rattle.charsets.specs.Units.{units}
 use Rattle.charsets.proofs.Joins.{units-can}
-use Rattle.control_parser.specs.declared.func.Func.TheVariants.{Esc, Csi}
+use Rattle.control_parser.specs.declared.parser.Func.TheVariants.{Esc, Csi}
 use Rattle.control_parser.specs.Text.{fields}
 use Rattle.control_parser.specs.Grammar.{Rest, nothing, escape, control, functions, functions_behind, begun_by}
 use Rattle.control_parser.specs.Grammar as grammar

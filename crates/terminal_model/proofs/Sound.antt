@@ -11,7 +11,7 @@ use Rattle.cells.specs.Page.{line_at, IsPage, IsGridSize}
 use Rattle.cells.specs.Resizing.{line_resized}
 use Rattle.cells.proofs.Pages.{IsPage-page_from, IsPaired-nil}
 use Rattle.cells.proofs.Resizing.{length-line_resized}
-use Rattle.control_parser.specs.declared.func.Func.{Func}
+use Rattle.control_parser.specs.declared.parser.Func.{Func}
 use Rattle.terminal_model.specs.declared.action.Action.{Action}
 use Rattle.terminal_model.specs.declared.action.Action.TheVariants as acts
 use Rattle.terminal_model.specs.declared.action.Mode.TheVariants as modes

@@ -2,12 +2,12 @@
 use Rattle.std.proofs.Common.{arith}
 use Rattle.std.proofs.Common.{◌≡◌, ℕ, List, [], ◌∷◌, ◌++◌, refl, ◌∙◌}
 use Rattle.std.specs.List.{AllByRecursion}
-use Rattle.charsets.specs.declared.unit.Unit.{Unit}
-use Rattle.charsets.specs.declared.unit.Coding.{Coding}
+use Rattle.charsets.specs.declared.decoder.Unit.{Unit}
+use Rattle.charsets.specs.declared.decoder.Coding.{Coding}
 use Rattle.charsets.specs.Units.{units}
 use Rattle.charsets.proofs.Joins.{units-rest}
 use Rattle.cells.specs.Page.{IsGridSize}
-use Rattle.control_parser.specs.declared.func.Func.{Func}
+use Rattle.control_parser.specs.declared.parser.Func.{Func}
 use Rattle.control_parser.specs.Grammar.{functions}
 use Rattle.control_parser.specs.Kept.{opening}
 use Rattle.control_parser.proofs.Openings.{functions-opening}

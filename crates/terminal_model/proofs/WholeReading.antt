@@ -5,11 +5,11 @@ use Rattle.std.proofs.Common.{arith}
 use Rattle.std.proofs.Common.{◌≡◌, ℕ, List, [], ◌∷◌, ◌++◌, refl, sym, ap, ◌∙◌, append_assoc}
 use Rattle.std.proofs.lemmas.List.{map-append}
 use Rattle.std.specs.List.{AllByRecursion}
-use Rattle.charsets.specs.declared.unit.Unit.{Unit}
-use Rattle.charsets.specs.declared.unit.Coding.{Coding}
+use Rattle.charsets.specs.declared.decoder.Unit.{Unit}
+use Rattle.charsets.specs.declared.decoder.Coding.{Coding}
 use Rattle.charsets.specs.Units.{units}
 use Rattle.charsets.proofs.Joins.{units-go_on}
-use Rattle.control_parser.specs.declared.func.Func.{Func}
+use Rattle.control_parser.specs.declared.parser.Func.{Func}
 use Rattle.control_parser.specs.Grammar.{functions, with_front}
 use Rattle.control_parser.specs.Kept.{opening}
 use Rattle.control_parser.proofs.Openings.{functions-go_on}

@@ -7,7 +7,7 @@ use Rattle.cells.specs.declared.marks.Marks.TheVariants.{Bare, One, Two}
 use Rattle.cells.specs.declared.cell.Cell.{Cell}
 use Rattle.cells.specs.Line.{cell_at, is_left, is_right, right_cell, unprotected}
 use Rattle.cells.specs.Page.{line_at}
-use Rattle.control_parser.specs.declared.func.Func.TheVariants.{Print}
+use Rattle.control_parser.specs.declared.parser.Func.TheVariants.{Print}
 use Rattle.control_parser.specs.Spelling.{IsGiven}
 use Rattle.terminal_model.specs.Screen.{Page, Screen}
 use Rattle.terminal_model.specs.Printing.{columns_of, drawn}

@@ -6,17 +6,17 @@ use Rattle.std.specs.Prelude.{option_map}
 use Rattle.std.specs.List.{flat_map}
 use Prim.Native.Char.{code}
 use Rattle.charsets.specs.Entries.{entry_at, entry_or}
-use Rattle.charsets.specs.declared.unit.Coding.TheVariants.{Utf8, Ecma35}
-use Rattle.charsets.specs.declared.unit.Unit.TheVariants as units
-use Rattle.charsets.specs.declared.sets.CharacterSet.{CharacterSet}
-use Rattle.charsets.specs.declared.sets.CharacterSet.TheVariants.{Ascii, UnitedKingdom}
-use Rattle.charsets.specs.declared.sets.CharacterSet.TheVariants.{SpecialGraphics, Supplemental}
+use Rattle.charsets.specs.declared.decoder.Coding.TheVariants.{Utf8, Ecma35}
+use Rattle.charsets.specs.declared.decoder.Unit.TheVariants as units
+use Rattle.charsets.specs.declared.shifts.CharacterSet.{CharacterSet}
+use Rattle.charsets.specs.declared.shifts.CharacterSet.TheVariants.{Ascii, UnitedKingdom}
+use Rattle.charsets.specs.declared.shifts.CharacterSet.TheVariants.{SpecialGraphics, Supplemental}
 use Rattle.charsets.specs.declared.shifts.Place.{Place}
 use Rattle.charsets.specs.declared.shifts.Place.TheVariants.{G0, G1, G2, G3}
 use Rattle.charsets.specs.declared.shifts.Shift.TheVariants.{Si, So, Ls2, Ls3, Ls1r, Ls2r, Ls3r}
 use Rattle.charsets.specs.declared.shifts.Shift.TheVariants.{Ss2, Ss3}
-use Rattle.control_parser.specs.declared.func.Func.{Func}
-use Rattle.control_parser.specs.declared.func.Func.TheVariants as funcs
+use Rattle.control_parser.specs.declared.parser.Func.{Func}
+use Rattle.control_parser.specs.declared.parser.Func.TheVariants as funcs
 use Rattle.terminal_model.specs.declared.action.Part.{Part}
 use Rattle.terminal_model.specs.declared.action.Part.TheVariants.{ToEnd, ToStart, All}
 use Rattle.cells.specs.declared.rendition.Colour.{Colour}

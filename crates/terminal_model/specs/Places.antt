@@ -2,7 +2,7 @@
 use Rattle.std.specs.Prelude.{◌≡◌, ℕ, ◌+◌, ◌-◌, ◌==◌, Bool, true, false, ◌&&◌, nat_lt, nat_le}
 use Rattle.std.specs.Prelude.{if◌then◌else◌, List, [], ◌∷◌, length, None, cond, ◌++◌}
 use Prim.Native.Char.{code}
-use Rattle.charsets.specs.declared.sets.CharacterSet.TheVariants.{Ascii}
+use Rattle.charsets.specs.declared.shifts.CharacterSet.TheVariants.{Ascii}
 use Rattle.charsets.specs.Shifts.{set_at}
 use Rattle.cells.specs.declared.cell.Cell.{Cell}
 use Rattle.cells.specs.declared.rendition.Colour.{Colour}

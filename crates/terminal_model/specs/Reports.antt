@@ -1,9 +1,9 @@
 -- The answers of a terminal.
 use Rattle.std.specs.Prelude.{ℕ, ◌+◌, ◌-◌, codes, cond, List, [], ◌∷◌, ◌++◌}
 use Prim.Native.Char.{code}
-use Rattle.charsets.specs.declared.unit.Coding.{Coding}
-use Rattle.charsets.specs.declared.unit.Coding.TheVariants.{Utf8, Ecma35}
-use Rattle.control_parser.specs.declared.func.Func.{Func}
+use Rattle.charsets.specs.declared.decoder.Coding.{Coding}
+use Rattle.charsets.specs.declared.decoder.Coding.TheVariants.{Utf8, Ecma35}
+use Rattle.control_parser.specs.declared.parser.Func.{Func}
 use Rattle.control_parser.specs.Spelling.{decimal}
 use Rattle.terminal_model.specs.declared.state.State.{State}
 use Rattle.terminal_model.specs.declared.action.Action.{Action}

@@ -2,7 +2,7 @@
 use Rattle.std.specs.Prelude.{◌≡◌, ℕ, ◌-◌, ◌%◌, ◌==◌, ◌<◌, ◌≤◌, Bool, true, false, not, ◌&&◌, List}
 use Rattle.std.specs.Prelude.{[], ◌∷◌, length, map, take, replicate, Option, None, IfSome}
 use Rattle.std.specs.List.{range_with_len}
-use Rattle.charsets.specs.declared.unit.Coding.TheVariants.{Utf8}
+use Rattle.charsets.specs.declared.decoder.Coding.TheVariants.{Utf8}
 use Rattle.charsets.specs.Shifts.{starting as starting_shifts}
 use Rattle.cells.specs.declared.cell.Cell.{Cell}
 use Rattle.cells.specs.Line.{blank, plain, IsPaired, Source}

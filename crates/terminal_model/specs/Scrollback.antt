@@ -6,7 +6,7 @@ use Rattle.std.specs.List.{flat_map}
 use Rattle.charsets.specs.Shifts.{mapped}
 use Rattle.cells.specs.Page.{line_at}
 use Rattle.cells.specs.Resizing.{line_resized}
-use Rattle.control_parser.specs.declared.func.Func.{Func}
+use Rattle.control_parser.specs.declared.parser.Func.{Func}
 use Rattle.terminal_model.specs.declared.state.State.{State}
 use Rattle.terminal_model.specs.declared.action.Action.{Action}
 use Rattle.terminal_model.specs.declared.action.Action.TheVariants.{Print, LineFeed, Index}

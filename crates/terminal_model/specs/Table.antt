@@ -6,7 +6,7 @@ use Rattle.charsets.specs.Shifts.{designated, shifted, mapped, spent}
 use Rattle.cells.specs.Line.{blank, plain, narrow_cell, spliced}
 use Rattle.cells.specs.Page.{page_from}
 use Rattle.cells.specs.Moves.{erased_lines, filled}
-use Rattle.control_parser.specs.declared.func.Func.{Func}
+use Rattle.control_parser.specs.declared.parser.Func.{Func}
 use Rattle.terminal_model.specs.declared.state.State.{State}
 use Rattle.terminal_model.specs.declared.action.Action.{Action}
 use Rattle.terminal_model.specs.declared.action.Action.TheVariants.{Print, Backspace, Tab, LineFeed}

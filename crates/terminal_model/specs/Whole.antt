@@ -2,7 +2,7 @@
 use Rattle.std.specs.Prelude.{◌≡◌, ℕ, List, ◌++◌, map}
 use Rattle.std.specs.List.{AllByRecursion}
 use Rattle.charsets.specs.Units.{units}
-use Rattle.control_parser.specs.declared.func.Func.{Func}
+use Rattle.control_parser.specs.declared.parser.Func.{Func}
 use Rattle.control_parser.specs.Grammar.{Rest, functions}
 use Rattle.control_parser.specs.Kept.{opening}
 use Rattle.terminal_model.specs.Table.{effect}

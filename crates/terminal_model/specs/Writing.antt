@@ -1,7 +1,7 @@
 -- What happens to a window's terminal: its program's output, changes of size, and commands.
 use Rattle.std.specs.Prelude.{ℕ, codes, List, [], ◌∷◌, ◌++◌}
-use Rattle.charsets.specs.declared.unit.Coding.{Coding}
-use Rattle.charsets.specs.declared.unit.Coding.TheVariants.{Utf8, Ecma35}
+use Rattle.charsets.specs.declared.decoder.Coding.{Coding}
+use Rattle.charsets.specs.declared.decoder.Coding.TheVariants.{Utf8, Ecma35}
 use Rattle.cells.specs.Page.{IsGridSize}
 use Rattle.terminal_model.specs.Sizing.{resized}
 use Rattle.terminal_model.specs.Reading.{Terminal, ready, Read, nothing_read, joined, reads}

@@ -4,14 +4,14 @@ ghost use Rattle.std.specs.Prelude.{◌≡◌, ℕ, ◌+◌, ◌-◌, ◌<◌, �
 ghost use Rattle.std.specs.Prelude.{if◌then◌else◌, List, [], ◌∷◌, ◌++◌, length};
 ghost use Rattle.std.specs.Prelude.{replicate, Option, Some, None};
 ghost use Rattle.std.specs.List.{AllByRecursion};
-ghost use Rattle.charsets.specs.declared.unit.Unit.TheVariants.{Code};
+ghost use Rattle.charsets.specs.declared.decoder.Unit.TheVariants.{Code};
 ghost use Rattle.charsets.specs.Shifts.{is_graphic};
 ghost use Rattle.cells.specs.declared.cell.Cell.{Cell};
 ghost use Rattle.cells.specs.declared.rendition.Rendition.{Rendition};
 ghost use Rattle.cells.specs.Line.{blank, IsPaired, spliced};
 ghost use Rattle.cells.specs.Page.{line_at, IsPage, IsGridSize, page_from, page_marked, edited};
-ghost use Rattle.control_parser.specs.declared.func.Func.{Func};
-ghost use Rattle.control_parser.specs.declared.func.Func.TheVariants.{Print, Esc, Csi};
+ghost use Rattle.control_parser.specs.declared.parser.Func.{Func};
+ghost use Rattle.control_parser.specs.declared.parser.Func.TheVariants.{Print, Esc, Csi};
 ghost use Rattle.control_parser.specs.Spelling.{IsGiven, coding_of, spelling};
 ghost use Rattle.terminal_model.specs.declared.action.Action.{Action};
 ghost use Rattle.terminal_model.specs.declared.action.Action.TheVariants.{SetMargins, Render};

@@ -5,7 +5,6 @@
 
 mod action;
 mod laws;
-mod limits;
 mod report;
 mod rows;
 mod state;
@@ -18,7 +17,9 @@ pub use laws::{
     printed_ones_stand_at_places, reading_is_of_the_whole, renditions_and_modes_change_alone,
     screens_stay_sound, spelled_ones_act_alone, terminals_stay_terminals,
 };
-pub use limits::{MAX_COLUMNS, MAX_KEEP, MAX_ROWS, MIN_COLUMNS, MIN_ROWS, REPORT_BYTES};
 pub use report::Report;
 pub use rows::{coded_rows, coloured_rows, drawn_rows, edited_rows, printed_rows};
-pub use state::{Modes, Position, Saved, State};
+pub use state::{
+    MAX_COLUMNS, MAX_KEEP, MAX_ROWS, MIN_COLUMNS, MIN_ROWS, Modes, Position, REPORT_BYTES, Saved,
+    State,
+};

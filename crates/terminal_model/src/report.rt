@@ -2,7 +2,7 @@
 
 ghost use Rattle.std.specs.Prelude.{◌≡◌, ◌≤◌, ◌<◌, ◌+◌, ◌==◌, [], ◌∷◌, ◌++◌, length};
 
-use crate::limits::REPORT_BYTES;
+use crate::state::REPORT_BYTES;
 use std::marker::Model;
 
 /// A report: at most 24 bytes.

@@ -11,7 +11,7 @@ ghost use Rattle.terminal_model.specs.Reading.{ready};
 ghost use Rattle.terminal_model.specs.Writing.{Output, writes_all};
 ghost use Rattle.std.specs.List.{AllByRecursion};
 ghost use Rattle.std.specs.Prelude.{None};
-ghost use Rattle.control_parser.specs.declared.func.Func.TheVariants.{Csi};
+ghost use Rattle.control_parser.specs.declared.parser.Func.TheVariants.{Csi};
 ghost use Rattle.terminal_model.specs.Drawing.{IsDiscreet, IsListed};
 ghost use Rattle.terminal_model.specs.Rows.{fresh_reads, with_cursor, letters, protected_letters};
 ghost use Rattle.terminal_model.specs.Rows.{in_colours, wide_in_colour, wide, seen, shown};

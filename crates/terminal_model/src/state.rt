@@ -1,7 +1,23 @@
-//! The state of a terminal: what it holds beside its page, tab stops, saved place and scrollback.
+//! The state of a terminal: what it holds beside its page, tab stops, saved place and scrollback; and its limits.
 
 use cells::Rendition;
 use charsets::{Coding, Shifts};
+
+/// The least and the greatest number of lines of a window's page.
+pub const MIN_ROWS: usize = 2;
+
+pub const MAX_ROWS: usize = 200;
+
+/// The least and the greatest number of columns of a window's page.
+pub const MIN_COLUMNS: usize = 2;
+
+pub const MAX_COLUMNS: usize = 300;
+
+/// The greatest number of lines that a window's scrollback keeps.
+pub const MAX_KEEP: usize = 2000;
+
+/// The greatest number of bytes of a report.
+pub const REPORT_BYTES: usize = 24;
 
 /// A place of the page. Lines and columns count from 0.
 #[derive(Clone, Copy, Debug, PartialEq, Eq)]

@@ -11,7 +11,7 @@ use Rattle.acl.specs.declared.act.Object.TheVariants as object
 use Rattle.acl.specs.declared.act.PresetKind.{PresetKind}
 use Rattle.acl.specs.declared.bits.Bit.TheVariants.{Execute}
 use Rattle.acl.specs.declared.bits.BitChange.{BitChange}
-use Rattle.acl.specs.declared.edition.Edition.{Edition}
+use Rattle.acl.specs.declared.leaders.Edition.{Edition}
 use Rattle.acl.specs.declared.entries.MaskEntry.{MaskEntry}
 use Rattle.acl.specs.declared.entries.MaskScope.{MaskScope}
 use Rattle.acl.specs.declared.entries.MaskScope.TheVariants as scope
@@ -32,7 +32,7 @@ use Rattle.session.specs.refusal.Refusal.TheVariants.{Acl, UnknownUser}
 use Rattle.session.specs.refusal.Refusal.{Refusal}
 use Rattle.session.specs.Answering.{answered, commanded, line_ruling}
 use Rattle.session.specs.Checks.{checks, checks_by, first_fault, refusal_of, verdicts}
-use Rattle.session.specs.check.Check.TheVariants.{Right as right}
+use Rattle.session.specs.refusal.Check.TheVariants.{Right as right}
 use Rattle.session.specs.Commands.{does, mask_entries}
 use Rattle.session.specs.Deeds.{Answer, Deed, acting, changing, given, unless}
 use Rattle.session.specs.Events.{outcome}
@@ -47,7 +47,7 @@ use Rattle.std.proofs.Common.{subst}
 use Rattle.acl.specs.History.{decides_known, has, latest}
 use Rattle.std.specs.List.{list_any}
 use Rattle.session.specs.Deeds.{changes as on_lists}
-use Rattle.acl.specs.declared.faults.AclFault.{AclFault}
+use Rattle.acl.specs.declared.entries.AclFault.{AclFault}
 use Rattle.acl.specs.Commands.{group_acts, scope_acts, scope_fault}
 
 -- ---- one event

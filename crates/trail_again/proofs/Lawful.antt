@@ -7,10 +7,10 @@ use Rattle.std.specs.List.{AllByRecursion}
 use Rattle.std.proofs.lemmas.List.{append-nil}
 use Rattle.std.proofs.lemmas.List.Folds.{list_any-append}
 use Rattle.acl.specs.declared.act.Act.TheVariants as act
-use Rattle.acl.specs.declared.edition.Edition.{Edition}
-use Rattle.acl.specs.declared.edition.Edition.TheVariants.{First, Second}
+use Rattle.acl.specs.declared.leaders.Edition.{Edition}
+use Rattle.acl.specs.declared.leaders.Edition.TheVariants.{First, Second}
 use Rattle.acl.specs.declared.user_id.UserId.{UserId}
-use Rattle.acl.specs.limits.TheConstants.{USERS}
+use Rattle.acl.specs.slots.TheConstants.{USERS}
 use Rattle.acl.specs.History.{History, among, leaders_of, leaders_with, users_of, without_user}
 use Rattle.acl.specs.Same.{same_user}
 use Rattle.acl.proofs.FollowingLemmas.{same_user-sym}

@@ -22,7 +22,7 @@ use Rattle.trail_again.proofs.Masking.{said, said_of}
 use Rattle.trail_again.proofs.Openers.{Said, acts_for}
 use Rattle.trail_again.proofs.Setting.{Distinct, keyed}
 use Rattle.trail_again.proofs.Touching.{Without, commands_stay, none_append, none_flat, on_commands, stays}
-use Rattle.acl.specs.declared.edition.Edition.TheVariants.{First}
+use Rattle.acl.specs.declared.leaders.Edition.TheVariants.{First}
 
 flat_acts : (by : UserId) (xs ys : List Said)
     → flat_map (acts_for by) (xs ++ ys) ≡ flat_map (acts_for by) xs ++ flat_map (acts_for by) ys

@@ -6,16 +6,16 @@ use Rattle.std.specs.Option.{option_or}
 use Rattle.std.proofs.lemmas.Bool.Decides.{nat_tests}
 use Rattle.acl.specs.declared.act.Act.{Act}
 use Rattle.acl.specs.declared.act.Act.TheVariants as act
-use Rattle.acl.specs.declared.edition.Edition.{Edition}
-use Rattle.acl.specs.declared.edition.Edition.TheVariants.{First, Second}
+use Rattle.acl.specs.declared.leaders.Edition.{Edition}
+use Rattle.acl.specs.declared.leaders.Edition.TheVariants.{First, Second}
 use Rattle.acl.specs.declared.user_id.UserId.{UserId}
-use Rattle.acl.specs.limits.TheConstants.{USERS}
+use Rattle.acl.specs.slots.TheConstants.{USERS}
 use Rattle.acl.specs.History.{History, among, followed_by, leaders_of, leaders_with, users_of}
 use Rattle.acl.specs.Same.{same_user}
 use Rattle.acl.proofs.FollowingLemmas.{same_user-sym}
-use Rattle.acl.specs.declared.faults.AclFault.{AclFault}
-use Rattle.acl.specs.declared.faults.AclFault.TheVariants.{NoSuchGroup, OwnerKept, TooManyGroups, TooManyUsers}
-use Rattle.acl.specs.declared.faults.AclFault.TheVariants.{UnknownUser}
+use Rattle.acl.specs.declared.entries.AclFault.{AclFault}
+use Rattle.acl.specs.declared.entries.AclFault.TheVariants.{NoSuchGroup, OwnerKept, TooManyGroups, TooManyUsers}
+use Rattle.acl.specs.declared.entries.AclFault.TheVariants.{UnknownUser}
 use Rattle.acl.specs.declared.entries.NewLeader.TheVariants.{Named}
 use Rattle.acl.specs.Commands.{known_name_fault, leader_fault, new_name_fault}
 use Rattle.hub.specs.Judging.{CanFollow, can_follow}

@@ -10,7 +10,7 @@ use Rattle.acl.specs.declared.bits.Bit.{Bit}
 use Rattle.acl.specs.declared.bits.Bit.TheVariants.{Execute, Read, Write}
 use Rattle.acl.specs.declared.command_name.CommandName.{CommandName}
 use Rattle.acl.specs.declared.command_name.CommandName.TheVariants as name
-use Rattle.acl.specs.declared.edition.Edition.{Edition}
+use Rattle.acl.specs.declared.leaders.Edition.{Edition}
 use Rattle.acl.specs.declared.user_id.UserId.{UserId}
 use Rattle.acl.specs.History.{History, among, followed_by, has, is_known, mask, may, users_of}
 use Rattle.acl.specs.Names.{name_of}

@@ -13,7 +13,7 @@ use Rattle.acl.specs.declared.act.PresetKind.TheVariants as preset
 use Rattle.acl.specs.declared.bits.Bit.TheVariants.{Execute}
 use Rattle.acl.specs.declared.bits.BitChange.{BitChange}
 use Rattle.acl.specs.declared.command_name.CommandName.TheVariants as name
-use Rattle.acl.specs.declared.edition.Edition.{Edition}
+use Rattle.acl.specs.declared.leaders.Edition.{Edition}
 use Rattle.acl.specs.declared.entries.MaskEntry.{MaskEntry}
 use Rattle.acl.specs.declared.entries.MaskScope.{MaskScope}
 use Rattle.acl.specs.declared.entries.MaskScope.TheVariants as scope

@@ -11,7 +11,7 @@ use Rattle.std.proofs.lemmas.Str.Ascii.{IsAscii-cons, IsAscii-nil}
 use Rattle.acl.specs.declared.command_name.CommandName.{CommandName}
 use Rattle.acl.specs.declared.command_name.CommandName.TheVariants as name
 use Rattle.strings.specs.Grammar.{IsCut}
-use Rattle.strings.specs.declared.word.Word.{Word}
+use Rattle.strings.specs.declared.text.Word.{Word}
 use Rattle.command_lang.specs.declared.command.Command.{Command}
 use Rattle.command_lang.specs.declared.fault.FaultKind.TheVariants as faults
 use Rattle.command_lang.specs.LineFaults.{line_faults, named_faults}

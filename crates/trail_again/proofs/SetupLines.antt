@@ -15,12 +15,12 @@ use Rattle.acl.specs.declared.act.LockMode.TheVariants as lock_mode
 use Rattle.acl.specs.declared.act.Object.{Object}
 use Rattle.acl.specs.declared.bits.BitChange.{BitChange}
 use Rattle.acl.specs.declared.command_name.CommandName.TheVariants as name
-use Rattle.acl.specs.declared.edition.Edition.{Edition}
+use Rattle.acl.specs.declared.leaders.Edition.{Edition}
 use Rattle.acl.specs.declared.entries.NewLeader.TheVariants as new_leader
-use Rattle.acl.specs.declared.faults.AclFault.TheVariants.{NoSuchGroup, OwnerKept, TooManyGroups, TooManyUsers}
-use Rattle.acl.specs.declared.faults.AclFault.TheVariants.{UnknownUser}
+use Rattle.acl.specs.declared.entries.AclFault.TheVariants.{NoSuchGroup, OwnerKept, TooManyGroups, TooManyUsers}
+use Rattle.acl.specs.declared.entries.AclFault.TheVariants.{UnknownUser}
 use Rattle.acl.specs.declared.user_id.UserId.{UserId}
-use Rattle.acl.specs.limits.TheConstants.{USERS}
+use Rattle.acl.specs.slots.TheConstants.{USERS}
 use Rattle.acl.specs.Commands.{change_acts, change_fault, group_fault, known_name_fault, leader_fault}
 use Rattle.acl.specs.Commands.{sets, user_acts, with_name}
 use Rattle.acl.specs.History.{History, among, followed_by, leaders_of, leaders_with, users_of}

@@ -7,7 +7,7 @@ use Rattle.acl.specs.declared.act.Object.TheVariants.{Command}
 use Rattle.acl.specs.declared.act.PresetKind.{PresetKind}
 use Rattle.acl.specs.declared.bits.Bit.{Bit}
 use Rattle.acl.specs.declared.command_name.CommandName.{CommandName}
-use Rattle.acl.specs.declared.edition.Edition.{Edition}
+use Rattle.acl.specs.declared.leaders.Edition.{Edition}
 use Rattle.acl.specs.declared.user_id.UserId.{UserId}
 use Rattle.acl.specs.History.{History, followed_by, has, is_known, leaders_of, mask, preset_of, users_of}
 

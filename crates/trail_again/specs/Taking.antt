@@ -1,6 +1,6 @@
 -- A session takes commands, one after another.
 use Rattle.std.specs.Prelude.{◌≡◌, true, List, [], ◌∷◌, IsOk}
-use Rattle.acl.specs.declared.edition.Edition.{Edition}
+use Rattle.acl.specs.declared.leaders.Edition.{Edition}
 use Rattle.acl.specs.declared.user_id.UserId.{UserId}
 use Rattle.acl.specs.History.{History}
 use Rattle.session.specs.Events.{outcome}

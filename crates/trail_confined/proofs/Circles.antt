@@ -1,7 +1,7 @@
 -- What confinement rests on for users and their leaders.
 use Rattle.std.proofs.Common.{◌≡◌, ◌∙◌, List, ◌++◌, ap}
 use Rattle.std.specs.List.{flat_map}
-use Rattle.acl.specs.declared.edition.Edition.{Edition}
+use Rattle.acl.specs.declared.leaders.Edition.{Edition}
 use Rattle.acl.specs.declared.user_id.UserId.{UserId}
 use Rattle.acl.specs.History.{History}
 use Rattle.trail_confined.specs.Confining.{circles_of, openers_of, masks_of, powers_of, standing_of}

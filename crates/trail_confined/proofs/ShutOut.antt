@@ -8,7 +8,7 @@ use Rattle.acl.specs.declared.bits.Bit.TheVariants.{Read, Write, Execute}
 use Rattle.acl.specs.declared.command_name.CommandName.{CommandName}
 use Rattle.acl.specs.declared.command_name.CommandName.TheVariants as name
 use Rattle.acl.specs.declared.act.Object.TheVariants as object
-use Rattle.acl.specs.declared.edition.Edition.{Edition}
+use Rattle.acl.specs.declared.leaders.Edition.{Edition}
 use Rattle.acl.specs.declared.user_id.UserId.{UserId}
 use Rattle.acl.specs.History.{History, among, is_known, mask, may, users_of}
 use Rattle.acl.specs.Same.{same_user, same_bit}

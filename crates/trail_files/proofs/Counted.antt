@@ -1,6 +1,6 @@
 -- How a file ends, by the number of entries that were read.
 use Rattle.std.proofs.Common.{◌∙◌, ℕ, List, Option, length, subst}
-use Rattle.acl.specs.declared.edition.Edition.{Edition}
+use Rattle.acl.specs.declared.leaders.Edition.{Edition}
 use Rattle.acl.specs.declared.user_id.UserId.{UserId}
 use Rattle.trail_lines.specs.Entries.{Said}
 use Rattle.trail_lines.specs.declared.audit.Audit.{Audit}

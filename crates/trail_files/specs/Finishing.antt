@@ -1,6 +1,6 @@
 -- How a trail's file ends, and the exit status that says so.
 use Rattle.std.specs.Prelude.{ℕ, ◌≡◌, ◌≢◌, Bool, true, false, List, [], length, Option, Some, None, IfSome}
-use Rattle.acl.specs.declared.edition.Edition.{Edition}
+use Rattle.acl.specs.declared.leaders.Edition.{Edition}
 use Rattle.acl.specs.declared.user_id.UserId.{UserId}
 use Rattle.trail_lines.specs.declared.audit.Audit.{Audit}
 use Rattle.trail_lines.specs.declared.ending.Ended.{Ended}

@@ -1,7 +1,7 @@
 //! How a trail's file ends.
 
 ghost use Rattle.std.specs.Prelude.{◌≡◌, [], IfOk, None};
-ghost use Rattle.acl.specs.declared.edition.Edition.{Edition};
+ghost use Rattle.acl.specs.declared.leaders.Edition.{Edition};
 ghost use Rattle.acl.specs.declared.user_id.UserId.{UserId};
 ghost use Rattle.trail_lines.specs.Reading.{HasRead};
 ghost use Rattle.trail_files.specs.Finishing.{is_bad, EndsAt, Finishes, IfEndOf, IsChecked};

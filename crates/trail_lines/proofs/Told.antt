@@ -8,7 +8,7 @@ use Rattle.std.proofs.lemmas.Bool.Decides.{nat_tests}
 use Rattle.std.proofs.lemmas.Option.{same_Some}
 use Rattle.std.proofs.lemmas.Slice.Eq.{bytes_eq-Decides}
 use Rattle.acl.specs.declared.act.Act.{Act}
-use Rattle.session.specs.verdict.Verdict.{Verdict}
+use Rattle.session.specs.refusal.Verdict.{Verdict}
 use Rattle.hub.specs.kept.Kept.{Kept}
 use Rattle.hub.specs.kept.Kept.TheVariants as kept
 use Rattle.hub.specs.Trails.{Entry}

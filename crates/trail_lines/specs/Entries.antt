@@ -5,7 +5,7 @@ use Rattle.std.specs.Prelude.{Some, None, option_map, codes, decimal}
 use Rattle.std.specs.List.{flat_map}
 use Rattle.std.specs.Str.{bytes_eq}
 use Rattle.acl.specs.declared.act.Act.{Act}
-use Rattle.session.specs.verdict.Verdict.{Verdict}
+use Rattle.session.specs.refusal.Verdict.{Verdict}
 use Rattle.hub.specs.Trails.{Ending, Entry}
 use Rattle.line_fields.specs.Cutting.{◌>>=◌, words}
 use Rattle.trail_lines.specs.declared.entries.Remark.{Remark}

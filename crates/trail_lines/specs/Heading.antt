@@ -3,8 +3,8 @@ use Rattle.std.specs.Prelude.{ℕ, ◌≡◌, ◌<◌, ◌^◌, Bool, true, if�
 use Rattle.std.specs.Prelude.{Option, Some, None, codes, decimal, not, ◌==◌}
 use Rattle.std.specs.List.{list_all}
 use Rattle.std.specs.Str.{bytes_eq}
-use Rattle.acl.specs.declared.edition.Edition.{Edition}
-use Rattle.acl.specs.declared.edition.Edition.TheVariants as edition
+use Rattle.acl.specs.declared.leaders.Edition.{Edition}
+use Rattle.acl.specs.declared.leaders.Edition.TheVariants as edition
 use Rattle.acl.specs.declared.user_id.UserId.{UserId}
 use Rattle.acl.specs.Names.{name_of}
 use Rattle.line_fields.specs.Cutting.{◌>>=◌, cut}

@@ -4,9 +4,9 @@ use Rattle.std.specs.Prelude.{length, map, Option, Some, None, option_map, Ok, E
 use Rattle.std.specs.Str.{bytes_eq}
 use Rattle.acl.specs.declared.act.Object.{Object}
 use Rattle.acl.specs.declared.act.Object.TheVariants as object
-use Rattle.acl.specs.declared.edition.Edition.TheVariants.{Second}
-use Rattle.acl.specs.declared.faults.AclFault.{AclFault}
-use Rattle.acl.specs.declared.faults.AclFault.TheVariants as acl
+use Rattle.acl.specs.declared.leaders.Edition.TheVariants.{Second}
+use Rattle.acl.specs.declared.entries.AclFault.{AclFault}
+use Rattle.acl.specs.declared.entries.AclFault.TheVariants as acl
 use Rattle.acl.specs.declared.user_id.UserId.{UserId}
 use Rattle.acl.specs.Commands.{number_of_fault}
 use Rattle.acl.specs.Names.{name_of, named_by}
@@ -15,15 +15,15 @@ use Rattle.command_lang.specs.declared.fault.FaultKind.{FaultKind}
 use Rattle.command_lang.specs.declared.fault.FaultKind.TheVariants as line
 use Rattle.command_lang.specs.FaultNumbers.{number_of}
 use Rattle.command_lang.specs.Names.{name_text}
-use Rattle.regions.specs.declared.fault.RegionFault.{RegionFault}
-use Rattle.regions.specs.declared.fault.RegionFault.TheVariants as region
+use Rattle.regions.specs.declared.layout.RegionFault.{RegionFault}
+use Rattle.regions.specs.declared.layout.RegionFault.TheVariants as region
 use Rattle.regions.specs.Faults as regions
 use Rattle.session.specs.refusal.Denied.{Denied}
 use Rattle.session.specs.refusal.Denied.TheVariants as denied
 use Rattle.session.specs.refusal.Refusal.{Refusal}
 use Rattle.session.specs.refusal.Refusal.TheVariants as refusal
-use Rattle.session.specs.windows_fault.WindowsFault.{WindowsFault}
-use Rattle.session.specs.windows_fault.WindowsFault.TheVariants as windows
+use Rattle.session.specs.rows.WindowsFault.{WindowsFault}
+use Rattle.session.specs.rows.WindowsFault.TheVariants as windows
 use Rattle.session.specs.Texts.{separated, windows_number}
 use Rattle.hub.specs.kept.Finished.{Finished}
 use Rattle.hub.specs.Trails.{Ending}

@@ -1,7 +1,7 @@
 //! Judges the lines of a trail's entries, one after another.
 
 ghost use Rattle.std.specs.Prelude.{◌≡◌, List, [], IfOk};
-ghost use Rattle.acl.specs.declared.edition.Edition.{Edition};
+ghost use Rattle.acl.specs.declared.leaders.Edition.{Edition};
 ghost use Rattle.acl.specs.declared.user_id.UserId.{UserId};
 ghost use Rattle.hub.specs.Trails.{Entry};
 ghost use Rattle.hub.specs.Legal.{acts_after};

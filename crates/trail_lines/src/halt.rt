@@ -1,7 +1,7 @@
 //! Reads a file's entries in one pass, with memory for the tables and one line.
 
 ghost use Rattle.std.specs.Prelude.{[], IfOk, IfSome};
-ghost use Rattle.acl.specs.declared.edition.Edition.{Edition};
+ghost use Rattle.acl.specs.declared.leaders.Edition.{Edition};
 ghost use Rattle.acl.specs.declared.user_id.UserId.{UserId};
 ghost use Rattle.trail_lines.specs.Reading.{HasRead};
 ghost use Rattle.trail_lines.specs.Halting.{IsEnd, IsRead, NextIs};

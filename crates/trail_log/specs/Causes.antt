@@ -6,8 +6,8 @@ use Rattle.acl.specs.declared.user_id.UserId.{UserId}
 use Rattle.session.specs.refusal.Refusal.{Refusal}
 use Rattle.session.specs.refusal.Refusal.TheVariants as refusal
 use Rattle.session.specs.refusal.EntryDenied.{EntryDenied as EntryDenial}
-use Rattle.session.specs.verdict.Verdict.{Verdict}
-use Rattle.session.specs.verdict.Verdict.TheVariants.{Right as right, Lock as lock}
+use Rattle.session.specs.refusal.Verdict.{Verdict}
+use Rattle.session.specs.refusal.Verdict.TheVariants.{Right as right, Lock as lock}
 use Rattle.session.specs.Texts.{missing_text, leader_text, text_of}
 use Rattle.line_fields.specs.Meaning.{meaning_text}
 

@@ -4,8 +4,8 @@ use Rattle.acl.specs.declared.act.Object.TheVariants as object
 use Rattle.acl.specs.declared.bits.Bit.TheVariants.{Execute}
 use Rattle.acl.specs.declared.command_name.CommandName.TheVariants.{Title}
 use Rattle.command_lang.specs.Names.{name_text}
-use Rattle.session.specs.verdict.Verdict.{Verdict}
-use Rattle.session.specs.verdict.Verdict.TheVariants.{Right as right, Lock as lock}
+use Rattle.session.specs.refusal.Verdict.{Verdict}
+use Rattle.session.specs.refusal.Verdict.TheVariants.{Right as right, Lock as lock}
 use Rattle.hub.specs.Legal.{asks_for_command}
 
 -- those before the first that asks for x on a command

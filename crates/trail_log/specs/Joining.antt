@@ -3,7 +3,7 @@ use Rattle.std.specs.Prelude.{ℕ, ◌+◌, ◌-◌, ◌&&◌, Bool, nat_lt, if�
 use Rattle.std.specs.Prelude.{Option, Some, None, option_map, Ok, Err, codes}
 use Rattle.std.specs.Str.{bytes_eq}
 use Rattle.client_words.specs.Visible.{visible}
-use Rattle.session.specs.verdict.Verdict.{Verdict}
+use Rattle.session.specs.refusal.Verdict.{Verdict}
 use Rattle.hub.specs.Clients.{user_in}
 use Rattle.hub.specs.kept.Kept.{Kept}
 use Rattle.hub.specs.kept.Kept.TheVariants as kept

@@ -10,7 +10,7 @@ use Rattle.command_lang.specs.declared.command.Command.{Command}
 use Rattle.command_lang.specs.declared.command.Command.TheVariants as command
 use Rattle.command_lang.specs.declared.fault.ParseFault.{ParseFault}
 use Rattle.command_lang.specs.Relation.{read_line}
-use Rattle.session.specs.verdict.Verdict.{Verdict}
+use Rattle.session.specs.refusal.Verdict.{Verdict}
 use Rattle.hub.specs.kept.Kept.{Kept}
 use Rattle.hub.specs.kept.Kept.TheVariants as kept
 use Rattle.hub.specs.Legal.{from_command, passes}

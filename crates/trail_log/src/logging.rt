@@ -1,7 +1,7 @@
 //! The log of a file's entries, one after another.
 
 ghost use Rattle.std.specs.Prelude.{◌≡◌, ◌++◌, List, [], None, IfErr, IfOk, OnOk};
-ghost use Rattle.acl.specs.declared.edition.Edition.{Edition};
+ghost use Rattle.acl.specs.declared.leaders.Edition.{Edition};
 ghost use Rattle.acl.specs.declared.user_id.UserId.{UserId};
 ghost use Rattle.trail_lines.specs.Entries.{Said};
 ghost use Rattle.trail_log.specs.Joining.{held_ms, held_text};

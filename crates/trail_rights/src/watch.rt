@@ -3,7 +3,7 @@
 
 ghost use Rattle.std.specs.Prelude.{◌≡◌, List, [], IfOk, IfSome, is_some, map};
 ghost use Rattle.std.specs.List.{AllByRecursion, list_all};
-ghost use Rattle.acl.specs.declared.edition.Edition.{Edition};
+ghost use Rattle.acl.specs.declared.leaders.Edition.{Edition};
 ghost use Rattle.acl.specs.declared.user_id.UserId.{UserId};
 ghost use Rattle.hub.specs.Following.{StandsAfter};
 ghost use Rattle.trail_lines.specs.Entries.{Said};

@@ -14,14 +14,14 @@ use Rattle.acl.specs.declared.bits.Bit.TheVariants.{Read, Write, Execute}
 use Rattle.acl.specs.declared.command_name.CommandName.{CommandName}
 use Rattle.acl.specs.declared.command_name.CommandName.TheVariants.{Quit}
 use Rattle.acl.specs.declared.user_id.UserId.{UserId}
-use Rattle.acl.specs.declared.edition.Edition.{Edition}
+use Rattle.acl.specs.declared.leaders.Edition.{Edition}
 use Rattle.acl.specs.History.{History, followed_by, mask, preset_of}
 use Rattle.acl.specs.Same.{same_command, same_preset, same_user}
 use Rattle.hub.specs.Judging.{CanFollow}
 use Rattle.hub.specs.Legal.{from_command}
 use Rattle.hub.specs.Trails.{Entry}
-use Rattle.session.specs.verdict.Verdict.{Verdict}
-use Rattle.session.specs.verdict.Verdict.TheVariants.{Right as right}
+use Rattle.session.specs.refusal.Verdict.{Verdict}
+use Rattle.session.specs.refusal.Verdict.TheVariants.{Right as right}
 use Rattle.trail_setup.specs.declared.mode.ModeSeen.{ModeSeen}
 use Rattle.trail_setup.specs.declared.state.SetMask.{SetMask}
 use Rattle.trail_setup.specs.declared.state.SetupState.{SetupState}

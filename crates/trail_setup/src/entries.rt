@@ -1,7 +1,7 @@
 //! What users have by their own entries, without what their leaders have.
 
 ghost use Rattle.std.specs.Prelude.{◌≡◌, ◌||◌, [], true, IfOk, OnOk};
-ghost use Rattle.acl.specs.declared.edition.Edition.{Edition};
+ghost use Rattle.acl.specs.declared.leaders.Edition.{Edition};
 ghost use Rattle.acl.specs.declared.user_id.UserId.{UserId};
 ghost use Rattle.acl.specs.History.{History, has, there};
 ghost use Rattle.acl.specs.Same.{same_user};

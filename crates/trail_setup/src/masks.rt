@@ -1,7 +1,7 @@
 //! The masks of a setup.
 
 ghost use Rattle.std.specs.Prelude.{◌≡◌, ◌∷◌, ◌++◌, [], OnOk, IfOk, true};
-ghost use Rattle.acl.specs.declared.edition.Edition.{Edition};
+ghost use Rattle.acl.specs.declared.leaders.Edition.{Edition};
 ghost use Rattle.acl.specs.declared.user_id.UserId.{UserId};
 ghost use Rattle.acl.specs.History.{History, among, is_open};
 ghost use Rattle.trail_setup.specs.Lines.{AddsWords, PutsLines, kind_of};

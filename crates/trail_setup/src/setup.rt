@@ -1,7 +1,7 @@
 //! The lines of a setup.
 
 ghost use Rattle.std.specs.Prelude.{◌≡◌, ◌++◌, [], List, OnOk, map};
-ghost use Rattle.acl.specs.declared.edition.Edition.{Edition};
+ghost use Rattle.acl.specs.declared.leaders.Edition.{Edition};
 ghost use Rattle.acl.specs.declared.user_id.UserId.{UserId};
 ghost use Rattle.acl.specs.History.{History};
 ghost use Rattle.acl.specs.Names.{name_of};

@@ -14,7 +14,7 @@ use Rattle.cells.specs.Page.{line_at}
 use Rattle.terminal_model.specs.Drawable.{IsDrawableCell, IsDrawableLine}
 use Rattle.terminal_model.specs.Shows.{View}
 use Rattle.regions.specs.declared.rect.Rect.{Rect}
-use Rattle.regions.specs.declared.rects.Rects.{Rects}
+use Rattle.regions.specs.declared.rect.Rects.{Rects}
 use Rattle.regions.specs.Pages.{has, times, one_if}
 use Rattle.view.specs.Drawable.{IsDrawable}
 use Rattle.view.specs.Granted.{Piece, Part, vacant, unread, read, AreDrawable, HasDrawableLines, pieces, region_piece}

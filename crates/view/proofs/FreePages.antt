@@ -7,8 +7,8 @@ use Rattle.cells.specs.Page.{line_at, IsGrid}
 use Rattle.terminal_model.specs.Places.{place}
 use Rattle.terminal_model.specs.Shows.{View}
 use Rattle.regions.specs.declared.rect.Rect.{Rect}
-use Rattle.regions.specs.declared.rects.Rects.{Rects}
-use Rattle.regions.specs.declared.way.Way.TheVariants.{Below, Right}
+use Rattle.regions.specs.declared.rect.Rects.{Rects}
+use Rattle.regions.specs.declared.node.Way.TheVariants.{Below, Right}
 use Rattle.regions.specs.Shapes.{Shape, region, split, upper, lower, left, right, boxes, separators}
 use Rattle.regions.specs.Pages.{box_of, status_of}
 use Rattle.view.specs.Composing.{HasPageSize}

@@ -6,8 +6,8 @@ use Rattle.std.proofs.lemmas.Bool.{cases_lt, ltb-true}
 use Rattle.std.proofs.lemmas.List.{ext_get_or, get_or-map, get_or_append_left, get_or-append-add, length-map}
 use Rattle.std.proofs.lemmas.List.FromFn.{length-map-range_with_len, get_or-map-range_with_len}
 use Rattle.regions.specs.declared.rect.Rect.{Rect}
-use Rattle.regions.specs.declared.rects.Rects.{Rects}
-use Rattle.regions.specs.declared.way.Way.TheVariants.{Below, Right}
+use Rattle.regions.specs.declared.rect.Rects.{Rects}
+use Rattle.regions.specs.declared.node.Way.TheVariants.{Below, Right}
 use Rattle.regions.specs.Shapes.{Shape, region, split, upper, lower, left, right, boxes, separators}
 use Rattle.regions.specs.Pages.{is_roomy, times, parts, TilesPage}
 use Rattle.regions.specs.Pages.{box_of}

@@ -11,7 +11,7 @@ use Rattle.cells.specs.Line.{blank}
 use Rattle.cells.specs.Page.{line_at, IsGrid}
 use Rattle.terminal_model.specs.Shows.{View}
 use Rattle.regions.specs.declared.rect.Rect.{Rect}
-use Rattle.regions.specs.declared.rects.Rects.{Rects}
+use Rattle.regions.specs.declared.rect.Rects.{Rects}
 use Rattle.regions.specs.Shapes.{Shape}
 use Rattle.regions.proofs.Room.{tall}
 use Rattle.terminal_model.specs.Screen.{Page}
@@ -24,8 +24,8 @@ use Rattle.view.specs.Drawable.{IsDrawable}
 use Rattle.view.proofs.Drawing.{pieces_drawn, view_drawn}
 use Rattle.view.specs.Composing.{HasPageSize}
 use Rattle.view.specs.Rows.{IsFree, AreFree, IsPlaced, Lays, FocusesOn}
-use Rattle.view.specs.declared.pane.Pane.{Pane}
-use Rattle.view.specs.declared.pane.Pane.TheVariants.{Empty}
+use Rattle.view.specs.declared.view.Pane.{Pane}
+use Rattle.view.specs.declared.view.Pane.TheVariants.{Empty}
 use Rattle.view.specs.Granted.{Piece, Part, vacant, part_of, AreParts, HasPairedLines, pieces, region_piece}
 use Rattle.view.specs.Granted.{separator_piece, status_piece, box_at, part_at, box_cell, caption_text, AreDrawable}
 use Rattle.view.specs.Granted.{cell_of, page_of, cursor_of, arrows_of, keypad_of, view_of, view_in}

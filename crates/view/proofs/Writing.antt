@@ -12,9 +12,9 @@ use Rattle.cells.specs.Line.{narrow_cell, left_cell, right_cell}
 use Rattle.cells.specs.Glyph.{drawn_as, glyph_columns}
 use Rattle.terminal_model.specs.Printing.{columns_of, drawn}
 use Rattle.unicode_width.specs.Width.{char_width}
-use Rattle.view.specs.declared.pane.Pane.{Pane}
-use Rattle.view.specs.declared.pane.Pane.TheVariants.{Empty, Hidden, Readable}
-use Rattle.view.specs.declared.pane.Contents.{Contents}
+use Rattle.view.specs.declared.view.Pane.{Pane}
+use Rattle.view.specs.declared.view.Pane.TheVariants.{Empty, Hidden, Readable}
+use Rattle.view.specs.declared.view.Contents.{Contents}
 use Rattle.view.specs.Granted.{part_of, caption_text}
 use Rattle.view.specs.Texts.{visible, char_cells, text_cells}
 

@@ -4,7 +4,7 @@ use Rattle.std.specs.Str.{all_scalars}
 use Rattle.cells.specs.declared.cell.Cell.{Cell}
 use Rattle.cells.specs.Line.{IsPaired}
 use Rattle.regions.specs.declared.rect.Rect.{Rect}
-use Rattle.regions.specs.declared.rects.Rects.{Rects}
+use Rattle.regions.specs.declared.rect.Rects.{Rects}
 use Rattle.regions.specs.Shapes.{Shape}
 use Rattle.terminal_model.specs.Shows.{View}
 use Rattle.view.specs.declared.view.Cursor.{Cursor}

@@ -10,15 +10,15 @@ use Rattle.cells.specs.declared.rendition.Rendition.{Rendition}
 use Rattle.cells.specs.Line.{blank, plain, narrow_cell, cell_at, IsPaired}
 use Rattle.cells.specs.Page.{line_at}
 use Rattle.regions.specs.declared.rect.Rect.{Rect}
-use Rattle.regions.specs.declared.rects.Rects.{Rects}
+use Rattle.regions.specs.declared.rect.Rects.{Rects}
 use Rattle.regions.specs.Shapes.{Shape}
 use Rattle.regions.specs.Pages.{IsRects, has_room, has}
 use Rattle.terminal_model.specs.declared.state.Position.{Position}
 use Rattle.terminal_model.specs.Shows.{View}
 use Rattle.terminal_model.specs.Drawable.{IsDrawableLine}
-use Rattle.view.specs.declared.pane.Pane.{Pane}
-use Rattle.view.specs.declared.pane.Pane.TheVariants.{Empty, Hidden, Readable}
-use Rattle.view.specs.declared.pane.Contents.{Contents}
+use Rattle.view.specs.declared.view.Pane.{Pane}
+use Rattle.view.specs.declared.view.Pane.TheVariants.{Empty, Hidden, Readable}
+use Rattle.view.specs.declared.view.Contents.{Contents}
 use Rattle.view.specs.declared.view.KeyModes.{KeyModes}
 use Rattle.view.specs.Texts.{uncut, text_at}
 

@@ -10,10 +10,9 @@ ghost use Rattle.view.specs.Composing.{HasPageSize, ShowsParts, ShowsDrawable, H
 ghost use Rattle.view.specs.Composing.{HasScalarCaption, TakesFocus, IsCursorOf};
 ghost use Rattle.view.specs.Composing.{LaysRow, LaysBoxRow, LaysBox, LaysSeparator, LaysStatus};
 
-use crate::pane::{Contents, Pane};
 use crate::region_rows::{BoxRow, box_row, first_shown, line_shown_whole, reverse};
 use crate::text::text_row;
-use crate::view::{Cursor, KeyModes, View};
+use crate::view::{Contents, Cursor, KeyModes, Pane, View};
 use cells::{Cell, Rendition};
 use regions::{Rect, Rects};
 use std::alloc::{AllocError, Global};

@@ -2,11 +2,9 @@
 #![tactic(auto)]
 
 mod composing;
-mod pane;
 mod region_rows;
 mod text;
 mod view;
 
 pub use composing::{compose, compose_over};
-pub use pane::{Contents, Pane};
-pub use view::{Cursor, KeyModes, View};
+pub use view::{Contents, Cursor, KeyModes, Pane, View};

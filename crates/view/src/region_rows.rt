@@ -9,8 +9,8 @@ ghost use Rattle.view.specs.Granted.{part_of, window_of, line_cell, reverse, sho
 ghost use Rattle.view.specs.Granted.{first_shown as first_shown_of, caption_text as caption_of};
 ghost use Rattle.view.specs.Composing.{HasScalarCaption};
 
-use crate::pane::{Contents, Pane};
 use crate::text::text_row;
+use crate::view::{Contents, Pane};
 use cells::{Attribute, Cell, Rendition};
 use regions::Rect;
 use std::alloc::{AllocError, Global};

@@ -1,4 +1,4 @@
-//! A client's page as it is to be shown.
+//! A client's page as it is to be shown, and the panes that it is made of.
 
 ghost use Rattle.std.specs.Prelude.{◌≡◌, ◌<◌, ◌≤◌, ◌↔◌, Err, length, IfOk, IfSome};
 ghost use Rattle.cells.specs.Line.{IsPaired};
@@ -7,6 +7,33 @@ ghost use Rattle.cells.specs.Page.{IsGrid, IsGridSize, line_at};
 use cells::{Cell, Grid, GridFault};
 use std::alloc::{AllocError, Global};
 use std::marker::Model;
+
+/// What a region shows.
+#[derive(Clone, Copy)]
+pub enum Pane<'a> {
+    /// No window.
+    Empty,
+    /// The window of this number, which the client's user may not read.
+    Hidden { number: u8 },
+    /// A window that the user may read.
+    Readable(Contents<'a>),
+}
+
+/// What is shown of a readable window.
+#[derive(Clone, Copy)]
+pub struct Contents<'a> {
+    pub number: u8,
+    pub title: &'a str,
+    /// Its lines: those of its page, or of its page moved back.
+    pub lines: &'a [&'a [Cell]],
+    /// The line and column of its cursor, from 0; `None` if the page is moved back.
+    pub cursor: Option<(usize, usize)>,
+    /// Text cursor enabled (DECTCEM).
+    pub shows_cursor: bool,
+    /// Reverse screen (DECSCNM).
+    pub is_inverted: bool,
+    pub modes: KeyModes,
+}
 
 /// Whether and at which place the cursor is shown. Lines and columns count from 0.
 #[derive(Clone, Copy, Debug, PartialEq, Eq)]

@@ -4,7 +4,7 @@ use Rattle.terminal_model.specs.declared.action.Action.{Action}
 use Rattle.terminal_model.specs.Screen.{Screen, IsSound}
 use Rattle.terminal_model.specs.Table.{acted, all_acted}
 use Rattle.terminal_model.proofs.Sound.{IsSound-acted}
-use Rattle.vt_screen.specs.declared.display.Display.{Display}
+use Rattle.vt_screen.specs.declared.screen.Display.{Display}
 use Rattle.vt_screen.specs.Displays.{IsFit, screen_of}
 use Rattle.vt_screen.specs.Places.{acted_places, all_acted_places}
 use Rattle.vt_screen.proofs.SizeLemmas.{acted_columns}

@@ -2,14 +2,14 @@
 use Rattle.std.proofs.Common.{◌≡◌, ℕ, Bool, ◌+◌, ◌-◌, ◌<◌, ◌≤◌, true, false, List, [], ◌∷◌, ◌++◌, length, take}
 use Rattle.std.proofs.Common.{set, refl, sym, ap, ◌∙◌, arith}
 use Rattle.std.proofs.lemmas.List.{map-append, set-get_or}
-use Rattle.charsets.specs.declared.unit.Unit.TheVariants.{Code}
+use Rattle.charsets.specs.declared.decoder.Unit.TheVariants.{Code}
 use Rattle.charsets.specs.Text.{text, IsText}
 use Rattle.charsets.specs.Units.{is_character}
 use Rattle.charsets.specs.Utf8.{codes}
 use Rattle.charsets.proofs.Texts.{text-append, text-none, IsText-append, IsText-none, IsText-one}
 use Rattle.cells.specs.declared.cell.Cell.{Cell}
 use Rattle.cells.specs.declared.rendition.Rendition.{Rendition}
-use Rattle.cells.specs.declared.put.Put.{Put}
+use Rattle.cells.specs.declared.texts.Put.{Put}
 use Rattle.cells.specs.Texts.{PutsText, text_cells}
 use Rattle.cells.specs.Line.{spliced}
 use Rattle.cells.specs.Page.{line_at, IsPage, page_spliced}
@@ -21,7 +21,7 @@ use Rattle.terminal_model.specs.declared.state.State.{State}
 use Rattle.terminal_model.specs.Screen.{Screen, with_page}
 use Rattle.terminal_model.specs.Printing.{advanced}
 use Rattle.terminal_model.specs.Table.{acted, all_acted}
-use Rattle.vt_screen.specs.declared.display.Display.{Display}
+use Rattle.vt_screen.specs.declared.screen.Display.{Display}
 use Rattle.vt_screen.specs.Acting.{KeepsLines, MovesLines}
 use Rattle.vt_screen.specs.Displays.{IsFit, screen_of}
 use Rattle.vt_screen.specs.Places.{all_acted_places, places_after}

@@ -8,7 +8,7 @@ use Rattle.terminal_model.specs.Motion.{indexed, moved_to}
 use Rattle.terminal_model.specs.Sizing.{resized}
 use Rattle.terminal_model.specs.Table.{acted, acted_from}
 use Rattle.terminal_model.proofs.Sound.{IsSound-acted, IsSound-resized, IsSound-starting}
-use Rattle.vt_screen.specs.declared.display.Display.{Display}
+use Rattle.vt_screen.specs.declared.screen.Display.{Display}
 use Rattle.vt_screen.specs.Displays.{IsFit, screen_of}
 use Rattle.vt_screen.proofs.SizeLemmas.{acted_columns}
 

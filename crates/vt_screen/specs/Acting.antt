@@ -4,7 +4,7 @@ use Rattle.terminal_model.specs.declared.action.Action.{Action}
 use Rattle.terminal_model.specs.declared.state.State.{State}
 use Rattle.terminal_model.specs.Reports.{all_answered}
 use Rattle.terminal_model.specs.Table.{all_acted}
-use Rattle.vt_screen.specs.declared.display.Display.{Display}
+use Rattle.vt_screen.specs.declared.screen.Display.{Display}
 use Rattle.vt_screen.specs.Displays.{screen_of}
 use Rattle.vt_screen.specs.Places.{acted_places, all_acted_places}
 

@@ -5,7 +5,7 @@ use Rattle.cells.specs.Moves.{scrolled_up}
 use Rattle.terminal_model.specs.declared.state.State.{State}
 use Rattle.terminal_model.specs.Screen.{Screen, IsSound}
 use Rattle.terminal_model.specs.Motion.{scrolled_kept}
-use Rattle.vt_screen.specs.declared.display.Display.{Display}
+use Rattle.vt_screen.specs.declared.screen.Display.{Display}
 
 -- a display keeps the newest line of its scrollback last, a screen first
 abbrev pub screen_of : Display → Screen

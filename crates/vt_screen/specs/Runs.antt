@@ -1,7 +1,7 @@
 -- Characters that are printed one after another.
 use Rattle.std.specs.Prelude.{◌≡◌, ℕ, false, List, map, None}
-use Rattle.charsets.specs.declared.sets.CharacterSet.TheVariants.{Ascii}
-use Rattle.charsets.specs.declared.unit.Unit.TheVariants.{Code}
+use Rattle.charsets.specs.declared.shifts.CharacterSet.TheVariants.{Ascii}
+use Rattle.charsets.specs.declared.decoder.Unit.TheVariants.{Code}
 use Rattle.charsets.specs.Shifts.{set_at}
 use Rattle.cells.specs.Line.{plain}
 use Rattle.terminal_model.specs.declared.action.Action.{Action}

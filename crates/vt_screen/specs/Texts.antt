@@ -1,7 +1,7 @@
 -- Text in UTF-8 that is printed.
 use Rattle.std.specs.Prelude.{ℕ, List}
 use Rattle.charsets.specs.Text.{text, IsText}
-use Rattle.vt_screen.specs.declared.display.Display.{Display}
+use Rattle.vt_screen.specs.declared.screen.Display.{Display}
 use Rattle.vt_screen.specs.Acting.{ActsByAll, MovesLinesByAll}
 use Rattle.vt_screen.specs.Displays.{IsFit}
 use Rattle.vt_screen.specs.Runs.{prints}

@@ -8,7 +8,7 @@ ghost use Rattle.vt_screen.specs.Displays.{IsFit, screen_of};
 ghost use Rattle.vt_screen.specs.Places.{places_after};
 ghost use Rattle.vt_screen_state.specs.Counted.{IsCounted};
 
-use crate::display::Display;
+use crate::screen::Display;
 use terminal_model::{Action, Report};
 use vt_screen_state::{
     designate, go_down, go_left, go_right, go_to, go_to_first_column, go_up, protect, render,

@@ -8,7 +8,7 @@ ghost use Rattle.vt_screen.specs.Acting.{KeepsLines, MovesLines};
 ghost use Rattle.vt_screen.specs.Displays.{IsFit, screen_of};
 ghost use Rattle.vt_screen.specs.Places.{inserted_places, deleted_places};
 
-use crate::display::Display;
+use crate::screen::Display;
 use vt_screen_state::{end_after, go_to_first_column, is_in_margins, settle};
 
 impl Display {

@@ -13,7 +13,7 @@ ghost use Rattle.terminal_model.specs.Table.{acted};
 ghost use Rattle.vt_screen.specs.Acting.{KeepsLines};
 ghost use Rattle.vt_screen.specs.Displays.{IsFit, screen_of};
 
-use crate::display::Display;
+use crate::screen::Display;
 use terminal_model::{Part, State};
 use vt_screen_page::Page;
 use vt_screen_state::{end_after, end_column, end_line, first_column, first_line, settle};

@@ -8,8 +8,8 @@ ghost use Rattle.vt_screen.specs.Acting.{ActsByAll, MovesLinesByAll};
 ghost use Rattle.vt_screen.specs.Displays.{IsFit};
 ghost use Rattle.vt_screen.specs.Runs.{ScrollsPlain, prints};
 
-use crate::display::Display;
 use crate::runs::takes_runs;
+use crate::screen::Display;
 use control_parser::plain_run;
 use terminal_model::State;
 use vt_screen_state::{advance, go_to_first_column};

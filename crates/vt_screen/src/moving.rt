@@ -9,7 +9,7 @@ ghost use Rattle.vt_screen.specs.Acting.{MovesLines};
 ghost use Rattle.vt_screen.specs.Displays.{IsFit, screen_of, scrolled};
 ghost use Rattle.vt_screen.specs.Places.{indexed_places, lowered_places, raised_places};
 
-use crate::display::Display;
+use crate::screen::Display;
 use vt_screen_state::{go_to_first_column, settle};
 
 impl Display {

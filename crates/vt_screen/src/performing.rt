@@ -1,7 +1,7 @@
 //! Performs all the actions of a control function.
 
 ghost use Rattle.std.specs.Prelude.{◌≡◌, ◌≤◌, [], ◌∷◌, None, length, IfSome};
-ghost use Rattle.control_parser.specs.declared.func.Func.TheVariants.{Control, Csi, Esc};
+ghost use Rattle.control_parser.specs.declared.parser.Func.TheVariants.{Control, Csi, Esc};
 ghost use Rattle.terminal_model.specs.Functions.{actions_of, alone, each, sequence_actions};
 ghost use Rattle.terminal_model.specs.Reports.{report};
 ghost use Rattle.terminal_model.specs.Table.{effect};

@@ -1,7 +1,7 @@
 //! Printing of single characters.
 
 ghost use Rattle.std.specs.Prelude.{◌≡◌, ◌<◌, ◌+◌, ◌&&◌, Some};
-ghost use Rattle.charsets.specs.declared.unit.Unit.TheVariants.{Code};
+ghost use Rattle.charsets.specs.declared.decoder.Unit.TheVariants.{Code};
 ghost use Rattle.terminal_model.specs.Printing.{lacks_room, marked_at};
 ghost use Rattle.terminal_model.specs.Printing.{placed_narrow, placed_wide, printed, printed_as};
 ghost use Rattle.terminal_model.specs.Printing.{wide_printed, wrapped};
@@ -12,7 +12,7 @@ ghost use Rattle.vt_screen.specs.Displays.{IsFit, screen_of};
 ghost use Rattle.vt_screen.specs.Places.{places_after, printed_places, wrapped_places};
 ghost use Rattle.terminal_model.specs.Scrollback.{is_wrapped};
 
-use crate::display::Display;
+use crate::screen::Display;
 use cells::{Cell, Shape, drawn_as, glyph_columns, is_letter, is_mark};
 use charsets::Unit;
 use unicode_width::UnicodeWidthChar;

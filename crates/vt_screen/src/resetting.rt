@@ -9,7 +9,7 @@ ghost use Rattle.terminal_model.specs.declared.action.Action.TheVariants.{SetTab
 ghost use Rattle.vt_screen.specs.Acting.{KeepsLines};
 ghost use Rattle.vt_screen.specs.Displays.{IsFit, screen_of};
 
-use crate::display::Display;
+use crate::screen::Display;
 use cells::{Cell, Rendition};
 use vt_screen_state::{
     go_home, move_to, restore, saved_of, settle, soft_reset, starting_state, use_whole_page,

@@ -7,7 +7,7 @@ ghost use Rattle.vt_screen.specs.Acting.{ActsByAll, MovesLinesByAll};
 ghost use Rattle.vt_screen.specs.Displays.{IsFit};
 ghost use Rattle.vt_screen.specs.Runs.{PrintsAscii, TakesRuns, prints};
 
-use crate::display::Display;
+use crate::screen::Display;
 use charsets::{CharacterSet, Place, Shifts};
 use terminal_model::State;
 

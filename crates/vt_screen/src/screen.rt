@@ -1,7 +1,7 @@
 //! The screen of a VT220.
 
-ghost use Rattle.std.specs.Prelude.{◌≡◌, ℕ, ◌<◌, ◌≤◌, ◌↔◌, true, IsTrue, Err, IfOk, OnOk, OnErr, ◌∷◌, []};
-ghost use Rattle.std.specs.Prelude.{length, option_copied, slice_get, slice_index, take};
+ghost use Rattle.std.specs.Prelude.{◌≡◌, ℕ, ◌<◌, ◌≤◌, ◌↔◌, true, IsTrue, Err, IfOk, OnOk, OnErr, ◌∷◌, [], length};
+ghost use Rattle.std.specs.Prelude.{option_copied, slice_get, slice_index, take};
 ghost use Rattle.std.specs.List.{list_all, range_with_len};
 ghost use Rattle.charsets.specs.Text.{IsText, text};
 ghost use Rattle.charsets.specs.Units.{is_plain};
@@ -14,13 +14,25 @@ ghost use Rattle.vt_screen.specs.Runs.{PrintsAscii, prints};
 ghost use Rattle.vt_screen.specs.Stored.{Performs};
 ghost use Rattle.vt_screen.specs.Sizes.{IsScreenSize};
 
-use crate::display::Display;
 use crate::runs::prints_ascii;
 use cells::{Cell, GridFault};
 use charsets::Coding;
+use scrollback::Ring;
 use std::alloc::Global;
 use std::marker::Model;
 use terminal_model::{MAX_KEEP, Modes, Saved, State};
+use vt_screen_page::Page;
+use vt_screen_state::Tabs;
+
+/// A page with its state, its tab stops, its saved place and its scrollback.
+#[derive(Drop)]
+pub struct Display {
+    pub state: State,
+    pub tabs: Tabs,
+    pub saved: Option<Saved>,
+    pub page: Page,
+    pub ring: Ring,
+}
 
 // Wraps `Display`, which has no invariant: it would have to be shown after each field that a row
 // sets.

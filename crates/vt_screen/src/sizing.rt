@@ -7,7 +7,7 @@ ghost use Rattle.terminal_model.specs.Screen.{starting};
 ghost use Rattle.terminal_model.specs.Sizing.{resized};
 ghost use Rattle.vt_screen.specs.Displays.{screen_of};
 
-use crate::display::Display;
+use crate::screen::Display;
 use cells::GridFault;
 use charsets::Coding;
 use scrollback::Ring;

@@ -7,8 +7,8 @@ ghost use Rattle.vt_screen.specs.Displays.{IsFit};
 ghost use Rattle.vt_screen.specs.Runs.{TakesRuns, prints};
 ghost use Rattle.vt_screen.specs.Texts.{PrintsText};
 
-use crate::display::Display;
 use crate::runs::takes_runs;
+use crate::screen::Display;
 use charsets::first_character;
 use vt_screen_page::CellPosition;
 use vt_screen_state::advance;

@@ -2,8 +2,6 @@
 #![tactic(auto)]
 
 mod page;
-mod position;
 mod store;
 
-pub use page::Page;
-pub use position::CellPosition;
+pub use page::{CellPosition, Page};

@@ -1,23 +1,28 @@
 //! The page of a screen.
 
-ghost use Rattle.std.specs.Prelude.{◌≡◌, ℕ, ◌+◌, ◌-◌, ◌<◌, ◌≤◌, ◌↔◌, [], ◌∷◌, length};
-ghost use Rattle.std.specs.Prelude.{replicate, IfOk, Err, false, slice_index, take};
+ghost use Rattle.std.specs.Prelude.{◌≡◌, ℕ, ◌+◌, ◌-◌, ◌<◌, ◌≤◌, ◌↔◌, [], ◌∷◌, length, replicate, IfOk, Err, false};
+ghost use Rattle.std.specs.Prelude.{slice_index, take};
 ghost use Rattle.charsets.specs.Text.{text};
 ghost use Rattle.cells.specs.Line.{blank, unprotected_erased, narrow_cells, plain};
 ghost use Rattle.cells.specs.Texts.{text_cells, PutsText};
-ghost use Rattle.cells.specs.Page.{IsGrid, IsGridSize, line_at, page_from, page_marked};
-ghost use Rattle.cells.specs.Page.{page_spliced, edited};
+ghost use Rattle.cells.specs.Page.{IsGrid, IsGridSize, line_at, page_from, page_marked, page_spliced, edited};
 ghost use Rattle.cells.specs.Moves.{scrolled_up, scrolled_down, erased_lines, filled};
 ghost use Rattle.cells.specs.Resizing.{page_resized};
 ghost use Rattle.scrollback.specs.Kept.{with_line, Continues};
 ghost use Rattle.vt_screen_page.specs.Store.{placed_in_order, turned, turned_lines};
 
-use crate::position::CellPosition;
 use crate::store;
 use cells::{Cell, GridFault, Line, Put, Rendition, Shape, blank_lines, is_grid_size};
 use scrollback::Ring;
 use std::alloc::{AllocError, Global};
 use std::marker::Model;
+
+/// Where a cell stands on a page. Lines and columns count from 0.
+#[derive(Clone, Copy)]
+pub struct CellPosition {
+    pub line: usize,
+    pub column: usize,
+}
 
 /// A page of 2 to 200 lines of 2 to 300 cells, in which the halves of wide characters are paired.
 /// Lines and columns count from 0. A scroll moves no cells. Only `new` and changes of size need

@@ -3,7 +3,6 @@
 #![tactic(auto)]
 
 mod cursor;
-mod erasing;
 mod escapes;
 mod margins;
 mod modes;
@@ -17,9 +16,11 @@ pub use cursor::{
     advance, following, go_down, go_home, go_left, go_right, go_to, go_to_first_column, go_up,
     lacks_room, move_to, needs_line, separate, settle,
 };
-pub use erasing::{end_after, end_column, end_line, first_column, first_line};
 pub use escapes::{control_action, escape_action};
-pub use margins::{fit, is_in_margins, set_margins, use_whole_page};
+pub use margins::{
+    end_after, end_column, end_line, first_column, first_line, fit, is_in_margins, set_margins,
+    use_whole_page,
+};
 pub use modes::{
     designate, protect, render, set_application_keypad, set_coding, set_eight_bit_reports,
     set_mode, shift, soft_reset, starting_state,

@@ -15,7 +15,7 @@ use Rattle.websocket.specs.View.{Leaves}
 use Rattle.web_client.specs.declared.wire.Wire.{Wire}
 use Rattle.web_page.specs.Hearing.{WebDisplay}
 use Rattle.web_page.specs.Updates.{spelled}
-use Rattle.attach_proto.specs.declared.told.Told.{Told}
+use Rattle.attach_proto.specs.declared.why.Told.{Told}
 use Rattle.attach_proto.specs.declared.why.Why.{Why}
 use Rattle.std.proofs.Common.{subst}
 use Rattle.web_client.specs.Rows.{SendsText, Asks, Adds, IsAsFar, SendsPage, Shows, counted}

@@ -18,7 +18,7 @@ use Rattle.web_page.specs.Json.{spelled_text}
 use Rattle.attach_proto.specs.Fields.{reason}
 use Rattle.attach_proto.specs.declared.why.Why.{Why}
 use Rattle.attach_proto.specs.declared.why.Why.TheVariants.{Fault}
-use Rattle.attach_proto.specs.declared.told.Told.{Told}
+use Rattle.attach_proto.specs.declared.why.Told.{Told}
 
 -- a frame with this text comes after the bytes on their way to the browser
 pub record SendsText (text : List ℕ) (old new : Wire) : Type 0 where

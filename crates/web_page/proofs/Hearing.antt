@@ -11,7 +11,7 @@ use Rattle.web_page.specs.Showing.{Sheet}
 use Rattle.web_page.specs.declared.display.ClientFault.{ClientFault}
 use Rattle.web_page.specs.declared.display.ClientFault.TheVariants as client
 use Rattle.emulator.specs.Standing.{StandsFor}
-use Rattle.attach_proto.specs.declared.told.Told.{Told}
+use Rattle.attach_proto.specs.declared.why.Told.{Told}
 use Rattle.attach_proto.specs.Table.{noted}
 use Rattle.web_page.specs.Hearing.{WebDisplay, drawn, all_drawn, all_noted, Hears, KeepsSent, heard_fault}
 

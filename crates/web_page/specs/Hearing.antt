@@ -1,8 +1,8 @@
 -- What a client has of the server's stream.
 use Rattle.std.specs.Prelude.{◌≡◌, ℕ, List, [], ◌∷◌, ◌++◌, Option, Some, None}
 use Rattle.attach_proto.specs.declared.message.Message.{Message}
-use Rattle.attach_proto.specs.declared.told.Told.{Told}
-use Rattle.attach_proto.specs.declared.side.Side.TheVariants.{Peer}
+use Rattle.attach_proto.specs.declared.why.Told.{Told}
+use Rattle.attach_proto.specs.declared.kind.Side.TheVariants.{Peer}
 use Rattle.attach_proto.specs.declared.fault.ProtoFault.{ProtoFault}
 use Rattle.attach_proto.specs.declared.fault.ProtoFault.TheVariants as proto
 use Rattle.attach_proto.specs.Streams.{Reading, HasRead}

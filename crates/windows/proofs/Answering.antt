@@ -3,8 +3,8 @@ use Rattle.std.proofs.Common.{◌≡◌, ℕ, List, [], ◌∷◌, ◌++◌, Opt
 use Rattle.std.proofs.Common.{subst, ◌∙◌, true, false, inl, inr, MutBor}
 use Rattle.std.specs.Prelude.{Result, OnSome, OnOk, OnErr, IfErr, ◌==◌, if◌then◌else◌}
 use Rattle.std.specs.Option.{option_copied_mut}
-use Rattle.windows_model.specs.declared.windows_fault.WindowsFault.{WindowsFault}
-use Rattle.windows_model.specs.declared.windows_fault.WindowsFault.TheVariants.{NoSuchWindow, NumberTaken, NoMemory}
+use Rattle.windows_model.specs.declared.rows.WindowsFault.{WindowsFault}
+use Rattle.windows_model.specs.declared.rows.WindowsFault.TheVariants.{NoSuchWindow, NumberTaken, NoMemory}
 use Rattle.windows_model.specs.Table as model
 use Rattle.windows_model.specs.Finding.{row_of, with_row}
 use Rattle.windows_model.specs.Naming.{is_title}

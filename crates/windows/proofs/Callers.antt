@@ -1,7 +1,7 @@
 -- What a caller knows of the answer of a call on a row that is there.
 use Rattle.std.proofs.Common.{◌≡◌, ℕ, List, Some, Ok, Err, refl, ap, sym, subst, ◌∙◌}
 use Rattle.std.specs.Prelude.{Result}
-use Rattle.windows_model.specs.declared.windows_fault.WindowsFault.{WindowsFault}
+use Rattle.windows_model.specs.declared.rows.WindowsFault.{WindowsFault}
 use Rattle.windows_model.specs.Table as model
 use Rattle.windows_model.specs.Finding.{with_row}
 use Rattle.windows.specs.declared.window.Window.{Window}

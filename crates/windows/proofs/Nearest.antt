@@ -7,7 +7,7 @@ use Rattle.std.specs.Borrow.{Bor}
 use Rattle.std.specs.Option.{option_or, option_map, option_map_or, option_and_then}
 use Rattle.std.specs.Str.{bytes_eq}
 use Rattle.std.proofs.Math.Seq.{drop-cons}
-use Rattle.windows_model.specs.declared.limits.TheConstants.{WINDOWS}
+use Rattle.windows_model.specs.declared.rows.TheConstants.{WINDOWS}
 use Rattle.windows_model.specs.Table as model
 use Rattle.windows_model.specs.Naming as naming
 use Rattle.windows_model.specs.Naming.{lower, higher, lowest, highest, with_number, window_after, window_before}

@@ -8,7 +8,7 @@ use Rattle.std.specs.Option.{option_map_or}
 use Rattle.std.proofs.lemmas.List.{get_or-map, length-map}
 use Rattle.std.proofs.lemmas.List.Kept.{AllPairs-filter}
 use Rattle.std.proofs.lemmas.List.Quantifiers.{all_pairs_push}
-use Rattle.windows_model.specs.declared.limits.TheConstants.{WINDOWS}
+use Rattle.windows_model.specs.declared.rows.TheConstants.{WINDOWS}
 use Rattle.windows_model.specs.Finding.{row_of, with_row}
 use Rattle.windows_model.proofs.Serials.{serials_stay, serial_is, with_other, is_equal, equal_number}
 use Rattle.windows.specs.declared.window.Window.{Window}

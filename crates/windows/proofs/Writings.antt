@@ -11,12 +11,12 @@ use Rattle.terminal_model.proofs.DrawableTerminals.{drawable-writes_all}
 use Rattle.emulator.specs.Standing as emulator
 use Rattle.emulator.specs.Standing.{Parts}
 use Rattle.emulator.specs.Commanded.{writing_in}
-use Rattle.emulator.specs.declared.writing.Writing.{Writing as Commanded}
-use Rattle.emulator.specs.declared.writing.Writing.TheVariants.{Clear, Reset, Encoding}
+use Rattle.emulator.specs.declared.emulator.Writing.{Writing as Commanded}
+use Rattle.emulator.specs.declared.emulator.Writing.TheVariants.{Clear, Reset, Encoding}
 use Rattle.windows_model.specs.Table as model
 use Rattle.windows_model.specs.Terminals.{terminal_of}
 use Rattle.windows_model.specs.Naming.{is_title}
-use Rattle.windows_model.specs.declared.windows_fault.WindowsFault.TheVariants.{BadTitle}
+use Rattle.windows_model.specs.declared.rows.WindowsFault.TheVariants.{BadTitle}
 use Rattle.windows_model.proofs.Serials.{if_true, if_false}
 use Rattle.windows.specs.declared.window.Window.{Window}
 use Rattle.windows.specs.Standing.{WindowStands, written_to, retitled, new_row}

@@ -5,7 +5,7 @@ use Rattle.std.specs.List.{list_any, list_all, range_with_len}
 use Rattle.std.specs.Option.{option_map_or}
 use Rattle.std.specs.Str.{bytes_eq}
 use Rattle.std.specs.String.{string_bytes}
-use Rattle.windows_model.specs.declared.limits.TheConstants.{WINDOWS}
+use Rattle.windows_model.specs.declared.rows.TheConstants.{WINDOWS}
 use Rattle.windows.specs.declared.window.Window.{Window}
 use Rattle.windows.specs.declared.among.Among.{Among}
 use Rattle.windows.specs.declared.among.Among.TheVariants.{All, Above, Below, Titled}

@@ -3,7 +3,7 @@ use Rattle.std.specs.Prelude.{ℕ, ◌≡◌, ◌++◌, ◌∷◌, [], List, Opt
 use Rattle.std.specs.Option.{option_map}
 use Rattle.terminal_model.specs.Reading.{reads}
 use Rattle.windows_model.specs.Table as model
-use Rattle.windows_model.specs.declared.windows_fault.WindowsFault.{WindowsFault}
+use Rattle.windows_model.specs.declared.rows.WindowsFault.{WindowsFault}
 use Rattle.windows_model.specs.Naming.{window_after, window_before, free_number}
 use Rattle.windows_model.specs.Terminals.{terminal_of}
 use Rattle.windows_model.specs.Matched.{BothOrNone}

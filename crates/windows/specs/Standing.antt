@@ -8,9 +8,9 @@ use Rattle.terminal_model.specs.Drawable.{IsDrawableScreen}
 use Rattle.terminal_model.specs.Writing.{Writing}
 use Rattle.terminal_model.specs.Writing as terminal
 use Rattle.emulator.specs.Standing as emulator
-use Rattle.windows_model.specs.declared.windows_fault.WindowsFault.{WindowsFault}
-use Rattle.windows_model.specs.declared.windows_fault.WindowsFault.TheVariants.{Full, NoSuchWindow}
-use Rattle.windows_model.specs.declared.windows_fault.WindowsFault.TheVariants.{NumberTaken, BadTitle, NoMemory}
+use Rattle.windows_model.specs.declared.rows.WindowsFault.{WindowsFault}
+use Rattle.windows_model.specs.declared.rows.WindowsFault.TheVariants.{Full, NoSuchWindow}
+use Rattle.windows_model.specs.declared.rows.WindowsFault.TheVariants.{NumberTaken, BadTitle, NoMemory}
 use Rattle.windows_model.specs.Table as model
 use Rattle.windows_model.specs.Finding.{row_of, with_row}
 use Rattle.windows_model.specs.Naming.{with_number, free_number, is_title}

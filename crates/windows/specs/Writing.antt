@@ -2,8 +2,8 @@
 use Rattle.std.specs.Prelude.{ℕ, ◌≡◌, ◌⊎◌, ◌++◌, List, Result, Ok, Err}
 use Rattle.terminal_model.specs.Reading.{reads}
 use Rattle.terminal_model.specs.Writing.{Writing, Output}
-use Rattle.windows_model.specs.declared.windows_fault.WindowsFault.{WindowsFault}
-use Rattle.windows_model.specs.declared.windows_fault.WindowsFault.TheVariants.{NoMemory}
+use Rattle.windows_model.specs.declared.rows.WindowsFault.{WindowsFault}
+use Rattle.windows_model.specs.declared.rows.WindowsFault.TheVariants.{NoMemory}
 use Rattle.windows_model.specs.Table as model
 use Rattle.windows_model.specs.Terminals.{terminal_of}
 use Rattle.windows.specs.declared.window.Window.{Window}

@@ -3,12 +3,10 @@
 
 mod among;
 mod numbers;
-mod titles;
 mod window;
 mod windows;
 
 pub use emulator::Writing;
-pub use titles::is_title;
-pub use window::{Window, WindowSize, is_window_size};
+pub use window::{Window, WindowSize, is_title, is_window_size};
 pub use windows::Windows;
 pub use windows_model::WindowsFault;

@@ -6,8 +6,7 @@ ghost use Rattle.emulator.specs.Commanded.{writing_in};
 
 use crate::among::{Among, End, nearest};
 use crate::numbers::{first_free, is_above, is_taken, numbered, numbered_by};
-use crate::titles::is_title;
-use crate::window::{Window, WindowSize};
+use crate::window::{Window, WindowSize, is_title};
 use emulator::Writing;
 use std::alloc::Global;
 use std::marker::Model;

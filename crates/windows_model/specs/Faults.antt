@@ -1,8 +1,8 @@
 -- The number of each fault.
 use Rattle.std.specs.Prelude.{ℕ}
-use Rattle.windows_model.specs.declared.windows_fault.WindowsFault.{WindowsFault}
-use Rattle.windows_model.specs.declared.windows_fault.WindowsFault.TheVariants.{Full, NoSuchWindow}
-use Rattle.windows_model.specs.declared.windows_fault.WindowsFault.TheVariants.{NumberTaken, BadTitle, NoMemory}
+use Rattle.windows_model.specs.declared.rows.WindowsFault.{WindowsFault}
+use Rattle.windows_model.specs.declared.rows.WindowsFault.TheVariants.{Full, NoSuchWindow}
+use Rattle.windows_model.specs.declared.rows.WindowsFault.TheVariants.{NumberTaken, BadTitle, NoMemory}
 
 abbrev pub windows_number : WindowsFault → ℕ
 windows_number Full = 1

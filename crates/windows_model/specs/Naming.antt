@@ -6,7 +6,7 @@ use Rattle.std.specs.List.{list_any, list_all, range_with_len}
 use Rattle.std.specs.Option.{option_or, option_and_then}
 use Rattle.std.specs.Str.{chars, bytes_eq}
 use Rattle.unicode_width.specs.Width.{char_width}
-use Rattle.windows_model.specs.declared.limits.TheConstants.{WINDOWS}
+use Rattle.windows_model.specs.declared.rows.TheConstants.{WINDOWS}
 use Rattle.windows_model.specs.Table.{Window}
 
 -- ---- numbers

@@ -3,10 +3,6 @@
 //! clients have in common.
 #![tactic(auto)]
 
-mod limits;
 mod rows;
-mod windows_fault;
 
-pub use limits::WINDOWS;
-pub use rows::{Rows, Serial};
-pub use windows_fault::WindowsFault;
+pub use rows::{Rows, Serial, WINDOWS, WindowsFault};

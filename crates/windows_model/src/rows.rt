@@ -1,15 +1,20 @@
-//! Rows by rising serials.
+//! Rows by rising serials, how many windows there may be, and why one isn't opened or changed.
 
-ghost use Rattle.std.specs.Prelude.{◌≡◌, ◌++◌, ◌∷◌, ◌==◌, ◌<◌, [], length, filter, not};
-ghost use Rattle.std.specs.Prelude.{option_copied, OnOk, OnErr, IfSome};
+ghost use Rattle.std.specs.Prelude.{◌≡◌, ◌++◌, ◌∷◌, ◌==◌, ◌<◌, [], length, filter, not, option_copied, OnOk, OnErr};
+ghost use Rattle.std.specs.Prelude.{IfSome};
 ghost use Rattle.std.specs.List.{position};
 ghost use Rattle.std.specs.List.Retain.{IsFiltered};
 ghost use Rattle.std.specs.Fn.{CalledAt};
 ghost use Rattle.std.specs.Option.{option_copied_mut};
 ghost use Rattle.windows_model.specs.Finding.{row_of};
+ghost use Rattle.windows_model.specs.Faults.{windows_number};
+ghost use Rattle.windows_model.specs.declared.rows.WindowsFault.TheVariants.{NoMemory};
 
-use std::alloc::{AllocError, Global};
+use std::alloc::{AllocError, AllocFailed, Global};
 use std::marker::Model;
+
+/// The most windows that may be open at once. Window numbers are below it.
+pub const WINDOWS: usize = 40;
 
 /// A thing that has a serial number.
 pub trait Serial {
@@ -129,5 +134,49 @@ impl<R: Serial + Drop> Rows<R> {
         ensures { self.new ≡ [] }
     {
         self.items.clear();
+    }
+}
+
+/// Why a call on the windows is refused. The windows are then unchanged.
+#[derive(Clone, Copy, PartialEq, Eq, Debug)]
+pub enum WindowsFault {
+    /// There are 40 windows already, or the serial isn't above those of all windows.
+    Full,
+    NoSuchWindow,
+    /// Another window has the number.
+    NumberTaken,
+    /// The title doesn't have 1 to 40 characters, each of width 1 or 2.
+    BadTitle,
+    NoMemory,
+}
+
+impl WindowsFault {
+    /// The fault's number: 1 Full, 2 NoSuchWindow, 3 NumberTaken, 4 BadTitle, 5 NoMemory.
+    pub fn number(self) -> u8
+        ensures { result ≡ windows_number self }
+    {
+        match self {
+            WindowsFault::Full => 1,
+            WindowsFault::NoSuchWindow => 2,
+            WindowsFault::NumberTaken => 3,
+            WindowsFault::BadTitle => 4,
+            WindowsFault::NoMemory => 5,
+        }
+    }
+}
+
+impl From<AllocError> for WindowsFault {
+    ghost from_gives = { λ _ e. e ≡ NoMemory };
+
+    fn from(_error: AllocError) -> WindowsFault {
+        WindowsFault::NoMemory
+    }
+}
+
+impl<T: Drop> From<AllocFailed<T>> for WindowsFault {
+    ghost from_gives = { λ _ e. e ≡ NoMemory };
+
+    fn from(_error: AllocFailed<T>) -> WindowsFault {
+        WindowsFault::NoMemory
     }
 }

@@ -2,7 +2,7 @@
 use Rattle.std.proofs.Common.{◌≡◌, ◌∙◌, ℕ, Bool, true, false, not, ◌||◌, ap, sym, refl, ◌∷◌}
 use Rattle.std.proofs.Common.{Option, Some, None, if◌then◌else◌}
 use Rattle.acl.specs.History.{History, may}
-use Rattle.acl.specs.declared.edition.Edition.{Edition}
+use Rattle.acl.specs.declared.leaders.Edition.{Edition}
 use Rattle.acl.specs.declared.user_id.UserId.{UserId}
 use Rattle.acl.specs.declared.bits.Bit.TheVariants.{Write}
 use Rattle.acl.specs.declared.act.Object.TheVariants.{Window}

@@ -9,7 +9,7 @@ use Rattle.acl.specs.Commands.{MayFollow, AllMayFollow}
 use Rattle.acl.specs.declared.act.LockMode.{LockMode}
 use Rattle.acl.specs.Table.{Table, StandsFor}
 use Rattle.acl.proofs.StandsForLemmas.{may-StandsFor}
-use Rattle.acl.specs.declared.edition.Edition.{Edition}
+use Rattle.acl.specs.declared.leaders.Edition.{Edition}
 use Rattle.acl.specs.declared.user_id.UserId.{UserId}
 use Rattle.acl.specs.declared.bits.Bit.{Bit}
 use Rattle.acl.specs.declared.act.Object.{Object}

@@ -8,7 +8,7 @@ use Rattle.acl.specs.History.{History, may, has, leaders_of, is_open, decided, o
 use Rattle.acl.specs.History.{mask}
 use Rattle.acl.specs.declared.act.LockMode.{LockMode}
 use Rattle.acl.proofs.StandsForLemmas.{same_user-refl}
-use Rattle.acl.specs.declared.edition.Edition.{Edition}
+use Rattle.acl.specs.declared.leaders.Edition.{Edition}
 use Rattle.acl.specs.declared.user_id.UserId.{UserId}
 use Rattle.acl.specs.declared.bits.Bit.TheVariants.{Write}
 use Rattle.acl.specs.declared.act.Object.TheVariants.{Window}

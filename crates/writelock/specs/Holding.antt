@@ -7,7 +7,7 @@ use Rattle.std.specs.List.{list_any}
 use Rattle.acl.specs.Same.{same_user}
 use Rattle.acl.specs.History.{History, may, decided, latest}
 use Rattle.acl.specs.declared.user_id.UserId.{UserId}
-use Rattle.acl.specs.declared.edition.Edition.{Edition}
+use Rattle.acl.specs.declared.leaders.Edition.{Edition}
 use Rattle.acl.specs.declared.bits.Bit.TheVariants.{Write}
 use Rattle.acl.specs.declared.act.Object.TheVariants.{Window}
 use Rattle.acl.specs.declared.act.LockMode.{LockMode}

@@ -6,8 +6,8 @@ use Rattle.acl.specs.Same.{same_user}
 use Rattle.acl.specs.History.{History, is_open, open_count, may}
 use Rattle.acl.specs.Slots.{slot_of, SlotsStandFor}
 use Rattle.acl.specs.Table.{Table, lets}
-use Rattle.acl.specs.limits.TheConstants.{WINDOWS}
-use Rattle.acl.specs.declared.edition.Edition.{Edition}
+use Rattle.acl.specs.slots.TheConstants.{WINDOWS}
+use Rattle.acl.specs.declared.leaders.Edition.{Edition}
 use Rattle.acl.specs.declared.user_id.UserId.{UserId}
 use Rattle.acl.specs.declared.act.LockMode.{LockMode}
 use Rattle.acl.specs.declared.bits.Bit.TheVariants.{Write}

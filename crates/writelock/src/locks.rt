@@ -26,8 +26,8 @@ impl Locks {
     ghost use Rattle.acl.specs.History.{History, is_open, open_count, may};
     ghost use Rattle.acl.specs.Deeds.{Follows};
     ghost use Rattle.acl.specs.Lists.{table_of};
-    ghost use Rattle.acl.specs.limits.TheConstants.{WINDOWS};
-    ghost use Rattle.acl.specs.declared.edition.Edition.{Edition};
+    ghost use Rattle.acl.specs.slots.TheConstants.{WINDOWS};
+    ghost use Rattle.acl.specs.declared.leaders.Edition.{Edition};
     ghost use Rattle.acl.specs.declared.act.Act.TheVariants.{Opened, Closed, Parted, Entered, Left};
     ghost use Rattle.acl.specs.declared.act.Act.TheVariants.{Mode, Default};
     ghost use Rattle.acl.specs.declared.bits.Bit.TheVariants.{Write};

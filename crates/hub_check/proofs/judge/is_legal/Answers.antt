@@ -1,7 +1,7 @@
 use Rattle.std.proofs.Common.{◌≡◌, Bool, List, sym, subst}
 use Rattle.std.proofs.lemmas.Result.{IfOk-weaker}
 use Rattle.acl.specs.declared.act.Act.{Act}
-use Rattle.session.specs.verdict.Verdict.{Verdict}
+use Rattle.session.specs.refusal.Verdict.{Verdict}
 use Rattle.hub_trail.specs.Trails.{Ending}
 use Rattle.hub_trail.specs.Legal.{AreOfUser, AreLet, IsOfKnown}
 use Rattle.hub_check.specs.Parts.{AreTrue, FitsLine}

@@ -3,7 +3,7 @@ use Rattle.std.proofs.lemmas.Bool.{false≢true}
 use Rattle.std.proofs.lemmas.List.Elements.{All-nil}
 use Rattle.acl.specs.declared.act.Act.TheVariants.{Known}
 use Rattle.acl.specs.declared.act.Object.{Object}
-use Rattle.acl.specs.declared.edition.Edition.{Edition}
+use Rattle.acl.specs.declared.leaders.Edition.{Edition}
 use Rattle.acl.specs.declared.user_id.UserId.{UserId}
 use Rattle.acl.specs.Commands.{change_fault, new_name_fault}
 use Rattle.acl.specs.History.{History, among, users_of, there}

@@ -4,8 +4,8 @@ use Rattle.std.proofs.lemmas.Bool.{false≢true}
 use Rattle.std.proofs.lemmas.List.Elements.{All-cons, All-nil}
 use Rattle.acl.specs.declared.act.Act.TheVariants.{Set}
 use Rattle.acl.specs.declared.act.Object.{Object}
-use Rattle.acl.specs.declared.edition.Edition.{Edition}
-use Rattle.acl.specs.declared.faults.AclFault.TheVariants.{OwnerKept, TooManyUsers, UnknownUser}
+use Rattle.acl.specs.declared.leaders.Edition.{Edition}
+use Rattle.acl.specs.declared.entries.AclFault.TheVariants.{OwnerKept, TooManyUsers, UnknownUser}
 use Rattle.acl.specs.declared.user_id.UserId.{UserId}
 use Rattle.acl.specs.Commands.{change_fault}
 use Rattle.acl.specs.History.{History, among, users_of, there}

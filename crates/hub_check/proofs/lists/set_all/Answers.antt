@@ -1,7 +1,7 @@
 use Rattle.std.proofs.Common.{sym, subst, ◌∙◌}
 use Rattle.std.specs.Prelude.{Bool}
 use Rattle.std.proofs.lemmas.Result.{IfOk-weaker}
-use Rattle.acl.specs.declared.faults.AclFault.TheVariants.{OwnerKept, TooManyUsers, UnknownUser}
+use Rattle.acl.specs.declared.entries.AclFault.TheVariants.{OwnerKept, TooManyUsers, UnknownUser}
 use Rattle.acl.specs.History.{among, users_of}
 use Rattle.acl.specs.Same.{same_user}
 use Rattle.acl.specs.Table.{StandsFor}

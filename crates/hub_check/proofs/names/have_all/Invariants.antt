@@ -1,6 +1,6 @@
 use Rattle.std.proofs.Common.{◌≡◌, ◌||◌, Some, drop}
 use Rattle.std.specs.List.{list_all}
-use Rattle.acl.specs.declared.edition.Edition.{Edition}
+use Rattle.acl.specs.declared.leaders.Edition.{Edition}
 use Rattle.acl.specs.History.{History, users_of}
 use Rattle.acl.specs.Same.{same_user}
 use Rattle.hub_trail.specs.Legal.{has_act_of}

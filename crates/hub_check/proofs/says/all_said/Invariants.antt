@@ -1,6 +1,6 @@
 use Rattle.std.proofs.Common.{◌≡◌, true, drop}
 use Rattle.std.specs.Prelude.{◌↔◌, IfSome}
-use Rattle.acl.specs.declared.edition.Edition.{Edition}
+use Rattle.acl.specs.declared.leaders.Edition.{Edition}
 use Rattle.acl.specs.History.{History}
 use Rattle.hub_trail.specs.Saying.{concerns}
 use Rattle.hub_check.specs.Following.{StandsAfter}

@@ -1,4 +1,4 @@
-use Rattle.acl.specs.declared.edition.Edition.TheVariants.{Second}
+use Rattle.acl.specs.declared.leaders.Edition.TheVariants.{Second}
 use Rattle.hub_tests.proofs.fresh.a_seat_is_told_of_its_own_step.Given as goal
 
 abbrev pub ghosts-is_fresh-L-Ledger : goal.ghosts-is_fresh-L-Ledger

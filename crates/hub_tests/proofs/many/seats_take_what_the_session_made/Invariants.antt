@@ -1,4 +1,4 @@
-use Rattle.acl.specs.declared.edition.Edition.TheVariants.{Second}
+use Rattle.acl.specs.declared.leaders.Edition.TheVariants.{Second}
 use Rattle.hub_tests.proofs.many.seats_take_what_the_session_made.Given as goal
 
 abbrev pub ghosts-is_thousand_right-L-Ledger : goal.ghosts-is_thousand_right-L-Ledger

@@ -1,4 +1,4 @@
-use Rattle.acl.specs.declared.edition.Edition.TheVariants.{Second}
+use Rattle.acl.specs.declared.leaders.Edition.TheVariants.{Second}
 use Rattle.hub_tests.proofs.refusing.play.Given as goal
 
 abbrev pub ghosts-played-L-Ledger : goal.ghosts-played-L-Ledger

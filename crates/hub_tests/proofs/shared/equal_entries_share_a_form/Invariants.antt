@@ -1,4 +1,4 @@
-use Rattle.acl.specs.declared.edition.Edition.TheVariants.{Second}
+use Rattle.acl.specs.declared.leaders.Edition.TheVariants.{Second}
 use Rattle.hub_tests.proofs.shared.equal_entries_share_a_form.Given as goal
 
 abbrev pub ghosts-counted-L-Ledger : goal.ghosts-counted-L-Ledger

@@ -1,4 +1,4 @@
-use Rattle.acl.specs.declared.edition.Edition.TheVariants.{Second}
+use Rattle.acl.specs.declared.leaders.Edition.TheVariants.{Second}
 use Rattle.hub_tests.proofs.totals.gives_up_for_memory.Given as goal
 
 abbrev pub ghosts-four-L-Ledger : goal.ghosts-four-L-Ledger

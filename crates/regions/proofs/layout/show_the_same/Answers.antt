@@ -1,7 +1,7 @@
 use Rattle.std.proofs.Common.{◌≡◌, ◌↔◌, true, sym, ◌∙◌, rules}
 use Rattle.std.specs.Cmp.Lexicographic.{pointwise_decides}
-use Rattle.regions.specs.declared.shown.Shown.{Shown}
-use Rattle.regions.specs.contracts.shown.ShownPartialEq.TheImpl.{eq-value}
+use Rattle.regions.specs.declared.layout.Shown.{Shown}
+use Rattle.regions.specs.contracts.layout.ShownPartialEq.TheImpl.{eq-value}
 use Rattle.regions.proofs.layout.show_the_same.Goals as goal
 
 decides : (a b : Shown) → (eq-value.it a b ≡ true) ↔ (a ≡ b)

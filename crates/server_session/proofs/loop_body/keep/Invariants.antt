@@ -1,4 +1,4 @@
-use Rattle.acl.specs.declared.edition.Edition.TheVariants.{Second}
+use Rattle.acl.specs.declared.leaders.Edition.TheVariants.{Second}
 use Rattle.server_session.proofs.loop_body.keep.Given as goal
 
 abbrev pub ghosts-keep_as-L-Ledger : goal.ghosts-keep_as-L-Ledger

@@ -1,7 +1,7 @@
 use Rattle.std.proofs.Common.{subst, sym}
 use Rattle.std.specs.Prelude.{IfOk}
-use Rattle.acl.specs.declared.edition.Edition.{Edition}
-use Rattle.acl.specs.declared.edition.Edition.TheVariants.{Second}
+use Rattle.acl.specs.declared.leaders.Edition.{Edition}
+use Rattle.acl.specs.declared.leaders.Edition.TheVariants.{Second}
 use Rattle.acl.specs.declared.user_id.UserId.{UserId}
 use Rattle.session.specs.Trace.{begun}
 use Rattle.hub.specs.Seats.{StandsFor}

@@ -4,7 +4,7 @@ use Rattle.std.specs.String.{string_bytes}
 use Rattle.acl.specs.Names.{named_by}
 use Rattle.clap.specs.Words.{Text, found_of, rows_of, matches_of, first_of, one_of, one_text}
 use Rattle.clap.proofs.WalkLemmas.{one_text-rows}
-use Rattle.acl.specs.declared.edition.Edition.{Edition}
+use Rattle.acl.specs.declared.leaders.Edition.{Edition}
 use Rattle.acl.specs.declared.user_id.UserId.{UserId}
 use Rattle.program_words.specs.SetupLines.{line_of, commands_in}
 use Rattle.session.specs.Words.{muxsim, edition_text, flag_text, Simulates}

@@ -1,6 +1,6 @@
 use Rattle.std.proofs.Common.{List, get_or, take, drop, suc, sym, subst, Option}
 use Rattle.std.specs.Prelude.{◌≡◌, ◌⊎◌, option_to_list}
-use Rattle.session_model.specs.declared.check.Check.{Check}
+use Rattle.session_model.specs.declared.refusal.Check.{Check}
 use Rattle.session_model.specs.declared.refusal.Refusal.TheVariants.{NoMemory}
 use Rattle.session_checks.specs.Checked.{Passed, Failed, AllMade, listed}
 use Rattle.session_checks.proofs.Checking.{passed_on, refused_on, passed_back, made_at, take_one}

@@ -1,8 +1,8 @@
 use Rattle.std.proofs.Common.{◌≡◌, List, ◌∷◌, [], Some, subst}
 use Rattle.acl.specs.declared.bits.Bit.TheVariants.{Execute}
 use Rattle.acl.specs.declared.act.Object.TheVariants as object
-use Rattle.session_model.specs.declared.check.Check.{Check}
-use Rattle.session_model.specs.declared.check.Check.TheVariants.{Right}
+use Rattle.session_model.specs.declared.refusal.Check.{Check}
+use Rattle.session_model.specs.declared.refusal.Check.TheVariants.{Right}
 use Rattle.session_model.specs.Checks.{checks}
 use Rattle.session_state.specs.Doing.{caller_in}
 use Rattle.session_checks.specs.Checked.{Checked, AllMade, listed}

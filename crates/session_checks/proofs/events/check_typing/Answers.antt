@@ -1,5 +1,5 @@
 use Rattle.std.proofs.Common.{◌≡◌, List, ◌∷◌, [], Some, Option, ℕ, subst, ◌∙◌, ap}
-use Rattle.session_model.specs.declared.check.Check.{Check}
+use Rattle.session_model.specs.declared.refusal.Check.{Check}
 use Rattle.session_model.specs.Checks.{typing_checks}
 use Rattle.session_state.specs.Doing.{caller_in}
 use Rattle.session_checks.specs.Checked.{Checked, AllMade, listed, writing, lock_on}

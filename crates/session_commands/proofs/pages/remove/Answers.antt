@@ -2,7 +2,7 @@ use Rattle.std.proofs.Common.{ap, inr, refl, rules, sym, subst, ◌∙◌, ◌�
 use Rattle.std.specs.Prelude.{option_copied, ◌==◌}
 use Rattle.regions.specs.Layouts.{Arrangement, remove_focused}
 use Rattle.regions.specs.Pages.{KeepsRoom}
-use Rattle.regions.specs.declared.fault.RegionFault.TheVariants.{LastRegion}
+use Rattle.regions.specs.declared.layout.RegionFault.TheVariants.{LastRegion}
 use Rattle.session_model.specs.declared.refusal.Refusal.TheVariants.{Regions}
 use Rattle.session_model.specs.Tables as model
 use Rattle.session_model.specs.Deeds.{enters}

@@ -2,7 +2,7 @@ use Rattle.std.proofs.Common.{ap, inr, rules}
 use Rattle.std.specs.Prelude.{option_copied}
 use Rattle.session_model.specs.Naming.{window_named}
 use Rattle.session_model.specs.declared.refusal.Refusal.TheVariants.{Windows}
-use Rattle.session_model.specs.windows_fault.WindowsFault.TheVariants.{NoSuchWindow}
+use Rattle.session_model.specs.rows.WindowsFault.TheVariants.{NoSuchWindow}
 use Rattle.session_model.specs.Tables as model
 use Rattle.session_commands.proofs.Answering.{shown_on, not_shown_on}
 use Rattle.session_commands.proofs.Members.{StandsAt, of_named, stand_there}

@@ -1,5 +1,5 @@
 use Rattle.std.proofs.Common.{ℕ, Some, sym, subst, rules}
-use Rattle.regions.specs.declared.shown.Shown.{Shown}
+use Rattle.regions.specs.declared.layout.Shown.{Shown}
 use Rattle.regions.specs.Layouts.{put_in_focus}
 use Rattle.session_model.specs.Tables as model
 use Rattle.session_model.specs.Deeds.{enters, showing}

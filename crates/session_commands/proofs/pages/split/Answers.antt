@@ -2,8 +2,8 @@ use Rattle.std.proofs.Common.{◌≡◌, true, Some, None, inr, inl, refl, rules
 use Rattle.std.specs.Prelude.{option_copied, unwrap_or}
 use Rattle.regions.specs.Layouts.{Arrangement, split_focused, split_fault, split_error}
 use Rattle.regions.specs.Pages.{has_room}
-use Rattle.regions.specs.declared.way.Way.{Way}
-use Rattle.regions.specs.declared.fault.RegionFault.TheVariants.{NoMemory}
+use Rattle.regions.specs.declared.node.Way.{Way}
+use Rattle.regions.specs.declared.layout.RegionFault.TheVariants.{NoMemory}
 use Rattle.session_model.specs.declared.refusal.Refusal.TheVariants.{Regions}
 use Rattle.session_model.specs.Tables as model
 use Rattle.session_model.specs.Tables.{row_of}

@@ -1,11 +1,11 @@
 use Rattle.std.proofs.Common.{ℕ, List, None, Ok, refl, ap, sym, ◌∙◌}
-use Rattle.session_model.specs.declared.check.Check.{Check}
+use Rattle.session_model.specs.declared.refusal.Check.{Check}
 use Rattle.session_model.specs.Tables.{Window}
 use Rattle.session_model.specs.Deeds.{Deed}
 use Rattle.session_model.specs.Outcomes.{reply_of}
 use Rattle.session_model.specs.Comings.{open_checks, opens, new_window}
-use Rattle.session_state.specs.declared.step_notes.Step.{Step}
-use Rattle.session_state.specs.declared.step_output.StepOutput.{StepOutput}
+use Rattle.session_state.specs.declared.state.Step.{Step}
+use Rattle.session_state.specs.declared.state.StepOutput.{StepOutput}
 use Rattle.session_input.proofs.Outcomes.{was_passed}
 use Rattle.session_core.proofs.coming.open_window.Goals as goal
 

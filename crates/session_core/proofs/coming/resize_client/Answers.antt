@@ -1,7 +1,7 @@
 use Rattle.std.proofs.Common.{◌∷◌, [], List, Ok, refl, ap, sym}
 use Rattle.std.specs.Option.{option_copied}
-use Rattle.session_model.specs.declared.check.Check.{Check}
-use Rattle.session_model.specs.declared.check.Check.TheVariants.{Must as must}
+use Rattle.session_model.specs.declared.refusal.Check.{Check}
+use Rattle.session_model.specs.declared.refusal.Check.TheVariants.{Must as must}
 use Rattle.session_model.specs.declared.refusal.Refusal.TheVariants.{BadSize}
 use Rattle.session_model.specs.Tables.{Client, client_at, with_client}
 use Rattle.session_model.specs.Deeds.{Deed, changing}
@@ -9,8 +9,8 @@ use Rattle.session_model.specs.Outcomes.{done, where_passed}
 use Rattle.session_model.specs.Comings.{is_client_size, resized}
 use Rattle.windows_model.proofs.Matching.{both_back}
 use Rattle.session_state.specs.Clients.{ClientStands}
-use Rattle.session_state.specs.declared.step_notes.Step.{Step}
-use Rattle.session_state.specs.declared.step_output.StepOutput.{StepOutput}
+use Rattle.session_state.specs.declared.state.Step.{Step}
+use Rattle.session_state.specs.declared.state.StepOutput.{StepOutput}
 use Rattle.session_input.proofs.Outcomes.{was_passed, for_there}
 use Rattle.session_core.proofs.coming.resize_client.Goals as goal
 

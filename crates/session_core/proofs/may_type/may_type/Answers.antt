@@ -4,7 +4,7 @@ use Rattle.std.specs.Option.{option_copied}
 use Rattle.acl.specs.declared.act.Object.TheVariants.{Window}
 use Rattle.acl.specs.declared.bits.Bit.TheVariants.{Write}
 use Rattle.session_model.specs.Checks.{passes}
-use Rattle.session_model.specs.declared.check.Check.TheVariants.{Right, Unlocked}
+use Rattle.session_model.specs.declared.refusal.Check.TheVariants.{Right, Unlocked}
 use Rattle.session_core.proofs.MayTyping.{copied_some, one_there}
 use Rattle.session_core.proofs.may_type.may_type.Goals as goal
 

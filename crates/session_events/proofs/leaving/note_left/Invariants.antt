@@ -1,7 +1,7 @@
 use Rattle.std.proofs.Common.{◌≡◌, ◌≤◌, ◌+◌, ◌++◌, drop, List}
 use Rattle.std.specs.Prelude.{vec_len, vec_capacity}
 use Rattle.acl.specs.declared.act.Act.{Act}
-use Rattle.acl.specs.declared.edition.Edition.{Edition}
+use Rattle.acl.specs.declared.leaders.Edition.{Edition}
 use Rattle.acl.specs.declared.user_id.UserId.{UserId}
 use Rattle.acl.specs.History.{History, followed_by}
 use Rattle.writelock.specs.LockTable.{LocksStandFor}

@@ -3,7 +3,7 @@ use Rattle.std.proofs.Common.{append-nil}
 use Rattle.std.specs.Prelude.{OnOk}
 use Rattle.command_lang.specs.declared.command.Command.{Command}
 use Rattle.command_lang.specs.declared.fault.ParseFault.{ParseFault}
-use Rattle.session_model.specs.declared.message.StatusMessage.TheVariants.{Text}
+use Rattle.session_model.specs.declared.event.StatusMessage.TheVariants.{Text}
 use Rattle.session_model.specs.declared.refusal.Refusal.{Refusal}
 use Rattle.session_model.specs.declared.refusal.Refusal.TheVariants.{Line}
 use Rattle.session_model.specs.Answering.{says}

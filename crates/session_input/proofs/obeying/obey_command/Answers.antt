@@ -1,10 +1,10 @@
 use Rattle.std.proofs.Common.{◌+◌, ◌≤◌, Ok, Err, ap, refl, sym, subst, ◌∙◌}
 use Rattle.std.specs.Prelude.{vec_len, vec_capacity}
 use Rattle.std.specs.Option.{is_some}
-use Rattle.session_model.specs.declared.message.StatusMessage.{StatusMessage}
+use Rattle.session_model.specs.declared.event.StatusMessage.{StatusMessage}
 use Rattle.session_model.specs.Commands.{ruling}
 use Rattle.windows_model.proofs.Serials.{on_ok, on_error}
-use Rattle.session_state.specs.declared.caller.Caller.{Caller}
+use Rattle.session_state.specs.declared.state.Caller.{Caller}
 use Rattle.session_state.specs.declared.state.State.{State}
 use Rattle.session_state.specs.Stands.{Stands}
 use Rattle.session_state.specs.Doing.{caller_in}

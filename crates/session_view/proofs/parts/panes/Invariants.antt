@@ -1,6 +1,6 @@
 use Rattle.std.proofs.Common.{◌≡◌, List, length, map, take}
 use Rattle.acl.specs.declared.user_id.UserId.{UserId}
-use Rattle.regions.specs.declared.shown.Shown.{Shown}
+use Rattle.regions.specs.declared.layout.Shown.{Shown}
 use Rattle.view.specs.Granted.{part_of}
 use Rattle.session_model.specs.Tables.{Tables}
 use Rattle.session_model.specs.Granted.{part_shown}

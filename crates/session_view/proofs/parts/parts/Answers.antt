@@ -1,6 +1,6 @@
 use Rattle.std.proofs.Common.{List, refl, subst, ap, ◌∙◌, ◌+◌, length}
 use Rattle.std.proofs.lemmas.List.{length_push, take_all}
-use Rattle.regions.specs.declared.shown.Shown.{Shown}
+use Rattle.regions.specs.declared.layout.Shown.{Shown}
 use Rattle.windows_model.specs.Matched.{Matched}
 use Rattle.session_view.specs.Parts.{ShowsPart}
 use Rattle.session_view.proofs.Panes.{part_more}

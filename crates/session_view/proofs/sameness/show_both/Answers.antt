@@ -1,6 +1,6 @@
 use Rattle.std.proofs.Common.{refl, sym, ◌∙◌, subst, List}
 use Rattle.std.proofs.lemmas.List.{take_all}
-use Rattle.regions.specs.declared.shown.Shown.{Shown}
+use Rattle.regions.specs.declared.layout.Shown.{Shown}
 use Rattle.session_model.specs.Granted.{part_shown}
 use Rattle.session_view.specs.Sameness.{ShowBoth}
 use Rattle.session_view.proofs.Alike.{alike_more, alike_each}

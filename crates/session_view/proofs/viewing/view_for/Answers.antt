@@ -1,6 +1,6 @@
 use Rattle.std.proofs.Common.{◌≡◌, ◌∙◌, List, ap, map, subst, sym}
 use Rattle.regions.specs.Pages.{IsRects}
-use Rattle.regions.specs.declared.shown.Shown.{Shown}
+use Rattle.regions.specs.declared.layout.Shown.{Shown}
 use Rattle.view.specs.Granted.{part_of}
 use Rattle.windows_model.specs.Matched.{Matched}
 use Rattle.session_view.specs.declared.parts.Part.{Part}

@@ -4,11 +4,11 @@ use Rattle.std.proofs.Common.{◌≡◌, ℕ, Some, refl}
 use Rattle.std.specs.Prelude.{codes}
 use Rattle.unicode_width.proofs.Computing.{unicode_width}
 use Rattle.cells.specs.declared.cell.Shape.TheVariants.{Left, Right}
-use Rattle.charsets.specs.declared.unit.Unit.TheVariants.{Code}
+use Rattle.charsets.specs.declared.decoder.Unit.TheVariants.{Code}
 use Rattle.charsets.specs.Utf8.{cut, piece}
 use Rattle.charsets.specs.Shifts.{mapped}
 use Rattle.charsets.specs.Sets.{character_at, supplement}
-use Rattle.control_parser.specs.declared.func.Func.TheVariants.{Print}
+use Rattle.control_parser.specs.declared.parser.Func.TheVariants.{Print}
 use Rattle.control_parser.specs.Text.{fields}
 use Rattle.control_parser.specs.Grammar.{controls, text, begun_by, piece as function_piece, functions_behind}
 use Rattle.terminal_model.specs.declared.state.Position.{Position}

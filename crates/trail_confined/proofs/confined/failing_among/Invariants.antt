@@ -1,7 +1,7 @@
 use Rattle.std.proofs.Common.{◌≡◌, not, take, drop}
 use Rattle.std.specs.Prelude.{filter}
 use Rattle.std.specs.List.{AllByRecursion, list_all}
-use Rattle.acl.specs.declared.edition.Edition.{Edition}
+use Rattle.acl.specs.declared.leaders.Edition.{Edition}
 use Rattle.acl.specs.declared.user_id.UserId.{UserId}
 use Rattle.hub.specs.Following.{StandsAfter}
 use Rattle.trail_confined.specs.Confining.{holds, is_asked}

@@ -1,6 +1,6 @@
 use Rattle.std.proofs.Common.{◌≡◌, ◌++◌, take}
 use Rattle.std.specs.List.{flat_map}
-use Rattle.acl.specs.declared.edition.Edition.{Edition}
+use Rattle.acl.specs.declared.leaders.Edition.{Edition}
 use Rattle.acl.specs.History.{History}
 use Rattle.hub.specs.Following.{StandsAfter}
 use Rattle.trail_confined.specs.Telling.{failing_text}

@@ -3,7 +3,7 @@ use Rattle.std.proofs.Common.{refl, ◌∙◌, subst, arith, inl, inr}
 use denote.Param.Always.{mut_next}
 use Rattle.std.proofs.iter.Next.{called_at}
 use Rattle.std.specs.Prelude.{IfSome}
-use Rattle.acl.specs.declared.edition.Edition.{Edition}
+use Rattle.acl.specs.declared.leaders.Edition.{Edition}
 use Rattle.acl.specs.declared.user_id.UserId.{UserId}
 use Rattle.trail_lines.specs.Entries.{Said, read_line, said}
 use Rattle.trail_lines.specs.declared.halt.Halt.{Halt}

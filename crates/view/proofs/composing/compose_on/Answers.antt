@@ -3,8 +3,8 @@ use Rattle.std.proofs.lemmas.List.{get_or_default}
 use Rattle.cells.specs.Page.{IsGrid}
 use Rattle.terminal_model.specs.Shows.{View}
 use Rattle.regions.specs.declared.rect.Rect.{Rect}
-use Rattle.view.specs.declared.pane.Pane.{Pane}
-use Rattle.view.specs.declared.pane.Pane.TheVariants.{Empty}
+use Rattle.view.specs.declared.view.Pane.{Pane}
+use Rattle.view.specs.declared.view.Pane.TheVariants.{Empty}
 use Rattle.view.specs.Composing.{HasPageSize}
 use Rattle.view.specs.Granted.{Part, AreParts, part_of, part_at, box_at, pieces}
 use Rattle.view.specs.Rows.{IsPlaced, FocusesOn}

@@ -1,7 +1,7 @@
 use Rattle.std.proofs.Common.{◌+◌, [], List, ℕ, take, refl, ap, arith}
-use Rattle.charsets.specs.declared.unit.Coding.TheVariants.{Utf8}
-use Rattle.control_parser.specs.declared.func.Func.{Func}
-use Rattle.control_parser.specs.declared.func.Func.TheVariants.{Csi}
+use Rattle.charsets.specs.declared.decoder.Coding.TheVariants.{Utf8}
+use Rattle.control_parser.specs.declared.parser.Func.{Func}
+use Rattle.control_parser.specs.declared.parser.Func.TheVariants.{Csi}
 use Rattle.control_parser.proofs.Readings.{reads-spelled}
 use Rattle.terminal_model.proofs.Codings.{effect-coding}
 use Rattle.vt_screen.specs.Stored.{Stored}

@@ -1,6 +1,6 @@
 use Rattle.std.proofs.Common.{rules, ◌≡◌, ◌+◌, ◌-◌, ℕ, List, length, take, drop, ◌∙◌, subst, arith}
 use Rattle.std.proofs.lemmas.List.{length-take}
-use Rattle.charsets.specs.declared.unit.Coding.TheVariants.{Utf8}
+use Rattle.charsets.specs.declared.decoder.Coding.TheVariants.{Utf8}
 use Rattle.charsets.specs.Text.{text}
 use Rattle.emulator.specs.Standing.{TakesWhole}
 use Rattle.emulator.proofs.Wholes.{nothing-whole, both-taken, still-between, quiet-taken, quiet-prints, prints-are}

@@ -1,5 +1,5 @@
 use Rattle.std.proofs.Common.{◌-◌, length}
-use Rattle.charsets.specs.declared.unit.Coding.TheVariants.{Utf8}
+use Rattle.charsets.specs.declared.decoder.Coding.TheVariants.{Utf8}
 use Rattle.emulator.specs.Standing.{TakesWhole, IsBetween}
 use Rattle.emulator.proofs.emulator.Emulator.read_idle.Given as goal
 

@@ -1,7 +1,7 @@
 use Rattle.std.proofs.Common.{◌∷◌, [], ◌++◌, List, ℕ, get_or, take, ◌≡◌, refl, ap, ◌∙◌, arith}
 use Rattle.std.proofs.lemmas.List.{take_more}
-use Rattle.charsets.specs.declared.unit.Coding.TheVariants.{Utf8}
-use Rattle.control_parser.specs.declared.func.Func.TheVariants.{Esc}
+use Rattle.charsets.specs.declared.decoder.Coding.TheVariants.{Utf8}
+use Rattle.control_parser.specs.declared.parser.Func.TheVariants.{Esc}
 use Rattle.control_parser.proofs.Spelled.{spelled_reads}
 use Rattle.terminal_model.proofs.Codings.{effect-coding, escape-coding}
 use Rattle.emulator.specs.Standing.{TakesWhole}

@@ -3,11 +3,11 @@ use Rattle.std.proofs.Common.{ap, ◌∙◌}
 use Rattle.std.proofs.Common.{subst, arith, map}
 use Rattle.std.proofs.lemmas.List.{take_more}
 use Rattle.std.proofs.lemmas.Bool.Decides.{nat_tests}
-use Rattle.charsets.specs.declared.unit.Coding.TheVariants.{Utf8}
+use Rattle.charsets.specs.declared.decoder.Coding.TheVariants.{Utf8}
 use Rattle.charsets.specs.Text.{text}
 use Rattle.charsets.specs.Units.{is_plain}
-use Rattle.control_parser.specs.declared.func.Func.{Func}
-use Rattle.control_parser.specs.declared.func.Func.TheVariants.{Print, Control}
+use Rattle.control_parser.specs.declared.parser.Func.{Func}
+use Rattle.control_parser.specs.declared.parser.Func.TheVariants.{Print, Control}
 use Rattle.control_parser.specs.Grammar.{is_control}
 use Rattle.control_parser.specs.Spelling.{ReadsAs}
 use Rattle.control_parser.proofs.Readings.{reads-plain}

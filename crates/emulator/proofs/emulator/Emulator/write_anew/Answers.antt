@@ -1,5 +1,5 @@
 use Rattle.std.proofs.Common.{[], sym, ap, ◌∙◌, subst, arith}
-use Rattle.charsets.specs.declared.unit.Coding.{Coding}
+use Rattle.charsets.specs.declared.decoder.Coding.{Coding}
 use Rattle.terminal_model.specs.Reading.{Terminal, ready, reads}
 use Rattle.terminal_model.specs.Screen.{Screen}
 use Rattle.emulator.specs.Standing.{Parts, StandsFor}

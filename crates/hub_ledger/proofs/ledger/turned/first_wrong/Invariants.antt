@@ -1,4 +1,4 @@
-use Rattle.acl.specs.declared.edition.Edition.TheVariants.{Second}
+use Rattle.acl.specs.declared.leaders.Edition.TheVariants.{Second}
 use Rattle.hub_ledger.proofs.ledger.turned.first_wrong.Given as goal
 
 abbrev pub ghosts-filed-L-Ledger : goal.ghosts-filed-L-Ledger

@@ -3,7 +3,7 @@ use Rattle.session_model.specs.declared.event.Effect.{Effect}
 use Rattle.session_model.specs.Trace.{EventValue, happening}
 use Rattle.session_model.specs.Run.{tables_of}
 use Rattle.session_state.specs.declared.state.State.{State}
-use Rattle.session_state.specs.declared.step_notes.Step.{Step}
+use Rattle.session_state.specs.declared.state.Step.{Step}
 use Rattle.session_core.specs.Drawn.{draws_one_of}
 use Rattle.session_core.specs.Taking.{TakenAs, StayShared}
 use Rattle.session_core.specs.declared.session.Session.{Session}

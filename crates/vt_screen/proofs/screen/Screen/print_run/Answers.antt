@@ -1,6 +1,6 @@
 use Rattle.std.proofs.Common.{sym, subst, get_or, ℕ, List, Some, arith}
 use Rattle.std.proofs.lemmas.List.{drop_more, drop_all}
-use Rattle.charsets.specs.declared.unit.Unit.TheVariants.{Code}
+use Rattle.charsets.specs.declared.decoder.Unit.TheVariants.{Code}
 use Rattle.terminal_model.specs.declared.action.Action.TheVariants.{Print}
 use Rattle.vt_screen.specs.Runs.{prints}
 use Rattle.vt_screen.specs.Stored.{Performs}

@@ -1,7 +1,7 @@
 use Rattle.std.proofs.Common.{◌≡◌, ℕ, Option, IfSome, OnOk, inl, refl, sym, ap, ◌∙◌, subst}
 use Rattle.attach_proto.specs.declared.why.Why.{Why}
 use Rattle.web_client.specs.declared.wire.Phase.TheVariants.{Last}
-use Rattle.attach_proto.specs.declared.told.Told.{Told}
+use Rattle.attach_proto.specs.declared.why.Told.{Told}
 use Rattle.web_page.specs.Hearing.{WebDisplay}
 use Rattle.web_client.specs.Rows.{IsAsFar, Ends, MaySendRows}
 use Rattle.web_client.proofs.Rows.{both_add, rows_add, shows, then_adds, then_all}

@@ -2,7 +2,7 @@ use Rattle.std.proofs.Common.{◌+◌, arith, ap, sym, ◌∙◌, refl, subst, d
 use Rattle.attach_proto.specs.declared.message.Message.{Message}
 use Rattle.terminal_model.specs.Reading.{Terminal}
 use Rattle.emulator.specs.Standing.{StandsFor}
-use Rattle.attach_proto.specs.declared.told.Told.{Told}
+use Rattle.attach_proto.specs.declared.why.Told.{Told}
 use Rattle.attach_proto.specs.Table.{noted}
 use Rattle.web_page.specs.Hearing.{drawn, all_drawn, all_noted}
 use Rattle.web_page.proofs.Hearing.{one_more, none_more, one_told, none_told, kept_on}

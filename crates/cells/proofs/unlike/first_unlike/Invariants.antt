@@ -1,6 +1,0 @@
-use Rattle.std.proofs.Common.{◌≤◌, ◌<◌, ℕ}
-use Rattle.cells.specs.Unlike.{IsAlike}
-use Rattle.cells.proofs.unlike.first_unlike.Given as goal
-
-abbrev pub invariant-loop-column : goal.invariant-loop-column
-invariant-loop-column l = (column : ℕ) → l.from ≤ column → column < l.column → IsAlike l.a l.b column

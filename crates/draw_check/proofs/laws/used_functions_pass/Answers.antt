@@ -1,5 +1,0 @@
-use Rattle.draw_check.proofs.Spelled.{used_is_function}
-use Rattle.draw_check.proofs.laws.used_functions_pass.Goals as goal
-
-pub returns : goal.returns
-returns c = used_is_function

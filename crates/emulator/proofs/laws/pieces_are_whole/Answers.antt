@@ -1,5 +1,0 @@
-use Rattle.emulator.proofs.Feeding.{has-read-both}
-use Rattle.emulator.proofs.laws.pieces_are_whole.Goals as goal
-
-pub returns : goal.returns
-returns c = has-read-both

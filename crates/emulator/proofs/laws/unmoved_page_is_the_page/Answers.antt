@@ -1,5 +1,0 @@
-use Rattle.emulator.proofs.Backs.{moved-none}
-use Rattle.emulator.proofs.laws.unmoved_page_is_the_page.Goals as goal
-
-pub returns : goal.returns
-returns c = moved-none

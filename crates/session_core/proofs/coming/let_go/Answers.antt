@@ -1,0 +1,30 @@
+use Rattle.std.proofs.Common.{◌≡◌, Ok, sym, rules}
+use Rattle.std.specs.Prelude.{◌==◌}
+use Rattle.std.proofs.lemmas.Result.{err_from_is_err_and}
+use Rattle.session_model.specs.declared.event.Reason.TheVariants as reason
+use Rattle.session_model.specs.Tables.{Client, client_at}
+use Rattle.session_model.specs.Deeds.{Deed, parts}
+use Rattle.session_core.proofs.Settled.{was_settled, was_unsettled}
+use Rattle.session_core.proofs.coming.let_go.Goals as goal
+
+pub returns-in_err-detach_client-clause-step : goal.returns-in_err-detach_client-clause-step
+returns-in_err-detach_client-clause-step c = λ t st fit.
+    let client = c.args.client in
+    let deed : Client → Deed = λ m. parts (λ (d : Client). d.serial == client) reason.Detached t in
+    let p = err_from_is_err_and c.from_residual.result c.from_residual.ensures.1 in
+    let back : c.detach_client.new.context.state.now ≡ c.state-1.given.0 = search rules in
+    rw (p.1, p.2, sym back)
+    (was_unsettled t deed (client_at t client) c.in_err-detach_client.field-0.0 c.args.state.now
+    c.detach_client.new.context.state.now c.args.step.now c.detach_client.new.context.made.now
+    (c.in_err-detach_client.ensures.1 t st fit) st c.in_err-detach_client.ensures.0.1.0)
+
+pub returns-clause-step : goal.returns-clause-step
+returns-clause-step c = λ t st fit.
+    let client = c.args.client in
+    let deed : Client → Deed = λ m. parts (λ (d : Client). d.serial == client) reason.Detached t in
+    let back : c.detach_client.new.context.state.now ≡ c.state-1.given.0 = search rules in
+    let settled = c.in_ok-detach_client.ensures.1 t st fit in
+    was_settled t deed (client_at t client) settled.0 (Ok c.made_so.result) c.detach_client.new.context.state.now
+    c.leave.new.state c.args.step.now c.detach_client.new.context.made.now c.leave.new.made settled.1
+    (sym c.made_so.ensures) settled.3
+    (c.leave.ensures t settled.0 (c.of-focuses.ensures t st fit.sound) (rw (sym back) settled.3.stands))

@@ -1,5 +1,0 @@
-use Rattle.session_state.proofs.Numbers.{order_by_numbers}
-use Rattle.session_state.proofs.laws.order_by_numbers.Goals as goal
-
-pub returns : goal.returns
-returns c = order_by_numbers

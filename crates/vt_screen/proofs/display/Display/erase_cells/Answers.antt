@@ -1,7 +1,0 @@
-use Rattle.std.proofs.Common.{refl}
-use Rattle.terminal_model.specs.Table.{acted_from}
-use Rattle.vt_screen.proofs.display.Display.erase_cells.Goals as goal
-
-pub returns-clause-screen : goal.returns-clause-screen
-unfolding acted_from
-returns-clause-screen c = rw (c.settle.ensures, c.erase_columns.ensures.value, c.end_after-end.ensures) refl

@@ -1,9 +1,0 @@
-use Rattle.std.proofs.Common.{refl}
-use Rattle.terminal_model.specs.Table.{acted_from}
-use Rattle.vt_screen.proofs.Widths.{line_width}
-use Rattle.vt_screen.proofs.display.Display.insert_cells.Goals as goal
-
-pub returns-clause-screen : goal.returns-clause-screen
-unfolding acted_from
-returns-clause-screen c = rw
-    (c.settle.ensures, c.splice.ensures.lines, c.min-count.ensures, line_width c.args.self.now c.requires.fit) refl

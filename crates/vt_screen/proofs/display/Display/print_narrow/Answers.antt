@@ -1,6 +1,0 @@
-use Rattle.std.proofs.Common.{ap, ◌∙◌}
-use Rattle.terminal_model.specs.Printing.{placed_narrow}
-use Rattle.vt_screen.proofs.display.Display.print_narrow.Goals as goal
-
-pub returns-clause-screen : goal.returns-clause-screen
-returns-clause-screen c = c.place_narrow.ensures.screen ∙ ap (placed_narrow c.args.character) c.wrap.ensures.screen

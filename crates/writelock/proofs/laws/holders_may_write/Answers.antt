@@ -1,4 +1,0 @@
-use Rattle.writelock.proofs.laws.holders_may_write.Goals as goal
-
-pub returns : goal.returns
-returns c = λ t edition owner h window user s held. s.are.able window user held

@@ -1,5 +1,0 @@
-use Rattle.writelock.proofs.LockLemmas.{LocksStandFor-Attached}
-use Rattle.writelock.proofs.laws.locks_attached.Goals as goal
-
-pub returns : goal.returns
-returns c = LocksStandFor-Attached
