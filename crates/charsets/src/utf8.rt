@@ -161,6 +161,7 @@ pub fn step(partial: Partial, byte: u8) -> (Chars, Partial)
 
 /// The graphic character with which some bytes begin in UTF-8, and its number of bytes (Unicode core
 /// specification, table 3-7). None if they begin with anything else.
+#[tactic(auto, unfolding(crate::specs::Utf8::cut, crate::specs::Utf8::piece))]
 #[inline(always)]
 pub fn first_character(bytes: &[u8]) -> Option<(char, usize)>
     requires { 0 < length bytes.now }
