@@ -2,14 +2,15 @@
 
 ghost use Rattle.std.specs.Prelude.{◌≡◌, ◌⊎◌, ◌<◌, ◌≤◌, false, length, IfOk, IfErr, Err, [], Some, ◌↔◌, ℕ, List, Ok};
 ghost use Rattle.std.specs.Str.{is_utf8};
-ghost use Rattle.command_lang.specs.declared.fault.FaultKind.{TheVariants as faults};
+ghost use Rattle.command_lang.specs.declared.fault.FaultKind.TheVariants as faults;
 ghost use Rattle.command_lang.specs.Table.{at, first_of, words_faults};
 ghost use Rattle.command_lang.specs.LineFaults.{no_memory, line_faults};
 ghost use Rattle.command_lang.specs.Relation.{NoneBefore, Relates, Refuses, read_line};
 ghost use Rattle.command_lang.specs.Rows.{takes};
 ghost use Rattle.command_lang.specs.Meaning.{line_command};
 ghost use Rattle.acl.specs.slots.TheConstants.{WINDOWS};
-ghost use Rattle.command_lang.specs.declared.command.Command.{Command, TheVariants as command};
+ghost use Rattle.command_lang.specs.declared.command.Command.{Command};
+ghost use Rattle.command_lang.specs.declared.command.Command.TheVariants as command;
 ghost use Rattle.command_lang.specs.declared.fault.ParseFault.{ParseFault};
 
 use crate::build::build;

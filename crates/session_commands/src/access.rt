@@ -1,10 +1,10 @@
 //! Commands on the access lists: which users are known, what they may do, and whom they follow; and on write locks.
 
 ghost use Rattle.std.specs.Prelude.{◌≡◌, None, Some};
-ghost use Rattle.command_lang.specs.declared.command.Command.{TheVariants as command};
+ghost use Rattle.command_lang.specs.declared.command.Command.TheVariants as command;
 ghost use Rattle.session_model.specs.Tables.{Tables};
 ghost use Rattle.session_state.specs.declared.state.StepOutput.{StepOutput};
-ghost use Rattle.session_state.specs.{Doing as doing};
+ghost use Rattle.session_state.specs.Doing as doing;
 ghost use Rattle.session_state.specs.Stands.{Stands};
 ghost use Rattle.session_commands.specs.Asked.{answered, refusal_of};
 ghost use Rattle.session_commands.specs.Contexts.{Does, DoesForAll, DoesIf, HasRoomToAct};

@@ -1,8 +1,8 @@
 //! Commands and events by which clients go or windows are closed, and the one that speaks to all clients.
 
 ghost use Rattle.std.specs.Prelude.{◌≡◌, true, IsOk, ◌++◌, codes, IfOk};
-ghost use Rattle.command_lang.specs.declared.command.Command.{TheVariants as command};
-ghost use Rattle.session_model.specs.declared.event.Reason.{TheVariants as reason};
+ghost use Rattle.command_lang.specs.declared.command.Command.TheVariants as command;
+ghost use Rattle.session_model.specs.declared.event.Reason.TheVariants as reason;
 ghost use Rattle.session_state.specs.Doing.{HasRoomToLeave};
 ghost use Rattle.session_commands.specs.Contexts.{DoesForAll, DoesBy, DoesOn, Does, HasRoomToAct};
 ghost use Rattle.session_commands.specs.Closing.{closing};

@@ -2,7 +2,7 @@
 //! which region has the focus, and how far that is scrolled back. A user enters the window in focus.
 
 ghost use Rattle.std.specs.Prelude.{◌≡◌};
-ghost use Rattle.command_lang.specs.declared.command.Command.{TheVariants as command};
+ghost use Rattle.command_lang.specs.declared.command.Command.TheVariants as command;
 ghost use Rattle.session_model.specs.Commands.{way_of};
 ghost use Rattle.session_state.specs.Doing.{GivesBy, HasRoom};
 ghost use Rattle.session_commands.specs.Contexts.{DoesBy, DoesIf, HasRoomToAct};
