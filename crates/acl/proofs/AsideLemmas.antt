@@ -1,15 +1,9 @@
 -- Acts of clients and locks leave what the lists stand for unchanged; acts of list commands leave
 -- the open windows unchanged.
-use Rattle.std.proofs.Common.{◌≡◌, ◌∙◌, ℕ, refl, [], ◌∷◌, List}
-use Rattle.std.specs.List.{AllByRecursion}
-use Rattle.acl_words.specs.declared.leaders.Edition.{Edition}
-use Rattle.acl_words.specs.declared.user_id.UserId.{UserId}
-use Rattle.acl_words.specs.declared.act.Act.{Act}
-use Rattle.acl_words.specs.declared.act.Act.TheVariants.{Known, Gone, Set, Grouped, Masked, Preset, Opened, Closed}
+use Rattle.acl.proofs.Vocabulary.{◌≡◌, ◌∙◌, ℕ, refl, [], ◌∷◌, List, AllByRecursion, Edition, UserId, Act, Known, Gone}
+use Rattle.acl.proofs.Vocabulary.{Set, Grouped, Masked, Preset, Opened, Closed, History, followed_by, is_open}
+use Rattle.acl.proofs.Vocabulary.{open_count, IsAside, MayFollow, AllMayFollow, Table, StandsFor}
 use Rattle.acl_words.specs.declared.act.Act.TheVariants.{Attached, Parted, Entered, Left, Mode, Default}
-use Rattle.acl.specs.History.{History, followed_by, is_open, open_count}
-use Rattle.acl.specs.Commands.{IsAside, MayFollow, AllMayFollow}
-use Rattle.acl.specs.Table.{Table, StandsFor}
 
 pub StandsFor-aside : (t : Table) (edition : Edition) (owner : UserId) (h : History) (a : Act) → IsAside a
     → StandsFor t edition owner h → StandsFor t edition owner (a ∷ h)

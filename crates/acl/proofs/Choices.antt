@@ -1,15 +1,7 @@
 -- What is read from a row or a mask, if an act decides it.
-use Rattle.std.proofs.Common.{◌≡◌, ℕ, Bool, true, false, ◌&&◌, ◌||◌, refl, List, []}
-use Rattle.std.proofs.Common.{Option, None, is_some, unwrap_or, if◌then◌else◌}
-use Rattle.std.specs.Option.{option_map_or}
-use Rattle.acl_words.specs.BitSets.{allows}
-use Rattle.acl.specs.History.{decided}
-use Rattle.acl.specs.Table.{bits_on}
-use Rattle.acl_words.specs.declared.user_id.UserId.{UserId}
-use Rattle.acl_words.specs.declared.bits.Bit.{Bit}
-use Rattle.acl_words.specs.declared.bits.Bits.{Bits}
-use Rattle.acl_words.specs.declared.act.Object.{Object}
-use Rattle.acl.specs.declared.rows.Row.{Row}
+use Rattle.acl.proofs.Vocabulary.{◌≡◌, ℕ, Bool, true, false, ◌&&◌, ◌||◌, refl, List, [], Option, None, is_some}
+use Rattle.acl.proofs.Vocabulary.{unwrap_or, if◌then◌else◌, option_map_or, allows, decided, bits_on, UserId, Bit, Bits}
+use Rattle.acl.proofs.Vocabulary.{Object, Row}
 
 -- a value read from a choice, if an act decides it
 pub step : {X Y : Type 0} (f : X → Y) (c : Bool) (x y : X) (g : Option Y) (r : Y) → (c ≡ true → f x ≡ unwrap_or g r)

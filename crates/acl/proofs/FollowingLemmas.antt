@@ -1,39 +1,24 @@
 -- The acts of a command that isn't refused may follow the history, each after the ones before it.
-use Rattle.std.proofs.Common.{◌≡◌, ◌∙◌, ◌≤◌, ◌&&◌, not, nat_le, sym, ℕ, ap, Bool, true, false, ◌||◌, List, [], ◌∷◌}
-use Rattle.std.proofs.Common.{◌++◌, Option, Some, None, unwrap_or, All, suc, arith, slice_index_or, length, drop, refl}
-use Rattle.std.proofs.Common.{Result, Ok, Err, OnOk, subst}
+use Rattle.acl.proofs.Vocabulary.{◌≡◌, ◌∙◌, ◌≤◌, ◌&&◌, not, nat_le, sym, ℕ, ap, Bool, true, false, ◌||◌, List, [], ◌∷◌}
+use Rattle.acl.proofs.Vocabulary.{◌++◌, Option, Some, None, unwrap_or, All, suc, arith, slice_index_or, length, drop}
+use Rattle.acl.proofs.Vocabulary.{refl, Result, Ok, Err, OnOk, subst, if◌then◌else◌, option_or, same_user, Edition}
+use Rattle.acl.proofs.Vocabulary.{UserId, Bit, BitChange, Object, Window, Command, Act, Known, Set, AclFault, History}
+use Rattle.acl.proofs.Vocabulary.{followed_by, leaders_of, leaders_with, is_known, users_of, among, there, decided}
+use Rattle.acl.proofs.Vocabulary.{latest, decides_known, Answers, AllMayFollow, sets_on, sets, user_acts, change_acts}
+use Rattle.acl.proofs.Vocabulary.{new_acts, known_acts, names_sets, add_acts, added, chosen_leader, with_name}
+use Rattle.acl.proofs.Vocabulary.{with_names, names_user, scope_acts, mask_acts, known_name_fault, group_fault}
+use Rattle.acl.proofs.Vocabulary.{leader_fault, group_acts, removal_acts, Table, StandsFor, list_any, list_any-append}
 use Rattle.std.proofs.Math.Seq.{drop-append_seam}
-use Rattle.std.specs.Option.{option_or}
-use Rattle.acl_words.specs.Same.{same_user}
-use Rattle.acl_words.specs.declared.leaders.Edition.{Edition}
-use Rattle.acl_words.specs.declared.user_id.UserId.{UserId}
-use Rattle.acl_words.specs.declared.bits.Bit.{Bit}
-use Rattle.acl_words.specs.declared.bits.BitChange.{BitChange}
-use Rattle.acl_words.specs.declared.act.Object.{Object}
-use Rattle.acl_words.specs.declared.act.Object.TheVariants.{Window, Command}
-use Rattle.acl_words.specs.declared.act.Act.{Act}
-use Rattle.acl_words.specs.declared.act.Act.TheVariants.{Known, Set}
 use Rattle.acl_words.specs.declared.entries.MaskEntry.{MaskEntry}
 use Rattle.acl_words.specs.declared.entries.MaskScope.{MaskScope}
 use Rattle.acl_words.specs.declared.entries.MaskScope.TheVariants as scope
 use Rattle.acl_words.specs.declared.entries.NewLeader.{NewLeader}
 use Rattle.acl_words.specs.declared.entries.NewLeader.TheVariants.{Nobody, Named}
 use borrow.Author.Tests.{leb-true}
-use Rattle.std.proofs.Common.{if◌then◌else◌}
-use Rattle.acl_words.specs.declared.entries.AclFault.{AclFault}
 use Rattle.acl_words.specs.declared.entries.AclFault.TheVariants.{UnknownUser, OwnerKept, NoSuchGroup, TooManyGroups}
-use Rattle.acl.specs.History.{History, followed_by, leaders_of, leaders_with, is_known, users_of, among, there, decided}
-use Rattle.acl.specs.History.{latest, decides_known}
-use Rattle.acl.specs.Commands.{Answers, AllMayFollow, sets_on, sets, user_acts, change_acts, new_acts, known_acts}
-use Rattle.acl.specs.Commands.{names_sets, add_acts, added, chosen_leader, with_name, with_names, names_user}
-use Rattle.acl.specs.Commands.{scope_acts, mask_acts, known_name_fault, group_fault, leader_fault, group_acts}
-use Rattle.acl.specs.Commands.{removal_acts}
-use Rattle.acl.specs.Table.{Table, StandsFor}
 use Rattle.acl.specs.Deeds.{IsDone, TakesAll, FollowsAll}
 use Rattle.acl.proofs.StandsForLemmas.{same_user-true, same_user-refl}
 pub use Rattle.acl_words.proofs.SameLemmas.{same_user-sym}
-use Rattle.std.specs.List.{list_any}
-use Rattle.std.proofs.lemmas.List.Folds.{list_any-append}
 use Rattle.acl.proofs.NameLemmas.{among-with_name, among-with_names}
 use Rattle.acl.proofs.RowLemmas.{is_some-lookup}
 

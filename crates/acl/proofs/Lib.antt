@@ -1,3 +1,4 @@
+pub mod Vocabulary
 pub mod AsideLemmas
 pub mod Choices
 pub mod FollowingLemmas

@@ -1,13 +1,8 @@
 -- Who is among the users that are known after a list of names.
-use Rattle.std.proofs.Common.{◌≡◌, ◌∙◌, ap, sym, refl, Bool, true, false, ◌||◌, List, [], ◌∷◌, ◌++◌, Option, Some, None}
-use Rattle.std.proofs.Common.{if◌then◌else◌, ℕ, ◌+◌, ◌<◌, take, length, slice_index_or, add-one}
+use Rattle.acl.proofs.Vocabulary.{◌≡◌, ◌∙◌, ap, sym, refl, Bool, true, false, ◌||◌, List, [], ◌∷◌, ◌++◌, Option, Some}
+use Rattle.acl.proofs.Vocabulary.{None, if◌then◌else◌, ℕ, ◌+◌, ◌<◌, take, length, slice_index_or, add-one, list_any}
+use Rattle.acl.proofs.Vocabulary.{list_any-append, same_user, among, with_name, with_names, names_user, UserId}
 use Rattle.std.proofs.Math.Seq.{take-suc}
-use Rattle.std.specs.List.{list_any}
-use Rattle.std.proofs.lemmas.List.Folds.{list_any-append}
-use Rattle.acl_words.specs.Same.{same_user}
-use Rattle.acl.specs.History.{among}
-use Rattle.acl.specs.Commands.{with_name, with_names, names_user}
-use Rattle.acl_words.specs.declared.user_id.UserId.{UserId}
 use Rattle.acl.proofs.StandsForLemmas.{same_user-true}
 
 or-false : (c : Bool) → (c || false) ≡ c

@@ -1,19 +1,12 @@
 -- Facts of lists of acts that grow at their end.
-use Rattle.std.proofs.Common.{◌≡◌, ◌∙◌, ◌+◌, ◌<◌, ℕ, Bool, true, false, drop, length, slice_index_or, count_by}
-use Rattle.std.proofs.Common.{if◌then◌else◌, ap, sym, refl, List, [], ◌∷◌, ◌++◌, append_assoc, Option, Some, None, Err}
-use Rattle.std.specs.Option.{option_or}
+use Rattle.acl.proofs.Vocabulary.{◌≡◌, ◌∙◌, ◌+◌, ◌<◌, ℕ, Bool, true, false, drop, length, slice_index_or, count_by}
+use Rattle.acl.proofs.Vocabulary.{if◌then◌else◌, ap, sym, refl, List, [], ◌∷◌, ◌++◌, append_assoc, Option, Some, None}
+use Rattle.acl.proofs.Vocabulary.{Err, option_or, AclFault, Act, UserId, BitChange, Object, Known, among, Keeps}
+use Rattle.acl.proofs.Vocabulary.{Answers, sets, user_acts, name_acts, new_acts, name_sets}
 use Rattle.std.proofs.lemmas.List.Sums.{sum_by-cons}
 use Rattle.acl.proofs.InPlace.{drop-next}
-use Rattle.acl_words.specs.declared.entries.AclFault.{AclFault}
 use Rattle.acl_words.specs.declared.entries.AclFault.TheVariants.{UnknownUser, OwnerKept, TooManyUsers, ReservedName}
 use Rattle.acl_words.specs.declared.entries.AclFault.TheVariants.{NoSuchGroup, NoMemory, TooManyGroups}
-use Rattle.acl_words.specs.declared.act.Act.{Act}
-use Rattle.acl_words.specs.declared.user_id.UserId.{UserId}
-use Rattle.acl_words.specs.declared.bits.BitChange.{BitChange}
-use Rattle.acl_words.specs.declared.act.Object.{Object}
-use Rattle.acl_words.specs.declared.act.Act.TheVariants.{Known}
-use Rattle.acl.specs.History.{among}
-use Rattle.acl.specs.Commands.{Keeps, Answers, sets, user_acts, name_acts, new_acts, name_sets}
 
 pub append-nil : (xs : List Act) → xs ≡ xs ++ []
 append-nil [] = refl

@@ -1,38 +1,23 @@
 -- A right that is set in a row, and look-ups in rows and masks that change.
-use Rattle.std.proofs.Common.{◌≡◌, ◌≢◌, ◌∙◌, ℕ, ◌<◌, Bool, true, false, not, ◌==◌, ◌&&◌, ◌||◌, cond, ap, sym, refl}
-use Rattle.std.proofs.Common.{arith, List, [], ◌∷◌, Option, Some, None, is_some, filter, map, if◌then◌else◌}
-use Rattle.std.proofs.Common.{slice_index_or, slice_set, replicate, true≢false, length, get_or-set_same}
-use Rattle.std.proofs.Common.{get_or-set_other, eq-eqb, lit<}
+use Rattle.acl.proofs.Vocabulary.{◌≡◌, ◌≢◌, ◌∙◌, ℕ, ◌<◌, Bool, true, false, not, ◌==◌, ◌&&◌, ◌||◌, cond, ap, sym, refl}
+use Rattle.acl.proofs.Vocabulary.{arith, List, [], ◌∷◌, Option, Some, None, is_some, filter, map, if◌then◌else◌}
+use Rattle.acl.proofs.Vocabulary.{slice_index_or, slice_set, replicate, true≢false, length, get_or-set_same}
+use Rattle.acl.proofs.Vocabulary.{get_or-set_other, eq-eqb, lit<, ◌++◌, option_map_or, option_map, lookup, keys_of}
+use Rattle.acl.proofs.Vocabulary.{same_user, same_bit, same_object, index_of_command, allows, with_bit, no_bits}
+use Rattle.acl.proofs.Vocabulary.{all_bits, slot_of, is_window, bits_on, same_pair, with_window, with_right, new_row}
+use Rattle.acl.proofs.Vocabulary.{Table, StandsFor, granted, is_there, list_any, without_user, PresetKind, Edition}
+use Rattle.acl.proofs.Vocabulary.{UserId, Bit, Bits, Object, Window, Command, Row}
 use Rattle.std.proofs.lemmas.List.{get_or-replicate}
-use Rattle.std.specs.Option.{option_map_or, option_map}
-use Rattle.std.specs.Map.{lookup}
 use Rattle.std.proofs.lemmas.Map.Entries.{lookup-filter-keys}
 use borrow.Author.Tests.{eqb-true}
-use Rattle.acl_words.specs.Same.{same_user, same_bit, same_object, index_of_command}
 use Rattle.acl_words.specs.declared.command_name.TheConstants.CommandName.{COUNT}
-use Rattle.acl_words.specs.BitSets.{allows, with_bit, no_bits, all_bits}
-use Rattle.acl_words.specs.Slots.{slot_of, is_window}
-use Rattle.acl_words.proofs.SlotLemmas.{slots-new}
-use Rattle.std.specs.Map.{keys_of}
-use Rattle.acl.specs.Table.{bits_on, same_pair, with_window, with_right, new_row, Table, StandsFor, granted, is_there}
-use Rattle.std.proofs.Common.{◌++◌}
-use Rattle.std.specs.List.{list_any}
+use Rattle.acl_words.proofs.SlotLemmas.{slots-new, found, slot_of-apart}
 use Rattle.indexmap.specs.IndexSet.{remove_key}
-use Rattle.acl.specs.History.{without_user}
-use Rattle.acl_words.specs.declared.act.PresetKind.{PresetKind}
 use Rattle.acl_words.specs.declared.act.PresetKind.TheVariants as preset
 use Rattle.acl_words.proofs.BitSetLemmas.{allows-with_bit, allows-no_bits, allows-all_bits}
-use Rattle.acl_words.proofs.SlotLemmas.{found, slot_of-apart}
 use Rattle.acl.proofs.StandsForLemmas.{same_user-true}
-use Rattle.acl_words.specs.declared.leaders.Edition.{Edition}
-use Rattle.acl_words.specs.declared.user_id.UserId.{UserId}
-use Rattle.acl_words.specs.declared.bits.Bit.{Bit}
-use Rattle.acl_words.specs.declared.bits.Bits.{Bits}
 use Rattle.acl_words.specs.declared.command_name.CommandName.{CommandName}
 use Rattle.acl_words.specs.declared.command_name.CommandName.TheVariants as command
-use Rattle.acl_words.specs.declared.act.Object.{Object}
-use Rattle.acl_words.specs.declared.act.Object.TheVariants.{Window, Command}
-use Rattle.acl.specs.declared.rows.Row.{Row}
 
 chosen-and : (c d : Bool) (value x : Bool) → (if c then value else x) ≡ (if c && true then value else x)
 chosen-and true d value x = refl

@@ -1,16 +1,6 @@
 -- What a table that stands for a history says: who may do what, and which objects are there.
-use Rattle.std.proofs.Common.{◌≡◌, true, ◌||◌, refl}
-use Rattle.std.specs.List.{list_any}
-use Rattle.acl_words.specs.Same.{same_user}
-use Rattle.acl.specs.History.{History, there}
-use Rattle.acl.specs.History.{may}
-use Rattle.acl.specs.Table.{Table, StandsFor}
-use Rattle.acl.specs.Table.{is_there, lets}
-use Rattle.acl_words.specs.declared.leaders.Edition.{Edition}
-use Rattle.acl_words.specs.declared.user_id.UserId.{UserId}
-use Rattle.acl_words.specs.declared.bits.Bit.{Bit}
-use Rattle.acl_words.specs.declared.act.Object.{Object}
-use Rattle.acl_words.specs.declared.act.Object.TheVariants.{Window, Command}
+use Rattle.acl.proofs.Vocabulary.{◌≡◌, true, ◌||◌, refl, list_any, same_user, History, there, may, Table, StandsFor}
+use Rattle.acl.proofs.Vocabulary.{is_there, lets, Edition, UserId, Bit, Object, Window, Command}
 pub use Rattle.acl_words.proofs.SameLemmas.{same_user-true, same_user-refl}
 
 -- the table lets a user do what the definitions say they may do

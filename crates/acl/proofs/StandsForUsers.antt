@@ -1,26 +1,13 @@
 -- A table to which an act about a user is done stands for the history with that act in front.
-use Rattle.std.proofs.Common.{◌≡◌, ◌≢◌, ◌∙◌, Bool, true, false, not, ◌&&◌, ◌||◌, ap, sym, refl, List, []}
-use Rattle.std.proofs.Common.{◌∷◌, Option, Some, None, is_some, unwrap_or, filter, if◌then◌else◌}
-use Rattle.std.proofs.Common.{true≢false, ◌++◌}
-use Rattle.std.specs.Option.{option_map}
-use Rattle.std.specs.Map.{lookup, keys_of}
-use Rattle.acl_words.specs.Same.{same_user, same_bit, same_object}
-use Rattle.acl_words.specs.BitSets.{allows, with_bit, all_bits}
-use Rattle.acl.specs.History.{History, without_user, there, decided, is_known, mask, preset_of}
-use Rattle.acl.specs.History.{has, leaders_of, leaders_with, greeting}
-use Rattle.acl.specs.Table.{Table, StandsFor, row_of, users_in, bits_on, same_pair}
-use Rattle.acl.specs.Table.{is_there, without_leader, mask_bits}
-use Rattle.acl_words.proofs.SameLemmas.{same_user-true}
+use Rattle.acl.proofs.Vocabulary.{◌≡◌, ◌≢◌, ◌∙◌, Bool, true, false, not, ◌&&◌, ◌||◌, ap, sym, refl, List, [], ◌∷◌}
+use Rattle.acl.proofs.Vocabulary.{Option, Some, None, is_some, unwrap_or, filter, if◌then◌else◌, true≢false, ◌++◌}
+use Rattle.acl.proofs.Vocabulary.{option_map, lookup, keys_of, same_user, same_bit, same_object, allows, with_bit}
+use Rattle.acl.proofs.Vocabulary.{all_bits, History, without_user, there, decided, is_known, mask, preset_of, has}
+use Rattle.acl.proofs.Vocabulary.{leaders_of, leaders_with, greeting, Table, StandsFor, row_of, users_in, bits_on}
+use Rattle.acl.proofs.Vocabulary.{same_pair, is_there, without_leader, mask_bits, same_user-true, Edition, UserId, Bit}
+use Rattle.acl.proofs.Vocabulary.{Bits, Object, Window, Command, Known, Gone, Set, Grouped, Masked, Row}
 use Rattle.acl_words.proofs.BitSetLemmas.{allows-with_bit, allows-all_bits}
-use Rattle.acl_words.specs.declared.leaders.Edition.{Edition}
-use Rattle.acl_words.specs.declared.user_id.UserId.{UserId}
-use Rattle.acl_words.specs.declared.bits.Bit.{Bit}
-use Rattle.acl_words.specs.declared.bits.Bits.{Bits}
-use Rattle.acl_words.specs.declared.act.Object.{Object}
-use Rattle.acl_words.specs.declared.act.Object.TheVariants.{Window, Command}
 use Rattle.acl_words.specs.declared.act.PresetKind.TheVariants as preset
-use Rattle.acl_words.specs.declared.act.Act.TheVariants.{Known, Gone, Set, Grouped, Masked}
-use Rattle.acl.specs.declared.rows.Row.{Row}
 use Rattle.acl.proofs.Choices.{step, step_of, or-true, or-false, known_step, at_row, leaders_at, mask_at}
 
 module _ (t : Table) (edition : Edition) (owner : UserId) (h : History) (s : StandsFor t edition owner h) (u : UserId)

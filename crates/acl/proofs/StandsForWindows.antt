@@ -1,29 +1,16 @@
 -- A table in which a preset is set, or a window is opened or closed, stands for the history with that
 -- act in front.
-use Rattle.std.proofs.Common.{◌≡◌, ◌≢◌, ◌∙◌, ℕ, ◌<◌, Bool, true, false, ◌==◌, ◌&&◌, ap, sym, refl, List}
-use Rattle.std.proofs.Common.{◌∷◌, Option, Some, None, is_some, unwrap_or, if◌then◌else◌, slice_index_or}
-use Rattle.std.proofs.Common.{true≢false, length, get_or-set_same, get_or-set_other}
-use Rattle.std.specs.Option.{option_map_or, option_map}
-use Rattle.std.specs.Map.{lookup, keys_of}
-use Rattle.acl_words.specs.Same.{same_user, same_bit, same_object, same_preset}
-use Rattle.acl_words.specs.BitSets.{allows, with_bit, all_bits, no_bits}
-use Rattle.acl_words.specs.Slots.{slot_of, SlotsStandFor}
-use Rattle.acl.specs.History.{History, open_count, there, decided, is_known, is_open, mask, preset_of}
-use Rattle.acl.specs.History.{has, opening}
-use Rattle.acl.specs.Table.{Table, StandsFor, row_of, users_in, knows, granted, same_pair, preset_bits}
-use Rattle.acl.specs.Table.{is_there, opening_bits, mask_bits, with_window}
-use Rattle.acl_words.proofs.SameLemmas.{same_user-true}
+use Rattle.acl.proofs.Vocabulary.{◌≡◌, ◌≢◌, ◌∙◌, ℕ, ◌<◌, Bool, true, false, ◌==◌, ◌&&◌, ap, sym, refl, List, ◌∷◌}
+use Rattle.acl.proofs.Vocabulary.{Option, Some, None, is_some, unwrap_or, if◌then◌else◌, slice_index_or, true≢false}
+use Rattle.acl.proofs.Vocabulary.{length, get_or-set_same, get_or-set_other, option_map_or, option_map, lookup, keys_of}
+use Rattle.acl.proofs.Vocabulary.{same_user, same_bit, same_object, same_preset, allows, with_bit, all_bits, no_bits}
+use Rattle.acl.proofs.Vocabulary.{slot_of, SlotsStandFor, History, open_count, there, decided, is_known, is_open, mask}
+use Rattle.acl.proofs.Vocabulary.{preset_of, has, opening, Table, StandsFor, row_of, users_in, knows, granted}
+use Rattle.acl.proofs.Vocabulary.{same_pair, preset_bits, is_there, opening_bits, mask_bits, with_window}
+use Rattle.acl.proofs.Vocabulary.{same_user-true, Edition, UserId, Bit, Bits, Object, Window, Command, PresetKind}
+use Rattle.acl.proofs.Vocabulary.{Preset, Opened, Closed, Row}
 use Rattle.acl_words.proofs.BitSetLemmas.{allows-with_bit, allows-all_bits}
-use Rattle.acl_words.specs.declared.leaders.Edition.{Edition}
-use Rattle.acl_words.specs.declared.user_id.UserId.{UserId}
-use Rattle.acl_words.specs.declared.bits.Bit.{Bit}
-use Rattle.acl_words.specs.declared.bits.Bits.{Bits}
-use Rattle.acl_words.specs.declared.act.Object.{Object}
-use Rattle.acl_words.specs.declared.act.Object.TheVariants.{Window, Command}
-use Rattle.acl_words.specs.declared.act.PresetKind.{PresetKind}
 use Rattle.acl_words.specs.declared.act.PresetKind.TheVariants as preset
-use Rattle.acl_words.specs.declared.act.Act.TheVariants.{Preset, Opened, Closed}
-use Rattle.acl.specs.declared.rows.Row.{Row}
 use Rattle.acl.proofs.Choices.{at_row, leaders_at, mask_at}
 
 module _ (t : Table) (edition : Edition) (owner : UserId) (h : History) (s : StandsFor t edition owner h) where

@@ -1,11 +1,9 @@
 -- Cells that are equal field by field look alike.
-use Rattle.std.proofs.Common.{◌≡◌, refl, sym, ap, ◌∙◌}
-use Rattle.cells.specs.declared.cell.Cell.{Cell}
+use Rattle.cells.proofs.Vocabulary.{◌≡◌, refl, sym, ap, ◌∙◌, Cell, unprotected, codes_of, bits_of, rendition_of}
 use Rattle.cells.specs.declared.marks.Marks.{Marks}
 use Rattle.cells.specs.declared.marks.Marks.TheVariants.{Bare, One, Two}
-use Rattle.cells.specs.Line.{unprotected}
-use Rattle.cells.specs.Marks.{codes_of, marks_of}
-use Rattle.cells.specs.Rendition.{Rendition, bits_of, rendition_of}
+use Rattle.cells.specs.Marks.{marks_of}
+use Rattle.cells.specs.Rendition.{Rendition}
 use Rattle.cells.proofs.Packed.{rendition_back}
 
 marks_back : (m : Marks) → marks_of (codes_of m).0 (codes_of m).1 ≡ m

@@ -1,11 +1,7 @@
 -- Cells that are blanked from the front on.
-use Rattle.std.proofs.Common.{◌≡◌, ℕ, ◌+◌, ◌-◌, ◌<◌, ◌≤◌, List, length, take, min, replicate, get_or}
-use Rattle.std.proofs.Common.{sym, ap, ◌∙◌, arith, ⊎_elim}
-use Rattle.std.proofs.lemmas.Bool.{cases_lt}
-use Rattle.std.proofs.lemmas.List.{ext_get_or, get_or-replicate, get_or-take, length-replicate, length-take-le}
-use Rattle.std.specs.List.{CopiedTo, SameBelow}
-use Rattle.cells.specs.declared.cell.Cell.{Cell}
-use Rattle.cells.specs.Line.{blank, cell_at}
+use Rattle.cells.proofs.Vocabulary.{◌≡◌, ℕ, ◌+◌, ◌-◌, ◌<◌, ◌≤◌, List, length, take, min, replicate, get_or, sym, ap}
+use Rattle.cells.proofs.Vocabulary.{◌∙◌, arith, ⊎_elim, cases_lt, ext_get_or, get_or-replicate, get_or-take}
+use Rattle.cells.proofs.Vocabulary.{length-replicate, length-take-le, CopiedTo, SameBelow, Cell, blank, cell_at}
 
 -- the first `done` of `width` cells are blank: at least eight, or all of them
 pub record AreBegun (width done : ℕ) (cells : List Cell) : Type 0 where

@@ -1,10 +1,7 @@
 -- A cut at a boundary keeps halves paired, and leaves no wide character across it.
-use Rattle.std.proofs.Common.{◌≡◌, ℕ, suc, ◌-◌, ◌<◌, true, false, List, length, set, refl, sym, ap, ◌∙◌, arith, ⊎_elim}
-use Rattle.std.proofs.lemmas.List.{get_or-set_same, get_or-set_other, length-set}
-use Rattle.std.proofs.lemmas.Bool.{cases_lt, cases_eq, cases_Bool}
-use Rattle.cells.specs.declared.cell.Cell.{Cell}
-use Rattle.cells.specs.declared.cell.Shape.{Shape}
-use Rattle.cells.specs.Line.{blank, cell_at, is_left, is_right, IsPaired, cut_of}
+use Rattle.cells.proofs.Vocabulary.{◌≡◌, ℕ, suc, ◌-◌, ◌<◌, true, false, List, length, set, refl, sym, ap, ◌∙◌, arith}
+use Rattle.cells.proofs.Vocabulary.{⊎_elim, get_or-set_same, get_or-set_other, length-set, cases_lt, cases_eq}
+use Rattle.cells.proofs.Vocabulary.{cases_Bool, Cell, Shape, blank, cell_at, is_left, is_right, IsPaired, cut_of}
 use Rattle.cells.proofs.Settling.{cell_at_past, true≢false, right_only, left_only}
 
 left_not_right : (s : Shape) → is_left s ≡ true → is_right s ≡ false

@@ -1,16 +1,12 @@
 -- Erasures in place: two, one after the other, are one.
-use Rattle.std.proofs.Common.{◌≡◌, ℕ, zero, suc, ◌+◌, ◌-◌, ◌<◌, ◌≤◌, Bool, true, false, ◌&&◌, ◌||◌, cond, eqb, List}
-use Rattle.std.proofs.Common.{length, replicate, not, leb, ltb, refl, sym, ap, ◌∙◌, ◌⊎◌, inl, inr, arith, ⊎_elim}
-use Rattle.std.proofs.Common.{eq-eqb}
-use Rattle.std.proofs.lemmas.Bool.{cases_lt, cases_eq, cases_Bool, ne_eqb, lt-ltb, le-ltb}
-use Rattle.cells.specs.declared.cell.Cell.{Cell}
-use Rattle.cells.specs.declared.cell.Shape.{Shape}
-use Rattle.cells.specs.declared.cell.Shape.TheVariants.{Narrow, Left, Right}
-use Rattle.cells.specs.Line.{blank, cell_at, is_left, is_right, IsPaired, Source, Fresh, Old, are_halves, kept, settled}
-use Rattle.cells.specs.Line.{source_before, source_after, cells_from, spliced, unprotected_erased}
+use Rattle.cells.proofs.Vocabulary.{◌≡◌, ℕ, zero, suc, ◌+◌, ◌-◌, ◌<◌, ◌≤◌, Bool, true, false, ◌&&◌, ◌||◌, cond, eqb}
+use Rattle.cells.proofs.Vocabulary.{List, length, replicate, not, leb, ltb, refl, sym, ap, ◌∙◌, ◌⊎◌, inl, inr, arith}
+use Rattle.cells.proofs.Vocabulary.{⊎_elim, eq-eqb, cases_lt, cases_eq, cases_Bool, ne_eqb, lt-ltb, le-ltb, Cell, Shape}
+use Rattle.cells.proofs.Vocabulary.{Narrow, Left, Right, blank, cell_at, is_left, is_right, IsPaired, Source, Fresh}
+use Rattle.cells.proofs.Vocabulary.{Old, are_halves, kept, settled, source_before, source_after, cells_from, spliced}
+use Rattle.cells.proofs.Vocabulary.{unprotected_erased, nat_tests}
 use Rattle.cells.proofs.Pages.{cells_from-old}
 use Rattle.cells.proofs.UsedSplices.{same_cells}
-use Rattle.std.proofs.lemmas.Bool.Decides.{nat_tests}
 use Rattle.cells.proofs.Splicing.{at_front, at_fresh, at_rest}
 use Rattle.cells.proofs.Settling.{settled_at, cell_at-cells_from, cells_from-is, length-cells_from, cell_at_past}
 use Rattle.cells.proofs.Settling.{true≢false, after_inside, after_last, IsPaired-cells_from, and_false}

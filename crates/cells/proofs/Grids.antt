@@ -1,15 +1,10 @@
 -- A grid stays well formed; the lines of a page of another size.
-use Rattle.std.proofs.Common.{◌≡◌, ℕ, ◌<◌, ◌≤◌, Bool, List, [], length, set, replicate, refl, sym, ap, ◌∙◌, subst}
-use Rattle.std.proofs.Common.{arith, ⊎_elim}
-use Rattle.std.proofs.lemmas.List.FromFn.{length-map-range_with_len, get_or-map-range_with_len}
-use Rattle.std.proofs.lemmas.List.{get_or_past, get_or-set_same, get_or-set_other, length-set}
-use Rattle.std.proofs.lemmas.Bool.{cases_lt, cases_eq}
-use Rattle.cells.specs.declared.cell.Cell.{Cell}
-use Rattle.cells.specs.declared.cell.Shape.TheVariants.{Narrow}
-use Rattle.cells.specs.Line.{kept, IsPaired, Old, source_before, source_after}
+use Rattle.cells.proofs.Vocabulary.{◌≡◌, ℕ, ◌<◌, ◌≤◌, Bool, List, [], length, set, replicate, refl, sym, ap, ◌∙◌, subst}
+use Rattle.cells.proofs.Vocabulary.{arith, ⊎_elim, length-map-range_with_len, get_or-map-range_with_len, get_or_past}
+use Rattle.cells.proofs.Vocabulary.{get_or-set_same, get_or-set_other, length-set, cases_lt, cases_eq, Cell, Narrow}
+use Rattle.cells.proofs.Vocabulary.{kept, IsPaired, Old, source_before, source_after, line_resized, page_resized}
 use Rattle.cells.specs.Page.{line_at, IsPage, IsWellFormed, IsGrid, IsGridSize, From, line_from}
 use Rattle.cells.specs.Moves.{filled}
-use Rattle.cells.specs.Resizing.{line_resized, page_resized}
 use Rattle.cells.proofs.Pages.{map_same, settled_on_line, before_on_line, after_on_line, IsPaired-line_from}
 use Rattle.cells.proofs.Pages.{IsPaired-nil, IsPage-is, length-line_from, map_replicate}
 

@@ -1,3 +1,4 @@
+pub mod Vocabulary
 pub mod Settling
 pub mod Cutting
 pub mod Splicing

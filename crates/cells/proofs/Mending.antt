@@ -1,11 +1,8 @@
 -- New cells put over old ones, and the torn halves beside them blanked after that.
-use Rattle.std.proofs.Common.{◌≡◌, ℕ, ◌+◌, ◌-◌, ◌<◌, ◌≤◌, Bool, true, false, cond, List, length, set, sym, ap, ◌∙◌}
-use Rattle.std.proofs.Common.{◌⊎◌, inr, subst, arith, ⊎_elim}
-use Rattle.std.proofs.lemmas.List.{ext_get_or, length-set, get_or-set_same, get_or-set_other}
-use Rattle.std.proofs.lemmas.Bool.{cases_lt, cases_eq, cases_Bool}
-use Rattle.cells.specs.declared.cell.Cell.{Cell}
-use Rattle.cells.specs.Line.{blank, cell_at, is_right, IsPaired, cells_spliced, cut_of, fresh_at}
-use Rattle.cells.specs.Put.{IsPut, mended}
+use Rattle.cells.proofs.Vocabulary.{◌≡◌, ℕ, ◌+◌, ◌-◌, ◌<◌, ◌≤◌, Bool, true, false, cond, List, length, set, sym, ap}
+use Rattle.cells.proofs.Vocabulary.{◌∙◌, ◌⊎◌, inr, subst, arith, ⊎_elim, ext_get_or, length-set, get_or-set_same}
+use Rattle.cells.proofs.Vocabulary.{get_or-set_other, cases_lt, cases_eq, cases_Bool, Cell, blank, cell_at, is_right}
+use Rattle.cells.proofs.Vocabulary.{IsPaired, cells_spliced, cut_of, fresh_at, IsPut, mended}
 use Rattle.cells.proofs.Cutting.{before_right, right_inside}
 use Rattle.cells.proofs.Settling.{length-cut_of}
 use Rattle.cells.proofs.Putting.{put_is}

@@ -1,7 +1,6 @@
 -- The cells of each column after the slice calls of a splice.
-use Rattle.std.proofs.Common.{◌≡◌, ℕ, ◌+◌, ◌-◌, ◌<◌, ◌≤◌, List, length, get_or, take, drop, replicate, ap, ◌∙◌, arith}
-use Rattle.std.proofs.Common.{length-take, length-drop, length-append}
-use Rattle.std.proofs.lemmas.List.{places, length-replicate}
+use Rattle.cells.proofs.Vocabulary.{◌≡◌, ℕ, ◌+◌, ◌-◌, ◌<◌, ◌≤◌, List, length, get_or, take, drop, replicate, ap, ◌∙◌}
+use Rattle.cells.proofs.Vocabulary.{arith, length-take, length-drop, length-append, places, length-replicate}
 use borrow.Rule.Slice.PartMut.{put_mid}
 use lib.Seq.{paste}
 

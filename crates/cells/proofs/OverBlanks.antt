@@ -1,12 +1,7 @@
 -- New cells over a splice of as many blanks.
-use Rattle.std.proofs.Common.{◌≡◌, ℕ, ◌+◌, ◌-◌, ◌<◌, ◌≤◌, List, [], ◌∷◌, length, set, replicate, sym, ap, ◌∙◌, arith}
-use Rattle.std.proofs.Common.{⊎_elim}
-use Rattle.std.proofs.lemmas.List.{ext_get_or, length-replicate}
-use Rattle.std.proofs.lemmas.Bool.{cases_lt}
-use Rattle.cells.specs.declared.cell.Cell.{Cell}
-use Rattle.cells.specs.declared.cell.Shape.TheVariants.{Narrow, Left, Right}
-use Rattle.cells.specs.Line.{blank, cell_at, IsPaired, Old, taken, cells_from, spliced}
-use Rattle.cells.specs.Put.{IsPut}
+use Rattle.cells.proofs.Vocabulary.{◌≡◌, ℕ, ◌+◌, ◌-◌, ◌<◌, ◌≤◌, List, [], ◌∷◌, length, set, replicate, sym, ap, ◌∙◌}
+use Rattle.cells.proofs.Vocabulary.{arith, ⊎_elim, ext_get_or, length-replicate, cases_lt, Cell, Narrow, Left, Right}
+use Rattle.cells.proofs.Vocabulary.{blank, cell_at, IsPaired, Old, taken, cells_from, spliced, IsPut}
 use Rattle.cells.proofs.Putting.{IsPut-more, IsPut-one}
 use Rattle.cells.proofs.Settling.{length-cells_from}
 use Rattle.cells.proofs.Splicing.{cell_at-plain_from, plain_from, at_front, at_fresh, at_rest, at_end, cut_thrice}

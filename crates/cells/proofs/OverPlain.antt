@@ -1,16 +1,13 @@
 -- Cells that differ from blanks in their characters only: writing the characters is enough.
-use Rattle.std.proofs.Common.{◌≡◌, ℕ, zero, suc, ◌+◌, ◌-◌, ◌<◌, ◌≤◌, max, Bool, true, false, ◌&&◌, cond, ltb, List, []}
-use Rattle.std.proofs.Common.{◌∷◌, ◌++◌, length, take, drop, get_or, set, replicate, not, leb, refl, sym, ap, ◌∙◌}
-use Rattle.std.proofs.Common.{subst, arith, ⊎_elim}
+use Rattle.cells.proofs.Vocabulary.{◌≡◌, ℕ, zero, suc, ◌+◌, ◌-◌, ◌<◌, ◌≤◌, max, Bool, true, false, ◌&&◌, cond, ltb}
+use Rattle.cells.proofs.Vocabulary.{List, [], ◌∷◌, ◌++◌, length, take, drop, get_or, set, replicate, not, leb, refl}
+use Rattle.cells.proofs.Vocabulary.{sym, ap, ◌∙◌, subst, arith, ⊎_elim, get_or_default, ext_get_or, take_at}
+use Rattle.cells.proofs.Vocabulary.{get_or-replicate, length-replicate, length-take-le, map-append}
+use Rattle.cells.proofs.Vocabulary.{replicate-append-replicate, cases_lt, Cell, blank, plain, cell_at, is_left}
+use Rattle.cells.proofs.Vocabulary.{is_right, cells_from, spliced, narrow_cell, narrow_cells, IsBlankFrom, IsPaired}
+use Rattle.cells.proofs.Vocabulary.{IsPlain, ArePlainFrom, IsNoted, Source, Fresh, Old, taken, unprotected_erased}
+use Rattle.cells.proofs.Vocabulary.{are_halves, kept, source_before, source_after, settled, IsPut}
 use Rattle.std.proofs.Math.Seq.{take-suc}
-use Rattle.std.proofs.lemmas.List.{get_or_default, ext_get_or, take_at, get_or-replicate, length-replicate}
-use Rattle.std.proofs.lemmas.List.{length-take-le, map-append, replicate-append-replicate}
-use Rattle.std.proofs.lemmas.Bool.{cases_lt}
-use Rattle.cells.specs.declared.cell.Cell.{Cell}
-use Rattle.cells.specs.Line.{blank, plain, cell_at, is_left, is_right, cells_from, spliced, narrow_cell, narrow_cells}
-use Rattle.cells.specs.Line.{IsBlankFrom, IsPaired, IsPlain, ArePlainFrom, IsNoted, Source, Fresh, Old}
-use Rattle.cells.specs.Line.{taken, unprotected_erased, are_halves, kept, source_before, source_after, settled}
-use Rattle.cells.specs.Put.{IsPut}
 use Rattle.cells.proofs.Settling.{settled_at, cell_at_past, cell_at-cells_from, length-cells_from, IsPaired-cells_from}
 use Rattle.cells.proofs.Used.{IsBlankFrom-cells_from, spliced_behind}
 use Rattle.cells.proofs.Splicing.{IsPaired-blanks}

@@ -1,14 +1,11 @@
 -- The lines of a page from its origins.
-use Rattle.std.proofs.Common.{◌≡◌, ℕ, zero, suc, ◌+◌, ◌<◌, ◌≤◌, true, false, ◌&&◌, eqb, List, [], ◌∷◌, length, map, set}
-use Rattle.std.proofs.Common.{get_or, replicate, refl, sym, ap, ◌∙◌, subst, arith, ⊎_elim, eq-eqb}
-use Rattle.std.specs.List.{range_with_len}
-use Rattle.std.proofs.lemmas.List.FromFn.{length-map-range_with_len, get_or-map-range_with_len}
-use Rattle.std.proofs.lemmas.List.{get_or_past, ext_get_or, get_or-set_same, get_or-set_other, length-set}
-use Rattle.std.proofs.lemmas.List.{get_or_default}
-use Rattle.std.proofs.lemmas.Bool.{cases_lt, cases_eq, cases_Bool, ne_eqb}
-use Rattle.cells.specs.declared.cell.Cell.{Cell}
-use Rattle.cells.specs.Line.{blank, cell_at, is_left, is_right, IsPaired, Source, Fresh, Old, taken, are_halves}
-use Rattle.cells.specs.Line.{settled, source_before, source_after, cells_from}
+use Rattle.cells.proofs.Vocabulary.{◌≡◌, ℕ, zero, suc, ◌+◌, ◌<◌, ◌≤◌, true, false, ◌&&◌, eqb, List, [], ◌∷◌, length}
+use Rattle.cells.proofs.Vocabulary.{map, set, get_or, replicate, refl, sym, ap, ◌∙◌, subst, arith, ⊎_elim, eq-eqb}
+use Rattle.cells.proofs.Vocabulary.{range_with_len, length-map-range_with_len, get_or-map-range_with_len, get_or_past}
+use Rattle.cells.proofs.Vocabulary.{ext_get_or, get_or-set_same, get_or-set_other, length-set, get_or_default, cases_lt}
+use Rattle.cells.proofs.Vocabulary.{cases_eq, cases_Bool, ne_eqb, Cell, blank, cell_at, is_left, is_right, IsPaired}
+use Rattle.cells.proofs.Vocabulary.{Source, Fresh, Old, taken, are_halves, settled, source_before, source_after}
+use Rattle.cells.proofs.Vocabulary.{cells_from}
 use Rattle.cells.specs.Page.{line_at, IsPage, IsWellFormed, IsGrid, Origin, New, From, cell_from, are_own_halves}
 use Rattle.cells.specs.Page.{settled_cell, origin_before, origin_after, line_from, page_from, on_line, edited}
 use Rattle.cells.proofs.Settling.{kept_is, cells_from-is, settled_at, true≢false, cell_at_past, after_inside, left_kept}

@@ -1,17 +1,11 @@
 -- New cells put over as many old ones.
-use Rattle.std.proofs.Common.{◌≡◌, ℕ, zero, suc, ◌+◌, ◌-◌, ◌<◌, ◌≤◌, min, Bool, false, ◌&&◌, List, [], ◌∷◌, ◌++◌}
-use Rattle.std.proofs.Common.{length, set, subst}
-use Rattle.std.proofs.Common.{replicate, refl, sym, ap, ◌∙◌, ◌⊎◌, inl, inr, arith, ⊎_elim}
-use Rattle.std.proofs.lemmas.List.{length-set, get_or-set_same, get_or-set_other, length-replicate, length-map}
-use Rattle.std.proofs.lemmas.List.{length-append, get_or_append_left, get_or-append_right}
-use Rattle.std.proofs.lemmas.Bool.{cases_lt, cases_eq}
-use Rattle.cells.specs.declared.cell.Cell.{Cell}
-use Rattle.cells.specs.declared.rendition.Rendition.{Rendition}
-use Rattle.cells.specs.declared.cell.Shape.TheVariants.{Narrow}
-use Rattle.cells.specs.Line.{blank, cell_at, is_left, is_right, IsPaired, Source, Fresh, Old, taken, are_halves, kept}
-use Rattle.cells.specs.Line.{settled, source_before, source_after, cells_from, cut_of, spliced, fresh_at, right_follows}
-use Rattle.cells.specs.Line.{narrow_cell, narrow_cells}
-use Rattle.cells.specs.Put.{IsPut, AreNarrow}
+use Rattle.cells.proofs.Vocabulary.{◌≡◌, ℕ, zero, suc, ◌+◌, ◌-◌, ◌<◌, ◌≤◌, min, Bool, false, ◌&&◌, List, [], ◌∷◌, ◌++◌}
+use Rattle.cells.proofs.Vocabulary.{length, set, subst, replicate, refl, sym, ap, ◌∙◌, ◌⊎◌, inl, inr, arith, ⊎_elim}
+use Rattle.cells.proofs.Vocabulary.{length-set, get_or-set_same, get_or-set_other, length-replicate, length-map}
+use Rattle.cells.proofs.Vocabulary.{length-append, get_or_append_left, get_or-append_right, cases_lt, cases_eq, Cell}
+use Rattle.cells.proofs.Vocabulary.{Rendition, Narrow, blank, cell_at, is_left, is_right, IsPaired, Source, Fresh, Old}
+use Rattle.cells.proofs.Vocabulary.{taken, are_halves, kept, settled, source_before, source_after, cells_from, cut_of}
+use Rattle.cells.proofs.Vocabulary.{spliced, fresh_at, right_follows, narrow_cell, narrow_cells, IsPut, AreNarrow}
 use Rattle.cells.proofs.Settling.{cell_at_past, settled_at, cells_from-is, cells_from-agree, after_inside, after_last}
 use Rattle.cells.proofs.Settling.{length-cut_of, cell_at-cells_from, and_false}
 use Rattle.cells.proofs.Splicing.{cell_at-plain_from, at_front, at_fresh, at_rest, cells_from-spliced, cut_thrice}

@@ -1,12 +1,7 @@
 -- New cells over as many old ones where no wide character is torn, and no new cells at all.
-use Rattle.std.proofs.Common.{◌≡◌, ℕ, suc, ◌+◌, ◌-◌, ◌<◌, ◌≤◌, min, false, List, [], ◌∷◌, length, set, sym, ap, ◌∙◌}
-use Rattle.std.proofs.Common.{arith, ⊎_elim}
-use Rattle.std.proofs.lemmas.List.{ext_get_or}
-use Rattle.std.proofs.lemmas.Bool.{cases_lt}
-use Rattle.cells.specs.declared.cell.Cell.{Cell}
-use Rattle.cells.specs.declared.cell.Shape.TheVariants.{Narrow, Left, Right}
-use Rattle.cells.specs.Line.{blank, cell_at, is_left, is_right, IsPaired, Source, Old, taken, cells_from, spliced}
-use Rattle.cells.specs.Put.{IsPut}
+use Rattle.cells.proofs.Vocabulary.{◌≡◌, ℕ, suc, ◌+◌, ◌-◌, ◌<◌, ◌≤◌, min, false, List, [], ◌∷◌, length, set, sym, ap}
+use Rattle.cells.proofs.Vocabulary.{◌∙◌, arith, ⊎_elim, ext_get_or, cases_lt, Cell, Narrow, Left, Right, blank, cell_at}
+use Rattle.cells.proofs.Vocabulary.{is_left, is_right, IsPaired, Source, Old, taken, cells_from, spliced, IsPut}
 use Rattle.cells.proofs.Settling.{cell_at_past}
 use Rattle.cells.proofs.Pages.{cells_from-old}
 use Rattle.cells.proofs.Putting.{IsPut-more, IsPut-one}

@@ -1,15 +1,11 @@
 -- The first cells of a line, put on a blank line of another width, make the resized line.
-use Rattle.std.proofs.Common.{◌≡◌, ℕ, zero, suc, ◌+◌, ◌-◌, ◌<◌, ◌≤◌, min, Bool, true, ◌&&◌, cond, List, length, take}
-use Rattle.std.proofs.Common.{replicate, refl, sym, ap, ◌∙◌, arith, ⊎_elim, eq-eqb, length-take}
-use Rattle.std.proofs.lemmas.List.FromFn.{length-map-range_with_len, get_or-map-range_with_len}
-use Rattle.std.proofs.lemmas.List.{ext_get_or, get_or-take, get_or-replicate, length-replicate}
-use Rattle.std.proofs.lemmas.Bool.{cases_lt}
-use Rattle.cells.specs.declared.cell.Cell.{Cell}
-use Rattle.cells.specs.declared.cell.Shape.{Shape}
-use Rattle.cells.specs.declared.cell.Shape.TheVariants.{Narrow, Left, Right}
-use Rattle.cells.specs.Line.{blank, cell_at, is_left, is_right, IsPaired, Source, Old, are_halves, kept, settled}
-use Rattle.cells.specs.Line.{source_before, source_after, cells_from, spliced, fresh_at, right_follows}
-use Rattle.cells.specs.Resizing.{line_resized}
+use Rattle.cells.proofs.Vocabulary.{◌≡◌, ℕ, zero, suc, ◌+◌, ◌-◌, ◌<◌, ◌≤◌, min, Bool, true, ◌&&◌, cond, List, length}
+use Rattle.cells.proofs.Vocabulary.{take, replicate, refl, sym, ap, ◌∙◌, arith, ⊎_elim, eq-eqb, length-take}
+use Rattle.cells.proofs.Vocabulary.{length-map-range_with_len, get_or-map-range_with_len, ext_get_or, get_or-take}
+use Rattle.cells.proofs.Vocabulary.{get_or-replicate, length-replicate, cases_lt, Cell, Shape, Narrow, Left, Right}
+use Rattle.cells.proofs.Vocabulary.{blank, cell_at, is_left, is_right, IsPaired, Source, Old, are_halves, kept, settled}
+use Rattle.cells.proofs.Vocabulary.{source_before, source_after, cells_from, spliced, fresh_at, right_follows}
+use Rattle.cells.proofs.Vocabulary.{line_resized}
 use Rattle.cells.proofs.Settling.{cell_at_past, true≢false, settled_at, after_inside, after_last, length-cells_from}
 use Rattle.cells.proofs.Settling.{cell_at-cells_from, and_false}
 use Rattle.cells.proofs.Splicing.{at_rest}

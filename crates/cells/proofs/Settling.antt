@@ -1,14 +1,11 @@
 -- The cell of each column of `cells_from`, which keeps halves paired.
-use Rattle.std.proofs.Common.{◌≡◌, ℕ, zero, suc, ◌-◌, ◌<◌, ◌≤◌, Bool, true, false, ◌&&◌, cond, eqb, List, length, set}
-use Rattle.std.proofs.Common.{refl, sym, ap, ◌∙◌, arith, ⊎_elim, eq-eqb}
-use Rattle.std.proofs.lemmas.List.FromFn.{length-map-range_with_len, get_or-map-range_with_len}
-use Rattle.std.proofs.lemmas.List.{get_or_past, ext_get_or, get_or-set_same, get_or-set_other, length-set}
-use Rattle.std.proofs.lemmas.Bool.{cases_lt, cases_eq, cases_Bool, ne_eqb}
-use Rattle.cells.specs.declared.cell.Cell.{Cell}
-use Rattle.cells.specs.declared.cell.Shape.{Shape}
-use Rattle.cells.specs.declared.cell.Shape.TheVariants.{Narrow, Left, Right}
-use Rattle.cells.specs.Line.{blank, cell_at, is_left, is_right, IsPaired, Source, Fresh, Old, taken, are_halves, kept}
-use Rattle.cells.specs.Line.{settled, source_before, source_after, cells_from, cut_of}
+use Rattle.cells.proofs.Vocabulary.{◌≡◌, ℕ, zero, suc, ◌-◌, ◌<◌, ◌≤◌, Bool, true, false, ◌&&◌, cond, eqb, List, length}
+use Rattle.cells.proofs.Vocabulary.{set, refl, sym, ap, ◌∙◌, arith, ⊎_elim, eq-eqb, length-map-range_with_len}
+use Rattle.cells.proofs.Vocabulary.{get_or-map-range_with_len, get_or_past, ext_get_or, get_or-set_same}
+use Rattle.cells.proofs.Vocabulary.{get_or-set_other, length-set, cases_lt, cases_eq, cases_Bool, ne_eqb, Cell, Shape}
+use Rattle.cells.proofs.Vocabulary.{Narrow, Left, Right, blank, cell_at, is_left, is_right, IsPaired, Source, Fresh}
+use Rattle.cells.proofs.Vocabulary.{Old, taken, are_halves, kept, settled, source_before, source_after, cells_from}
+use Rattle.cells.proofs.Vocabulary.{cut_of}
 
 pub length-cells_from : (source : ℕ → Source) (cells : List Cell) → length (cells_from source cells) ≡ length cells
 length-cells_from source cells = length-map-range_with_len _ 0 (length cells)

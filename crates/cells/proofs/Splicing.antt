@@ -1,14 +1,10 @@
 -- A splice, once its boundaries are cut, moves plain cells.
-use Rattle.std.proofs.Common.{◌≡◌, ℕ, zero, suc, ◌+◌, ◌-◌, ◌<◌, ◌≤◌, min, true, false, List, [], ◌∷◌, length, map}
-use Rattle.std.proofs.Common.{replicate, refl, sym, ap, ◌∙◌, ◌⊎◌, inl, inr, subst, arith, ⊎_elim, eq-eqb}
-use Rattle.std.specs.List.{range_with_len}
-use Rattle.std.proofs.lemmas.List.FromFn.{length-map-range_with_len, get_or-map-range_with_len}
-use Rattle.std.proofs.lemmas.List.{ext_get_or, length-replicate, get_or-replicate, get_or_past}
-use Rattle.std.proofs.lemmas.Bool.{cases_lt, lt-ltb, le-ltb}
-use Rattle.cells.specs.declared.cell.Cell.{Cell}
-use Rattle.cells.specs.declared.cell.Shape.TheVariants.{Narrow, Left, Right}
-use Rattle.cells.specs.Line.{blank, cell_at, is_left, is_right, IsPaired, Source, Fresh, Old, taken, are_halves}
-use Rattle.cells.specs.Line.{source_before, source_after, cells_from, cut_of, spliced}
+use Rattle.cells.proofs.Vocabulary.{◌≡◌, ℕ, zero, suc, ◌+◌, ◌-◌, ◌<◌, ◌≤◌, min, true, false, List, [], ◌∷◌, length, map}
+use Rattle.cells.proofs.Vocabulary.{replicate, refl, sym, ap, ◌∙◌, ◌⊎◌, inl, inr, subst, arith, ⊎_elim, eq-eqb}
+use Rattle.cells.proofs.Vocabulary.{range_with_len, length-map-range_with_len, get_or-map-range_with_len, ext_get_or}
+use Rattle.cells.proofs.Vocabulary.{length-replicate, get_or-replicate, get_or_past, cases_lt, lt-ltb, le-ltb, Cell}
+use Rattle.cells.proofs.Vocabulary.{Narrow, Left, Right, blank, cell_at, is_left, is_right, IsPaired, Source, Fresh}
+use Rattle.cells.proofs.Vocabulary.{Old, taken, are_halves, source_before, source_after, cells_from, cut_of, spliced}
 use Rattle.cells.proofs.Settling.{cell_at_past, true≢false, settled_at, cells_from-is, cells_from-cut, Tears, kept_is}
 use Rattle.cells.proofs.Settling.{after_inside, length-cut_of}
 use Rattle.cells.proofs.Moves.{moved_line, length-moved_line, moved_front, moved_blank, moved_rest, moved_end}

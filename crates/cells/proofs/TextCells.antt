@@ -1,22 +1,13 @@
 -- The cells of text.
-use Rattle.std.proofs.Common.{◌≡◌, ℕ, zero, suc, ◌+◌, ◌-◌, ◌<◌, ◌≤◌, Bool, true, false, ◌&&◌, ◌||◌, cond, List, [], ◌∷◌}
-use Rattle.std.proofs.Common.{◌++◌, length, take, append_assoc, refl, sym, ap, ◌∙◌, subst, arith, ⊎_elim}
-use Rattle.std.specs.List.{list_all}
-use Rattle.std.proofs.lemmas.Bool.{cases_Bool}
-use Rattle.std.proofs.lemmas.Bool.Decides.{nat_tests}
-use Rattle.std.proofs.lemmas.List.{append-nil, length-append, length-take-le, get_or-append_right}
-use Rattle.std.proofs.lemmas.List.Folds.{list_all-append}
-use Rattle.charsets.specs.Text.{text}
-use Rattle.charsets.specs.Units.{is_plain, is_character}
+use Rattle.cells.proofs.Vocabulary.{◌≡◌, ℕ, zero, suc, ◌+◌, ◌-◌, ◌<◌, ◌≤◌, Bool, true, false, ◌&&◌, ◌||◌, cond, List}
+use Rattle.cells.proofs.Vocabulary.{[], ◌∷◌, ◌++◌, length, take, append_assoc, refl, sym, ap, ◌∙◌, subst, arith, ⊎_elim}
+use Rattle.cells.proofs.Vocabulary.{list_all, cases_Bool, nat_tests, append-nil, length-append, length-take-le}
+use Rattle.cells.proofs.Vocabulary.{get_or-append_right, list_all-append, text, is_plain, is_character, Cell, Rendition}
+use Rattle.cells.proofs.Vocabulary.{Shape, Narrow, Left, Right, blank, cell_at, is_left, is_right, IsPaired, fresh_at}
+use Rattle.cells.proofs.Vocabulary.{right_follows, marked, plain, narrow_cell, left_cell, right_cell, narrow_cells}
+use Rattle.cells.proofs.Vocabulary.{is_letter, is_known_wide, is_mark, is_base, is_base_or_mark, is_based, base_cell}
+use Rattle.cells.proofs.Vocabulary.{whole, cells_on, text_cells, last_columns, PutsText}
 use Rattle.charsets.proofs.Pieces.{codes-plain}
-use Rattle.cells.specs.declared.cell.Cell.{Cell}
-use Rattle.cells.specs.declared.rendition.Rendition.{Rendition}
-use Rattle.cells.specs.declared.cell.Shape.{Shape}
-use Rattle.cells.specs.declared.cell.Shape.TheVariants.{Narrow, Left, Right}
-use Rattle.cells.specs.Line.{blank, cell_at, is_left, is_right, IsPaired, fresh_at, right_follows, marked}
-use Rattle.cells.specs.Line.{plain, narrow_cell, left_cell, right_cell, narrow_cells}
-use Rattle.cells.specs.Texts.{is_letter, is_known_wide, is_mark, is_base, is_base_or_mark, is_based, base_cell, whole}
-use Rattle.cells.specs.Texts.{cells_on, text_cells, last_columns, PutsText}
 use Rattle.cells.proofs.Pages.{IsPaired-nil}
 use Rattle.cells.proofs.Putting.{length-narrow_cells}
 use Rattle.cells.proofs.OverPlain.{both}

@@ -1,15 +1,11 @@
 -- The columns that stay blank after the used ones.
-use Rattle.std.proofs.Common.{◌≡◌, ℕ, ◌+◌, ◌-◌, ◌<◌, ◌≤◌, max, Bool, true, false, ◌&&◌, cond, leb, ltb, not, suc, List}
-use Rattle.std.proofs.Common.{◌++◌, length, take, drop, set, replicate, refl, sym, ap, ◌∙◌, subst, arith, ⊎_elim}
-use Rattle.std.proofs.lemmas.List.{ext_get_or, take_at, length-replicate, get_or-replicate, length-set}
-use Rattle.std.proofs.lemmas.List.{get_or-set_other, length-append, length-drop, get_or-drop, get_or_append_left}
-use Rattle.std.proofs.lemmas.List.{get_or-append_right}
-use Rattle.std.proofs.lemmas.Bool.{cases_lt}
-use Rattle.cells.specs.declared.cell.Cell.{Cell}
-use Rattle.cells.specs.declared.cell.Shape.TheVariants.{Narrow}
-use Rattle.cells.specs.Line.{blank, cell_at, is_left, is_right, IsBlankFrom, IsUsed, Source, Fresh, Old, taken}
-use Rattle.cells.specs.Line.{are_halves, kept, settled, source_before, source_after, cells_from, spliced}
-use Rattle.cells.specs.Line.{unprotected_erased}
+use Rattle.cells.proofs.Vocabulary.{◌≡◌, ℕ, ◌+◌, ◌-◌, ◌<◌, ◌≤◌, max, Bool, true, false, ◌&&◌, cond, leb, ltb, not, suc}
+use Rattle.cells.proofs.Vocabulary.{List, ◌++◌, length, take, drop, set, replicate, refl, sym, ap, ◌∙◌, subst, arith}
+use Rattle.cells.proofs.Vocabulary.{⊎_elim, ext_get_or, take_at, length-replicate, get_or-replicate, length-set}
+use Rattle.cells.proofs.Vocabulary.{get_or-set_other, length-append, length-drop, get_or-drop, get_or_append_left}
+use Rattle.cells.proofs.Vocabulary.{get_or-append_right, cases_lt, Cell, Narrow, blank, cell_at, is_left, is_right}
+use Rattle.cells.proofs.Vocabulary.{IsBlankFrom, IsUsed, Source, Fresh, Old, taken, are_halves, kept, settled}
+use Rattle.cells.proofs.Vocabulary.{source_before, source_after, cells_from, spliced, unprotected_erased}
 use Rattle.cells.proofs.Settling.{settled_at, cell_at_past, cell_at-cells_from, length-cells_from, IsPaired-cells_from}
 use Rattle.cells.proofs.Splicing.{at_rest, at_end}
 use Rattle.cells.proofs.Putting.{IsPaired-set}

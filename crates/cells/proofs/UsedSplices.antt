@@ -1,15 +1,11 @@
 -- Splices of a line that ends in blanks.
-use Rattle.std.proofs.Common.{◌≡◌, ℕ, zero, suc, ◌+◌, ◌-◌, ◌<◌, ◌≤◌, min, Bool, true, false, ◌&&◌, cond, List, ◌++◌}
-use Rattle.std.proofs.Common.{length, take, drop, replicate, refl, sym, ap, ◌∙◌, ◌⊎◌, inl, inr, arith, ⊎_elim}
-use Rattle.std.proofs.Common.{length-take}
-use Rattle.std.proofs.lemmas.List.{length-replicate, get_or-replicate, get_or_past, length-append, length-drop}
-use Rattle.std.proofs.lemmas.List.{get_or-take, get_or-drop, get_or_append_left, get_or-append_right}
-use Rattle.std.proofs.lemmas.Bool.{cases_lt, ne_eqb}
-use Rattle.cells.specs.declared.cell.Cell.{Cell}
-use Rattle.cells.specs.declared.cell.Shape.{Shape}
-use Rattle.cells.specs.declared.cell.Shape.TheVariants.{Narrow, Left, Right}
-use Rattle.cells.specs.Line.{blank, cell_at, is_left, is_right, IsPaired, IsBlankFrom, Source, Fresh, Old, taken}
-use Rattle.cells.specs.Line.{are_halves, kept, settled, source_before, source_after, cells_from, spliced}
+use Rattle.cells.proofs.Vocabulary.{◌≡◌, ℕ, zero, suc, ◌+◌, ◌-◌, ◌<◌, ◌≤◌, min, Bool, true, false, ◌&&◌, cond, List}
+use Rattle.cells.proofs.Vocabulary.{◌++◌, length, take, drop, replicate, refl, sym, ap, ◌∙◌, ◌⊎◌, inl, inr, arith}
+use Rattle.cells.proofs.Vocabulary.{⊎_elim, length-take, length-replicate, get_or-replicate, get_or_past, length-append}
+use Rattle.cells.proofs.Vocabulary.{length-drop, get_or-take, get_or-drop, get_or_append_left, get_or-append_right}
+use Rattle.cells.proofs.Vocabulary.{cases_lt, ne_eqb, Cell, Shape, Narrow, Left, Right, blank, cell_at, is_left}
+use Rattle.cells.proofs.Vocabulary.{is_right, IsPaired, IsBlankFrom, Source, Fresh, Old, taken, are_halves, kept}
+use Rattle.cells.proofs.Vocabulary.{settled, source_before, source_after, cells_from, spliced}
 use Rattle.cells.proofs.Settling.{cell_at_past, true≢false, and_false, settled_at, cells_from-is, cell_at-cells_from}
 use Rattle.cells.proofs.Settling.{length-cells_from, after_inside, after_last}
 use Rattle.cells.proofs.Splicing.{at_front, at_fresh, at_rest, at_end}

@@ -1,23 +1,15 @@
 -- Text written into cells, character by character.
-use Rattle.std.proofs.Common.{◌≡◌, ℕ, ◌+◌, ◌-◌, ◌<◌, ◌≤◌, Bool, true, false, List, [], ◌∷◌, ◌++◌, length, take}
-use Rattle.std.proofs.Common.{drop, set, append_assoc, refl, sym, ap, ◌∙◌, subst, arith}
+use Rattle.cells.proofs.Vocabulary.{◌≡◌, ℕ, ◌+◌, ◌-◌, ◌<◌, ◌≤◌, Bool, true, false, List, [], ◌∷◌, ◌++◌, length, take}
+use Rattle.cells.proofs.Vocabulary.{drop, set, append_assoc, refl, sym, ap, ◌∙◌, subst, arith, length-append, list_all}
+use Rattle.cells.proofs.Vocabulary.{text, is_character, is_plain, Cell, Rendition, blank, cell_at, left_cell, marked}
+use Rattle.cells.proofs.Vocabulary.{narrow_cell, narrow_cells, right_cell, IsPut, base_cell, is_base, is_based}
+use Rattle.cells.proofs.Vocabulary.{is_known_wide, is_letter, is_mark, last_columns, text_cells, whole, PutsText}
 use Rattle.std.proofs.Math.Seq.{set-append_seam, get_or-append_seam}
-use Rattle.std.proofs.lemmas.List.{length-append}
-use Rattle.std.specs.List.{list_all}
-use Rattle.charsets.specs.Text.{text}
-use Rattle.charsets.specs.Units.{is_character, is_plain}
 use Rattle.charsets.specs.Utf8.{codes}
 use Rattle.charsets.proofs.Texts.{IsText-one, text-more, IsText-more}
-use Rattle.cells.specs.declared.cell.Cell.{Cell}
-use Rattle.cells.specs.declared.rendition.Rendition.{Rendition}
-use Rattle.cells.specs.Line.{blank, cell_at, left_cell, marked, narrow_cell, narrow_cells, right_cell}
-use Rattle.cells.specs.Put.{IsPut}
-use Rattle.cells.specs.Texts.{base_cell, is_base, is_based, is_known_wide, is_letter, is_mark, last_columns, text_cells}
-use Rattle.cells.specs.Texts.{whole, PutsText}
 use Rattle.cells.proofs.Putting.{IsPut-more, IsPut-other}
-use Rattle.cells.proofs.TextCells.{cells_of-plain, plain_puts}
-use Rattle.cells.proofs.TextCells.{base_first, cells-base, is_based-base, is_based-mark, last_is, letter_alone, or_true}
-use Rattle.cells.proofs.TextCells.{some_characters, wide_alone, with_tip}
+use Rattle.cells.proofs.TextCells.{cells_of-plain, plain_puts, base_first, cells-base, is_based-base, is_based-mark}
+use Rattle.cells.proofs.TextCells.{last_is, letter_alone, or_true, some_characters, wide_alone, with_tip}
 
 -- the first bytes are text, and its cells are put
 pub record IsWritten (rendition : Rendition) (is_protected : Bool) (at : ℕ) (bytes : List ℕ) (old line : List Cell)

@@ -1,19 +1,13 @@
 -- What printing appends, part by part.
-use Rattle.std.proofs.Common.{◌≡◌, ℕ, zero, suc, ◌+◌, ◌<◌, ◌≤◌, true, false, cond, List, [], ◌∷◌, ◌++◌, length, take}
-use Rattle.std.proofs.Common.{drop, get_or, refl, sym, ap, ◌∙◌, arith, append_assoc, drop-cons, Result, Ok, Err, OnOk}
-use Rattle.std.specs.Prelude.{◌==◌}
+use Rattle.command_lang.proofs.Vocabulary.{◌≡◌, ℕ, zero, suc, ◌+◌, ◌<◌, ◌≤◌, true, false, cond, List, [], ◌∷◌, ◌++◌}
+use Rattle.command_lang.proofs.Vocabulary.{length, take, drop, get_or, refl, sym, ap, ◌∙◌, arith, append_assoc}
+use Rattle.command_lang.proofs.Vocabulary.{drop-cons, Result, Ok, Err, OnOk, ◌==◌, chars, IsUtf8, encode_utf8_all}
+use Rattle.command_lang.proofs.Vocabulary.{nat_tests, append-nil, length_push, encodes-chars, CommandName, Command}
+use Rattle.command_lang.proofs.Vocabulary.{name_text, name_of, words_of, items_word, quoted, printed_words, printed}
 use Rattle.std.specs.Result.{is_ok}
-use Rattle.std.specs.Str.{chars, IsUtf8, encode_utf8_all}
-use Rattle.std.proofs.lemmas.Bool.Decides.{nat_tests}
-use Rattle.std.proofs.lemmas.List.{append-nil, length_push}
-use Rattle.std.proofs.lemmas.Str.{encodes-append, encodes-chars}
-use Rattle.acl.specs.declared.command_name.CommandName.{CommandName}
+use Rattle.std.proofs.lemmas.Str.{encodes-append}
 use Rattle.acl.specs.declared.command_name.CommandName.TheVariants as name
-use Rattle.command_lang.specs.declared.command.Command.{Command}
-use Rattle.command_lang.specs.Names.{name_text}
-use Rattle.command_lang.specs.Names.{name_of}
-use Rattle.command_lang.specs.Printing.{words_of, items_word, item_behind, escaped, quoted, needs_no_quotes}
-use Rattle.command_lang.specs.Printing.{printed_word, printed_words, printed}
+use Rattle.command_lang.specs.Printing.{item_behind, escaped, needs_no_quotes, printed_word}
 
 pub drop-at : {A : Type 0} (xs : List A) (i : ℕ) (x : A) → i < length xs → x ≡ get_or xs i x
     → drop i xs ≡ x ∷ drop (i + 1) xs

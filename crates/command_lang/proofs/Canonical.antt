@@ -1,14 +1,15 @@
 -- A command's printed words mean what was printed: lists, fixed words, numbers, bits and masks.
-use Rattle.std.proofs.Common.{◌≡◌, ℕ, suc, ◌+◌, ◌<◌, ◌≤◌, ◌^◌, Bool, true, false, not, ◌&&◌, cond, List, [], ◌∷◌, ◌++◌}
-use Rattle.std.proofs.Common.{length, take, drop, codes, refl, sym, ap, ◌∙◌, subst, arith, Option, Some, None}
-use Rattle.std.proofs.Common.{unwrap_or, true≢false, lit<}
-use Rattle.std.specs.Prelude.{◌==◌, nat_lt, nat_le}
-use Rattle.std.specs.Option.{is_some}
-use Rattle.std.specs.List.{list_all}
-use Rattle.std.specs.Str.{bytes_eq, IsUtf8, IsAscii}
-use Rattle.std.specs.Fmt.{decimal}
+use Rattle.command_lang.proofs.Vocabulary.{◌≡◌, ℕ, suc, ◌+◌, ◌<◌, ◌≤◌, ◌^◌, Bool, true, false, not, ◌&&◌, cond, List}
+use Rattle.command_lang.proofs.Vocabulary.{[], ◌∷◌, ◌++◌, length, take, drop, refl, sym, ap, ◌∙◌, subst, arith, Option}
+use Rattle.command_lang.proofs.Vocabulary.{Some, None, unwrap_or, true≢false, lit<, ◌==◌, nat_lt, nat_le, is_some}
+use Rattle.command_lang.proofs.Vocabulary.{list_all, IsUtf8, decimal, nat_tests, Bit, BitChange, mask_fault, is_digit}
+use Rattle.command_lang.proofs.Vocabulary.{number_after, is_number, number_in, lock_mode_in, switch_in, coding_in}
+use Rattle.command_lang.proofs.Vocabulary.{is_vertical, items_of, is_empty_text, has_empty_item, users_of, leader_of}
+use Rattle.command_lang.proofs.Vocabulary.{is_sign, bit_of, goes_on, is_bits, change_of, value_after, bits_after}
+use Rattle.command_lang.proofs.Vocabulary.{bits_of, sign_place, mask_users, mask_of, items_word, bits_word, mask_word}
+use Rattle.std.proofs.Common.{codes}
+use Rattle.std.specs.Str.{bytes_eq, IsAscii}
 use Rattle.std.specs.Int.{IsInRange}
-use Rattle.std.proofs.lemmas.Bool.Decides.{nat_tests}
 use Rattle.std.proofs.Math.Seq.{take-append_seam, drop-append_seam}
 use Rattle.std.proofs.lemmas.Slice.Eq.{bytes_eq-Decides}
 use Rattle.std.proofs.lemmas.List.Splits.{join_with_byte-slice_split}
@@ -19,22 +20,14 @@ use Rattle.std.proofs.lemmas.Fmt.{digits_decimal, digits_value-decimal, length-d
 use Rattle.std.proofs.lemmas.Fmt.{IsAscii-decimal}
 use Rattle.acl.specs.declared.act.LockMode.{LockMode}
 use Rattle.acl.specs.declared.act.LockMode.TheVariants as lock_mode
-use Rattle.acl.specs.declared.bits.Bit.{Bit}
 use Rattle.acl.specs.declared.bits.Bit.TheVariants.{Read, Write, Execute}
-use Rattle.acl.specs.declared.bits.BitChange.{BitChange}
 use Rattle.command_lang.specs.declared.command.Coding.{Coding}
 use Rattle.command_lang.specs.declared.command.Coding.TheVariants as coding
 use Rattle.command_lang.specs.declared.command.Users.TheVariants as users
 use Rattle.command_lang.specs.declared.command.Leader.TheVariants as leader
 use Rattle.command_lang.specs.declared.fault.FaultKind.TheVariants as faults
-use Rattle.command_lang.specs.MaskFaults.{mask_fault}
-use Rattle.command_lang.specs.Values.{is_digit, number_after, is_number, number_in, lock_mode_in, switch_in}
-use Rattle.command_lang.specs.Values.{coding_in, is_vertical, items_of, is_empty_text, has_empty_item, users_of}
-use Rattle.command_lang.specs.Values.{leader_of, is_sign, bit_of, goes_on, is_bits, change_of, value_after}
-use Rattle.command_lang.specs.Values.{bits_after, bits_of, sign_place, mask_users, mask_of}
-use Rattle.command_lang.specs.Printing.{items_word, users_word, leader_word, letter, sign, sign_before}
-use Rattle.command_lang.specs.Printing.{change_behind, bits_behind, bits_word, mask_users_word, mask_word}
-use Rattle.command_lang.specs.Printing.{lock_mode_word, switch_word, coding_word}
+use Rattle.command_lang.specs.Printing.{users_word, leader_word, letter, sign, sign_before, change_behind, bits_behind}
+use Rattle.command_lang.specs.Printing.{mask_users_word, lock_mode_word, switch_word, coding_word}
 use Rattle.command_lang.proofs.Scalars.{and-parts, and-both}
 use Rattle.command_lang.proofs.Signs.{sign_cut}
 

@@ -1,11 +1,9 @@
 -- The digits of a number, read one after another.
-use Rattle.std.proofs.Common.{◌≡◌, ℕ, zero, suc, ◌+◌, ◌-◌, ◌*◌, ◌<◌, true, ◌&&◌, List, [], ◌∷◌, ◌++◌, length, take}
-use Rattle.std.proofs.Common.{get_or, refl, sym, ap, ◌∙◌, arith, ◌^◌}
-use Rattle.std.specs.List.{list_all}
-use Rattle.std.proofs.lemmas.Bool.Decides.{nat_tests}
+use Rattle.command_lang.proofs.Vocabulary.{◌≡◌, ℕ, zero, suc, ◌+◌, ◌-◌, ◌*◌, ◌<◌, true, ◌&&◌, List, [], ◌∷◌, ◌++◌}
+use Rattle.command_lang.proofs.Vocabulary.{length, take, get_or, refl, sym, ap, ◌∙◌, arith, ◌^◌, list_all, nat_tests}
+use Rattle.command_lang.proofs.Vocabulary.{is_digit, number_after}
 use Rattle.std.proofs.Math.Nat.{pow-suc}
 use Rattle.std.proofs.lemmas.List.Folds.{list_all-append}
-use Rattle.command_lang.specs.Values.{is_digit, number_after}
 
 -- taking one more digit appends that digit
 take-more : (xs : List ℕ) (i : ℕ) → i < length xs → take (i + 1) xs ≡ take i xs ++ get_or xs i 0 ∷ []

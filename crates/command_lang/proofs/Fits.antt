@@ -1,25 +1,15 @@
 -- If words have no fault, the table wants them, and they mean a command.
-use Rattle.std.proofs.Common.{◌≡◌, ℕ, ◌+◌, Bool, true, false, cond, List, [], ◌∷◌, ◌++◌, refl, sym, ap, ◌∙◌, Option}
-use Rattle.std.proofs.Common.{Some, None, option_to_list, true≢false, ◌<◌, arith}
-use Rattle.std.specs.Prelude.{nat_lt, not, ◌||◌}
-use Rattle.std.proofs.lemmas.Bool.Decides.{nat_tests}
-use Rattle.std.specs.Option.{is_some, option_map}
-use Rattle.acl.specs.declared.command_name.CommandName.{CommandName}
+use Rattle.command_lang.proofs.Vocabulary.{◌≡◌, ℕ, ◌+◌, Bool, true, false, cond, List, [], ◌∷◌, ◌++◌, refl, sym, ap}
+use Rattle.command_lang.proofs.Vocabulary.{◌∙◌, Option, Some, None, option_to_list, true≢false, ◌<◌, arith, nat_lt, not}
+use Rattle.command_lang.proofs.Vocabulary.{◌||◌, nat_tests, is_some, option_map, CommandName, Words, Word, FaultKind}
+use Rattle.command_lang.proofs.Vocabulary.{ParseFault, Command, unless, number_in, is_number, number_after, is_vertical}
+use Rattle.command_lang.proofs.Vocabulary.{takes, least, kind_at, kind_fault, at_place, word_fault, words_faults}
+use Rattle.command_lang.proofs.Vocabulary.{first_of, bare, with_word, with_words, command_of, texts_of}
 use Rattle.acl.specs.declared.command_name.CommandName.TheVariants as name
 use Rattle.command_lang.specs.declared.rows.Kind.{Kind}
-use Rattle.command_lang.specs.declared.rows.Words.{Words}
 use Rattle.command_lang.specs.declared.rows.Words.TheVariants.{Nothing, One, Perhaps, OneOrTwo, Three, Several}
-use Rattle.strings.specs.declared.text.Word.{Word}
-use Rattle.command_lang.specs.declared.fault.FaultKind.{FaultKind}
 use Rattle.command_lang.specs.declared.fault.FaultKind.TheVariants as faults
-use Rattle.command_lang.specs.declared.fault.ParseFault.{ParseFault}
-use Rattle.command_lang.specs.declared.command.Command.{Command}
 use Rattle.command_lang.specs.declared.command.Command.TheVariants as command
-use Rattle.command_lang.specs.MaskFaults.{unless}
-use Rattle.command_lang.specs.Values.{number_in, is_number, number_after, is_vertical}
-use Rattle.command_lang.specs.Rows.{takes}
-use Rattle.command_lang.specs.Table.{least, kind_at, kind_fault, at_place, word_fault, words_faults, first_of}
-use Rattle.command_lang.specs.Meaning.{bare, with_word, with_words, command_of, texts_of}
 
 -- each text is of the kind that its row wants
 abbrev pub AllFit : Kind → List (List ℕ) → Type 0

@@ -1,3 +1,4 @@
+pub mod Vocabulary
 pub mod Whole
 pub mod Scalars
 pub mod Canonical

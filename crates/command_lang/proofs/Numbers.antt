@@ -1,19 +1,12 @@
 -- A command that gives a window a number gives it a number below 40.
-use Rattle.std.proofs.Common.{◌≡◌, ℕ, ◌<◌, Bool, true, false, List, [], ◌∷◌, Option, Some, None, refl, ap, sym, ◌∙◌}
-use Rattle.std.proofs.Common.{arith}
-use Rattle.std.specs.Prelude.{nat_lt, nat_le, ◌&&◌, if◌then◌else◌}
-use Rattle.std.specs.Option.{option_map, option_map_or, option_and_then}
-use Rattle.std.proofs.lemmas.Bool.Decides.{nat_tests}
-use Rattle.acl.specs.declared.command_name.CommandName.{CommandName}
+use Rattle.command_lang.proofs.Vocabulary.{◌≡◌, ℕ, ◌<◌, Bool, true, false, List, [], ◌∷◌, Option, Some, None, refl, ap}
+use Rattle.command_lang.proofs.Vocabulary.{sym, ◌∙◌, arith, nat_lt, nat_le, ◌&&◌, if◌then◌else◌, option_map}
+use Rattle.command_lang.proofs.Vocabulary.{option_map_or, option_and_then, nat_tests, CommandName, Word, Command}
+use Rattle.command_lang.proofs.Vocabulary.{command_named, number_in, number_after, is_number, is_vertical, lock_mode_in}
+use Rattle.command_lang.proofs.Vocabulary.{switch_in, coding_in, bare, with_word, with_words, command_of, texts_of}
+use Rattle.command_lang.proofs.Vocabulary.{line_command, Relates}
 use Rattle.acl.specs.declared.command_name.CommandName.TheVariants as name
-use Rattle.strings.specs.declared.text.Word.{Word}
-use Rattle.command_lang.specs.declared.command.Command.{Command}
 use Rattle.command_lang.specs.declared.command.Command.TheVariants as command
-use Rattle.command_lang.specs.Names.{command_named}
-use Rattle.command_lang.specs.Values.{number_in, number_after, is_number, is_vertical, lock_mode_in, switch_in}
-use Rattle.command_lang.specs.Values.{coding_in}
-use Rattle.command_lang.specs.Meaning.{bare, with_word, with_words, command_of, texts_of, line_command}
-use Rattle.command_lang.specs.Relation.{Relates}
 
 abbrev pub is_small : Command → Bool
 is_small (command.Number n) = nat_lt n 40

@@ -1,24 +1,13 @@
 -- Each line is a command or has a fault, and not both.
-use Rattle.std.proofs.Common.{◌≡◌, ℕ, ◌<◌, ◌≤◌, Bool, true, false, cond, List, [], ◌∷◌, length, refl, sym, ap, ◌∙◌}
-use Rattle.std.proofs.Common.{subst, arith, Option, Some, None, Result, Ok, Err, inl, inr, ◌⊎◌, true≢false}
-use Rattle.std.specs.Prelude.{nat_lt}
-use Rattle.std.proofs.lemmas.Bool.Decides.{nat_tests}
-use Rattle.std.specs.Option.{is_some, option_and_then}
-use Rattle.std.specs.Str.{chars, is_utf8}
-use Rattle.acl.specs.declared.command_name.CommandName.{CommandName}
-use Rattle.strings.specs.declared.text.Word.{Word}
+use Rattle.command_lang.proofs.Vocabulary.{◌≡◌, ℕ, ◌<◌, ◌≤◌, Bool, true, false, cond, List, [], ◌∷◌, length, refl, sym}
+use Rattle.command_lang.proofs.Vocabulary.{ap, ◌∙◌, subst, arith, Option, Some, None, Result, Ok, Err, inl, inr, ◌⊎◌}
+use Rattle.command_lang.proofs.Vocabulary.{true≢false, nat_lt, nat_tests, is_some, option_and_then, chars, is_utf8}
+use Rattle.command_lang.proofs.Vocabulary.{CommandName, Word, words-are, words-cut, Command, ParseFault, command_named}
+use Rattle.command_lang.proofs.Vocabulary.{takes, at, first_of, command_of, texts_of, line_command, named_faults}
+use Rattle.command_lang.proofs.Vocabulary.{line_faults, HasWords, Relates, Refuses, faults_of, command_or, read_line}
 use Rattle.strings.specs.Lines.{words}
-use Rattle.strings.proofs.Readings.{words-are, words-cut}
-use Rattle.command_lang.specs.declared.command.Command.{Command}
 use Rattle.command_lang.specs.declared.fault.FaultKind.TheVariants as faults
-use Rattle.command_lang.specs.declared.fault.ParseFault.{ParseFault}
-use Rattle.command_lang.specs.Names.{command_named}
-use Rattle.command_lang.specs.Rows.{takes}
-use Rattle.command_lang.specs.Table.{at, first_of}
-use Rattle.command_lang.specs.Meaning.{command_of, texts_of, line_command}
-use Rattle.command_lang.specs.LineFaults.{named_faults, line_faults}
 use Rattle.command_lang.proofs.Fits.{fits, means_one}
-use Rattle.command_lang.specs.Relation.{HasWords, Relates, Refuses, faults_of, command_or, read_line}
 
 -- what is computed for such a line
 short : (line : List ℕ) → length line ≤ 1024 → nat_lt 1024 (length line) ≡ false

@@ -1,26 +1,14 @@
 -- The first fault of a line has the least place.
-use Rattle.std.proofs.Common.{◌≡◌, ℕ, ◌+◌, ◌-◌, ◌≤◌, Bool, true, false, cond, List, [], ◌∷◌, ◌++◌, length, sym, ap, ◌∙◌}
-use Rattle.std.proofs.Common.{subst, arith, Option, Some, None, option_to_list, unwrap_or, true≢false}
-use Rattle.std.specs.Prelude.{nat_lt}
+use Rattle.command_lang.proofs.Vocabulary.{◌≡◌, ℕ, ◌+◌, ◌-◌, ◌≤◌, Bool, true, false, cond, List, [], ◌∷◌, ◌++◌, length}
+use Rattle.command_lang.proofs.Vocabulary.{sym, ap, ◌∙◌, subst, arith, Option, Some, None, option_to_list, unwrap_or}
+use Rattle.command_lang.proofs.Vocabulary.{true≢false, nat_lt, is_some, chars, encodes-chars, IsUtf8-from_is_utf8}
+use Rattle.command_lang.proofs.Vocabulary.{CommandName, Word, Words, FaultKind, ParseFault, command_named, Line, IsCut}
+use Rattle.command_lang.proofs.Vocabulary.{size, one_cut, takes, least, kind_at, at, at_place, judged, words_faults}
+use Rattle.command_lang.proofs.Vocabulary.{first_of, HasWords, Refuses, NoneBefore, named_faults, line_faults}
 use Rattle.std.specs.List.{AllByRecursion}
-use Rattle.std.specs.Option.{is_some}
-use Rattle.std.specs.Str.{chars}
-use Rattle.std.proofs.lemmas.Str.{encodes-chars, IsUtf8-from_is_utf8}
-use Rattle.acl.specs.declared.command_name.CommandName.{CommandName}
-use Rattle.strings.specs.declared.text.Word.{Word}
-use Rattle.command_lang.specs.declared.rows.Words.{Words}
-use Rattle.command_lang.specs.declared.fault.FaultKind.{FaultKind}
 use Rattle.command_lang.specs.declared.fault.FaultKind.TheVariants as faults
-use Rattle.command_lang.specs.declared.fault.ParseFault.{ParseFault}
-use Rattle.command_lang.specs.Names.{command_named}
-use Rattle.strings.specs.Grammar.{Line, IsCut, size}
 use Rattle.strings.proofs.Suffixes.{smaller, word-behind}
 use Rattle.strings.proofs.Cutting.{size-cons}
-use Rattle.strings.proofs.Readings.{one_cut}
-use Rattle.command_lang.specs.Rows.{takes}
-use Rattle.command_lang.specs.Table.{least, kind_at, at, at_place, judged, words_faults, first_of}
-use Rattle.command_lang.specs.Relation.{HasWords, Refuses, NoneBefore}
-use Rattle.command_lang.specs.LineFaults.{named_faults, line_faults}
 
 -- words at rising places, all of them from the first place to the end
 abbrev Rising : ℕ → ℕ → List Word → Type 0

@@ -1,10 +1,8 @@
 -- What is quoted reads back as it was.
-use Rattle.std.proofs.Common.{◌≡◌, ◌≢◌, ℕ, ◌+◌, ◌-◌, ◌*◌, ◌/◌, ◌%◌, ◌<◌, Bool, true, false, ◌&&◌, ◌||◌, cond, List, []}
-use Rattle.std.proofs.Common.{◌∷◌, ◌++◌, refl, ap, ◌∙◌, arith, Option, Some, None}
-use Rattle.std.specs.Prelude.{nat_lt, ◌==◌}
-use Rattle.std.proofs.lemmas.Bool.Decides.{nat_tests}
-use Rattle.strings.specs.Grammar.{is_octal, octal_front, Escaped, Character, Double}
-use Rattle.command_lang.specs.Printing.{octal, quoted}
+use Rattle.command_lang.proofs.Vocabulary.{◌≡◌, ◌≢◌, ℕ, ◌+◌, ◌-◌, ◌*◌, ◌/◌, ◌%◌, ◌<◌, Bool, true, false, ◌&&◌, ◌||◌}
+use Rattle.command_lang.proofs.Vocabulary.{cond, List, [], ◌∷◌, ◌++◌, refl, ap, ◌∙◌, arith, Option, Some, None, nat_lt}
+use Rattle.command_lang.proofs.Vocabulary.{◌==◌, nat_tests, is_octal, octal_front, Escaped, Character, Double, quoted}
+use Rattle.command_lang.specs.Printing.{octal}
 
 backslash_apart : ◌≢◌ {A = ℕ} 0x5C 0x22
 backslash_apart h = omega (arith, h)

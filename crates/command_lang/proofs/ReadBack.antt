@@ -1,25 +1,14 @@
 -- A printed command reads back.
-use Rattle.std.proofs.Common.{◌≡◌, ℕ, ◌≤◌, Bool, true, false, cond, List, [], ◌∷◌, length, refl, sym, ap, ◌∙◌, subst}
-use Rattle.std.proofs.Common.{Option, Some, None, true≢false}
-use Rattle.std.specs.Option.{is_some, option_and_then}
-use Rattle.std.specs.Str.{chars, IsUtf8}
-use Rattle.std.proofs.lemmas.Str.{IsUtf8-from_is_utf8, chars-encodes, scalars-chars}
-use Rattle.acl.specs.declared.command_name.CommandName.{CommandName}
+use Rattle.command_lang.proofs.Vocabulary.{◌≡◌, ℕ, ◌≤◌, Bool, true, false, cond, List, [], ◌∷◌, length, refl, sym, ap}
+use Rattle.command_lang.proofs.Vocabulary.{◌∙◌, subst, Option, Some, None, true≢false, is_some, option_and_then, chars}
+use Rattle.command_lang.proofs.Vocabulary.{IsUtf8, IsUtf8-from_is_utf8, scalars-chars, CommandName, Command, Word}
+use Rattle.command_lang.proofs.Vocabulary.{ParseFault, name_text, command_named, name_of, takes, at, words_faults}
+use Rattle.command_lang.proofs.Vocabulary.{first_of, IsCut, command_of, texts_of, line_command, Relates, Refuses}
+use Rattle.command_lang.proofs.Vocabulary.{named_faults, line_faults, ReadsBack, words_of, printed}
+use Rattle.std.proofs.lemmas.Str.{chars-encodes}
 use Rattle.acl.specs.declared.command_name.CommandName.TheVariants as name
-use Rattle.command_lang.specs.declared.command.Command.{Command}
-use Rattle.strings.specs.declared.text.Word.{Word}
 use Rattle.command_lang.specs.declared.fault.FaultKind.TheVariants as faults
-use Rattle.command_lang.specs.declared.fault.ParseFault.{ParseFault}
-use Rattle.command_lang.specs.Names.{name_text, command_named}
-use Rattle.command_lang.specs.Rows.{takes}
-use Rattle.command_lang.specs.Table.{at, words_faults, first_of}
-use Rattle.strings.specs.Grammar.{IsCut}
-use Rattle.command_lang.specs.Meaning.{command_of, texts_of, line_command}
-use Rattle.command_lang.specs.Relation.{Relates, Refuses}
-use Rattle.command_lang.specs.LineFaults.{named_faults, line_faults}
-use Rattle.command_lang.specs.ReadsBack.{ReadsBack}
-use Rattle.command_lang.specs.Names.{name_of}
-use Rattle.command_lang.specs.Printing.{words_of, printed_chars, printed}
+use Rattle.command_lang.specs.Printing.{printed_chars}
 use Rattle.command_lang.proofs.Fits.{Fits, fits, no_faults}
 use Rattle.command_lang.proofs.Scalars.{AllText, of-cut}
 use Rattle.command_lang.proofs.Sound.{Sound, sound}

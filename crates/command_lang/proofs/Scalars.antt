@@ -1,16 +1,11 @@
 -- The texts of words that are cut from characters are made of characters.
-use Rattle.std.proofs.Common.{◌≡◌, ℕ, ◌+◌, ◌-◌, ◌*◌, ◌<◌, Bool, true, false, ◌&&◌, cond, List, [], ◌∷◌, ◌++◌, refl, sym}
-use Rattle.std.proofs.Common.{ap, ◌∙◌, arith, true≢false, Option, Some, None, unwrap_or}
-use Rattle.std.specs.Prelude.{nat_lt}
-use Rattle.std.proofs.lemmas.Bool.Decides.{nat_tests}
-use Rattle.std.proofs.Math.Utf8.{scalars, scalar}
-use Rattle.std.specs.Str.{IsUtf8}
-use Rattle.std.specs.Option.{is_some}
-use Rattle.strings.specs.declared.text.Word.{Word}
-use Rattle.strings.specs.Grammar.{is_octal, octal_front, Escaped, Character, Single, Double, Part, Parts}
-use Rattle.strings.specs.Grammar.{Line, IsCut, size}
+use Rattle.command_lang.proofs.Vocabulary.{◌≡◌, ℕ, ◌+◌, ◌-◌, ◌*◌, ◌<◌, Bool, true, false, ◌&&◌, cond, List, [], ◌∷◌}
+use Rattle.command_lang.proofs.Vocabulary.{◌++◌, refl, sym, ap, ◌∙◌, arith, true≢false, Option, Some, None, unwrap_or}
+use Rattle.command_lang.proofs.Vocabulary.{nat_lt, nat_tests, scalars, scalar, IsUtf8, is_some, Word, is_octal}
+use Rattle.command_lang.proofs.Vocabulary.{octal_front, Escaped, Character, Double, Part, Parts, Line, IsCut, size}
+use Rattle.command_lang.proofs.Vocabulary.{texts_of}
+use Rattle.strings.specs.Grammar.{Single}
 use Rattle.strings.proofs.Suffixes.{Behind, character-behind, part-behind, parts-behind}
-use Rattle.command_lang.specs.Meaning.{texts_of}
 
 pub and-parts : (a b : Bool) → (a && b) ≡ true → (a ≡ true) × (b ≡ true)
 and-parts true b h = (refl, h)

@@ -1,13 +1,9 @@
 -- Bits, read byte by byte, and the place at which they begin.
-use Rattle.std.proofs.Common.{◌≡◌, ℕ, suc, ◌+◌, ◌<◌, ◌≤◌, Bool, true, false, not, ◌&&◌, cond, List, [], ◌∷◌, ◌++◌}
-use Rattle.std.proofs.Common.{length, drop, get_or, Option, Some, None, refl, sym, ap, ◌∙◌, arith, unwrap_or}
-use Rattle.std.proofs.Common.{append_assoc, drop-cons}
-use Rattle.std.specs.Prelude.{nat_lt}
+use Rattle.command_lang.proofs.Vocabulary.{◌≡◌, ℕ, suc, ◌+◌, ◌<◌, ◌≤◌, Bool, true, false, not, ◌&&◌, cond, List, []}
+use Rattle.command_lang.proofs.Vocabulary.{◌∷◌, ◌++◌, length, drop, get_or, Option, Some, None, refl, sym, ap, ◌∙◌}
+use Rattle.command_lang.proofs.Vocabulary.{arith, unwrap_or, append_assoc, drop-cons, nat_lt, nat_tests, Bit, BitChange}
+use Rattle.command_lang.proofs.Vocabulary.{is_sign, is_letter, bit_of, goes_on, change_of, value_after, bits_after}
 use Rattle.std.specs.List.{position_or_len}
-use Rattle.std.proofs.lemmas.Bool.Decides.{nat_tests}
-use Rattle.acl.specs.declared.bits.Bit.{Bit}
-use Rattle.acl.specs.declared.bits.BitChange.{BitChange}
-use Rattle.command_lang.specs.Values.{is_sign, is_letter, bit_of, goes_on, change_of, value_after, bits_after}
 
 drop-at : (cs : List ℕ) (i x : ℕ) → i < length cs → x ≡ get_or cs i x → drop i cs ≡ x ∷ drop (i + 1) cs
 drop-at cs i x h e =

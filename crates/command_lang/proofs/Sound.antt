@@ -1,24 +1,15 @@
 -- What the words of a printed command mean.
-use Rattle.std.proofs.Common.{◌≡◌, ℕ, ◌≤◌, true, false, cond, List, [], ◌∷◌, map, refl, sym, ap, ◌∙◌, subst, arith}
-use Rattle.std.proofs.Common.{Option, Some, None, true≢false}
-use Rattle.std.specs.Prelude.{MatchOption}
-use Rattle.std.specs.Option.{is_some, option_map}
-use Rattle.std.specs.Str.{IsUtf8}
-use Rattle.std.specs.Fmt.{decimal}
-use Rattle.acl.specs.declared.command_name.CommandName.{CommandName}
+use Rattle.command_lang.proofs.Vocabulary.{◌≡◌, ℕ, ◌≤◌, true, false, cond, List, [], ◌∷◌, map, refl, sym, ap, ◌∙◌}
+use Rattle.command_lang.proofs.Vocabulary.{subst, arith, Option, Some, None, true≢false, MatchOption, is_some}
+use Rattle.command_lang.proofs.Vocabulary.{option_map, IsUtf8, decimal, CommandName, Command, unless, number_in}
+use Rattle.command_lang.proofs.Vocabulary.{number_after, is_vertical, lock_mode_in, switch_in, coding_in, users_of}
+use Rattle.command_lang.proofs.Vocabulary.{items_of, leader_of, bits_of, mask_of, takes, bare, with_word, with_words}
+use Rattle.command_lang.proofs.Vocabulary.{command_of, name_of, words_of, mask_word, bits_word}
 use Rattle.acl.specs.declared.command_name.CommandName.TheVariants as name
-use Rattle.command_lang.specs.declared.command.Command.{Command}
 use Rattle.command_lang.specs.declared.command.Command.TheVariants as command
 use Rattle.command_lang.specs.declared.command.Mask.{Mask}
 use Rattle.command_lang.specs.declared.rows.Kind.TheVariants as kind
 use Rattle.command_lang.specs.declared.fault.FaultKind.TheVariants as faults
-use Rattle.command_lang.specs.MaskFaults.{unless}
-use Rattle.command_lang.specs.Values.{number_in, number_after, is_vertical, lock_mode_in, switch_in, coding_in}
-use Rattle.command_lang.specs.Values.{users_of, items_of, leader_of, bits_of, mask_of}
-use Rattle.command_lang.specs.Rows.{takes}
-use Rattle.command_lang.specs.Meaning.{bare, with_word, with_words, command_of}
-use Rattle.command_lang.specs.Names.{name_of}
-use Rattle.command_lang.specs.Printing.{words_of, mask_word, bits_word}
 use Rattle.command_lang.proofs.Fits.{Fits, AllFit, passes}
 use Rattle.command_lang.proofs.Scalars.{AllText}
 use Rattle.command_lang.proofs.Canonical.{some-same, items_again, users_again, leader_again, lock_mode_again}

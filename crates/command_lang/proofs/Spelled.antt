@@ -1,22 +1,12 @@
 -- A line that is printed is cut into the words that were printed.
-use Rattle.std.proofs.Common.{◌≡◌, ◌≢◌, Some, ℕ, ◌+◌, ◌-◌, ◌/◌, ◌%◌, Bool, true, false, not, ◌&&◌, ◌||◌, cond, List, []}
-use Rattle.std.proofs.Common.{◌∷◌, ◌++◌, refl, sym, ap, ◌∙◌, subst, arith, append_assoc, true≢false}
-use Rattle.std.specs.Prelude.{◌==◌, nat_lt}
-use Rattle.std.specs.List.{list_all}
-use Rattle.std.specs.Str.{chars, IsUtf8, encode_utf8_all}
-use Rattle.std.proofs.lemmas.Bool.Decides.{nat_tests}
-use Rattle.std.proofs.lemmas.List.{append-nil}
-use Rattle.std.proofs.lemmas.Str.{encodes-chars, scalars-chars}
-use Rattle.std.proofs.Math.Utf8.{scalars, scalar}
-use Rattle.acl.specs.declared.command_name.CommandName.{CommandName}
+use Rattle.command_lang.proofs.Vocabulary.{◌≡◌, ◌≢◌, Some, ℕ, ◌+◌, ◌-◌, ◌/◌, ◌%◌, Bool, true, false, not, ◌&&◌, ◌||◌}
+use Rattle.command_lang.proofs.Vocabulary.{cond, List, [], ◌∷◌, ◌++◌, refl, sym, ap, ◌∙◌, subst, arith, append_assoc}
+use Rattle.command_lang.proofs.Vocabulary.{true≢false, ◌==◌, nat_lt, list_all, chars, IsUtf8, encode_utf8_all}
+use Rattle.command_lang.proofs.Vocabulary.{nat_tests, append-nil, encodes-chars, scalars-chars, scalars, scalar}
+use Rattle.command_lang.proofs.Vocabulary.{CommandName, Word, name_text, is_empty_text, Character, Double, Part, Parts}
+use Rattle.command_lang.proofs.Vocabulary.{Line, IsCut, size, texts_of, quoted, printed_words}
 use Rattle.acl.specs.declared.command_name.CommandName.TheVariants as name
-use Rattle.strings.specs.declared.text.Word.{Word}
-use Rattle.command_lang.specs.Names.{name_text}
-use Rattle.command_lang.specs.Values.{is_empty_text}
-use Rattle.strings.specs.Grammar.{Character, Double, Part, Parts, Line, IsCut, size}
-use Rattle.command_lang.specs.Meaning.{texts_of}
-use Rattle.command_lang.specs.Printing.{is_plain, octal, escaped, quoted, needs_no_quotes, printed_word}
-use Rattle.command_lang.specs.Printing.{printed_words}
+use Rattle.command_lang.specs.Printing.{is_plain, octal, escaped, needs_no_quotes, printed_word}
 use Rattle.command_lang.proofs.Quoting.{quoted_reads}
 use Rattle.command_lang.proofs.Appends.{name-encoded}
 use Rattle.command_lang.proofs.Fits.{AllWhole}

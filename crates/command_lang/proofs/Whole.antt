@@ -1,15 +1,8 @@
 -- What holds of the words of a line holds of the line.
-use Rattle.std.proofs.Common.{◌≡◌, ℕ, ◌≤◌, Bool, true, false, List, [], length, refl, Some, inl, inr, ◌⊎◌}
-use Rattle.std.specs.Str.{chars, is_utf8, IsUtf8}
-use Rattle.std.proofs.lemmas.Str.{is_utf8-from_IsUtf8, IsUtf8-from_is_utf8}
-use Rattle.strings.specs.declared.text.Word.{Word}
-use Rattle.strings.specs.Grammar.{IsCut}
-use Rattle.command_lang.specs.declared.command.Command.{Command}
-use Rattle.command_lang.specs.declared.fault.ParseFault.{ParseFault}
-use Rattle.command_lang.specs.Table.{first_of}
-use Rattle.command_lang.specs.Meaning.{line_command}
-use Rattle.command_lang.specs.LineFaults.{line_faults, no_memory}
-use Rattle.command_lang.specs.Relation.{Relates, Refuses}
+use Rattle.command_lang.proofs.Vocabulary.{◌≡◌, ℕ, ◌≤◌, Bool, true, false, List, [], length, refl, Some, inl, inr, ◌⊎◌}
+use Rattle.command_lang.proofs.Vocabulary.{chars, is_utf8, IsUtf8, is_utf8-from_IsUtf8, IsUtf8-from_is_utf8, Word}
+use Rattle.command_lang.proofs.Vocabulary.{IsCut, Command, ParseFault, first_of, line_command, line_faults, no_memory}
+use Rattle.command_lang.proofs.Vocabulary.{Relates, Refuses}
 
 pub no_text : (line : List ℕ) → (IsUtf8 line → ⊥) → is_utf8 line ≡ false
 no_text line h = by (is_utf8 line) refl

@@ -1,14 +1,9 @@
 -- The faults of words, from a given word on.
-use Rattle.std.proofs.Common.{◌≡◌, ℕ, zero, suc, ◌+◌, ◌<◌, ◌≤◌, Bool, true, false, cond, List, [], ◌∷◌, ◌++◌, length}
-use Rattle.std.proofs.Common.{drop, get_or, refl, sym, ap, ◌∙◌, arith, Option, Some, None, option_to_list, true≢false}
-use Rattle.std.proofs.Common.{drop-cons}
-use Rattle.std.specs.Prelude.{nat_lt}
-use Rattle.std.specs.Option.{is_some}
-use Rattle.command_lang.specs.declared.rows.Words.{Words}
-use Rattle.strings.specs.declared.text.Word.{Word}
+use Rattle.command_lang.proofs.Vocabulary.{◌≡◌, ℕ, zero, suc, ◌+◌, ◌<◌, ◌≤◌, Bool, true, false, cond, List, [], ◌∷◌}
+use Rattle.command_lang.proofs.Vocabulary.{◌++◌, length, drop, get_or, refl, sym, ap, ◌∙◌, arith, Option, Some, None}
+use Rattle.command_lang.proofs.Vocabulary.{option_to_list, true≢false, drop-cons, nat_lt, is_some, Words, Word}
+use Rattle.command_lang.proofs.Vocabulary.{ParseFault, kind_at, least, at, word_fault, words_faults, first_of}
 use Rattle.command_lang.specs.declared.fault.FaultKind.TheVariants as faults
-use Rattle.command_lang.specs.declared.fault.ParseFault.{ParseFault}
-use Rattle.command_lang.specs.Table.{kind_at, least, at, word_fault, words_faults, first_of}
 
 drop-at : (ws : List Word) (i : ℕ) (x : Word) → i < length ws → x ≡ get_or ws i x → drop i ws ≡ x ∷ drop (i + 1) ws
 drop-at ws i x h e =

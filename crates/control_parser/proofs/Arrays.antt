@@ -1,8 +1,6 @@
 -- A list at the front of a fixed array.
-use Rattle.std.specs.Prelude.{ℕ, ◌+◌, ◌-◌, ◌<◌, List, drop, replicate}
-use Rattle.std.proofs.Common.{arith, ap, ◌∙◌, sym, set}
-use Rattle.std.proofs.lemmas.List.{drop-set-lt, drop-replicate, length-set, drop-drop}
-use Rattle.control_parser.specs.Arrays.{IsFront}
+use Rattle.control_parser.proofs.Vocabulary.{ℕ, ◌+◌, ◌-◌, ◌<◌, List, drop, replicate, arith, ap, ◌∙◌, sym, set}
+use Rattle.control_parser.proofs.Vocabulary.{drop-set-lt, drop-replicate, length-set, drop-drop, IsFront}
 
 pub front_pushed : (room count x : ℕ) (array : List ℕ) → IsFront room count array → count < room
     → IsFront room (count + 1) (set array count x)

@@ -1,7 +1,6 @@
 -- Digits that come one by one.
-use Rattle.std.proofs.Common.{◌≡◌, refl, ℕ, zero, suc, ◌-◌, ◌<◌, ◌≤◌, List, [], ◌∷◌, length, take, set, get_or, ap}
-use Rattle.std.proofs.Common.{arith}
-use Rattle.control_parser.specs.Text.{with_last, longer, digit_added}
+use Rattle.control_parser.proofs.Vocabulary.{◌≡◌, refl, ℕ, zero, suc, ◌-◌, ◌<◌, ◌≤◌, List, [], ◌∷◌, length, take, set}
+use Rattle.control_parser.proofs.Vocabulary.{get_or, ap, arith, with_last, longer, digit_added}
 
 -- the last of the first n + 1 values changes
 pub digit_packed : (n d y : ℕ) (xs : List ℕ) → n < length xs → y ≡ longer (get_or xs n 0) d

@@ -1,16 +1,9 @@
 -- The functions that units can give.
-use Rattle.std.proofs.Common.{◌≡◌, ℕ, zero, suc, ◌<◌, true, List, [], ◌∷◌, ◌++◌, length, take, map, IfSome, refl, arith}
-use Rattle.std.specs.Prelude.{nat_lt}
-use Rattle.std.specs.List.{list_all, AllByRecursion}
-use Rattle.std.proofs.lemmas.Bool.Decides.{nat_tests}
-use Rattle.std.proofs.lemmas.Bool.{cond_both}
-use Rattle.std.proofs.lemmas.List.{length-take}
-use Rattle.charsets.specs.declared.decoder.Unit.{Unit}
-use Rattle.control_parser.specs.declared.parser.Func.{Func}
-use Rattle.control_parser.specs.Text.{is_mark, value, fields, values, mark_of, numbers_of, is_well_formed}
-use Rattle.control_parser.specs.Grammar.{code, Rest, nothing, escape, control, string, osc, control_of, functions}
-use Rattle.control_parser.specs.Spelling.{IsGiven}
-use Rattle.charsets.specs.Units.{IsUnit}
+use Rattle.control_parser.proofs.Vocabulary.{◌≡◌, ℕ, zero, suc, ◌<◌, true, List, [], ◌∷◌, ◌++◌, length, take, map}
+use Rattle.control_parser.proofs.Vocabulary.{IfSome, refl, arith, nat_lt, list_all, AllByRecursion, nat_tests}
+use Rattle.control_parser.proofs.Vocabulary.{cond_both, length-take, Unit, Func, is_mark, value, fields, values}
+use Rattle.control_parser.proofs.Vocabulary.{mark_of, numbers_of, is_well_formed, functions, IsGiven, IsUnit}
+use Rattle.control_parser.specs.Grammar.{code, Rest, nothing, escape, control, string, osc, control_of}
 use Rattle.control_parser.proofs.Machine.{rest_step, machine, functions-machine}
 use Rattle.control_parser.proofs.Openings.{has_text, step_keeps}
 use Rattle.control_parser.proofs.Texts.{full_fields}

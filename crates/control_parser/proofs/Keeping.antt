@@ -1,21 +1,14 @@
 -- The parser keeps what the grammar leaves incomplete.
-use Rattle.std.proofs.Common.{◌≡◌, ℕ, Bool, true, false, cond, List, [], ◌∷◌, ◌++◌, length, Option, Some, None}
-use Rattle.std.proofs.Common.{option_to_list, refl, sym, ap, ◌∙◌, arith, length-append}
-use Rattle.std.proofs.lemmas.Bool.Decides.{nat_tests}
-use Rattle.std.proofs.lemmas.List.{append-nil}
-use Rattle.charsets.specs.declared.decoder.Unit.{Unit}
+use Rattle.control_parser.proofs.Vocabulary.{◌≡◌, ℕ, Bool, true, false, cond, List, [], ◌∷◌, ◌++◌, length, Option, Some}
+use Rattle.control_parser.proofs.Vocabulary.{None, option_to_list, refl, sym, ap, ◌∙◌, arith, length-append, nat_tests}
+use Rattle.control_parser.proofs.Vocabulary.{append-nil, Unit, Func, Csi, SequenceText, nat_le, ◌==◌, is_intermediate}
+use Rattle.control_parser.proofs.Vocabulary.{fields, functions, broken_step, inside_step, step_of, is_final_from}
+use Rattle.control_parser.proofs.Vocabulary.{opening, parts, kept_text, kept, StandsFor}
 use Rattle.charsets.specs.declared.decoder.Unit.TheVariants as units
-use Rattle.control_parser.specs.declared.parser.Func.{Func}
-use Rattle.control_parser.specs.declared.parser.Func.TheVariants.{Csi}
-use Rattle.control_parser.specs.declared.state.SequenceText.{SequenceText}
 use Rattle.control_parser.specs.declared.state.State.{State}
 use Rattle.control_parser.specs.declared.state.State.TheVariants as state
-use Rattle.std.specs.Prelude.{nat_le, ◌==◌}
-use Rattle.control_parser.specs.Text.{is_intermediate, fields}
 use Rattle.control_parser.specs.Grammar.{code, is_control, is_sequence_text, Rest, nothing, escape, control, string}
-use Rattle.control_parser.specs.Grammar.{osc, control_of, with_front, functions}
-use Rattle.control_parser.specs.Steps.{broken_step, inside_step, step_of, is_final_from}
-use Rattle.control_parser.specs.Kept.{opening, parts, kept_text, kept, StandsFor}
+use Rattle.control_parser.specs.Grammar.{osc, control_of, with_front}
 use Rattle.control_parser.proofs.Machine.{rest_broken, rest_inside, rest_step, machine-append, machine-one}
 use Rattle.control_parser.proofs.Machine.{functions-machine, cond_pair}
 use Rattle.control_parser.proofs.Texts.{parts-push}

@@ -1,18 +1,13 @@
 -- A run of bytes that pass a test, read a vector at a time through the mask of those that fail it.
-use Rattle.std.proofs.Common.{◌≡◌, ℕ, ◌+◌, ◌-◌, ◌%◌, ◌^◌, ◌<◌, ◌≤◌, leb, not, cond, eqb, List, [], ◌∷◌, map, length}
-use Rattle.std.proofs.Common.{drop, replicate, refl, sym, ap, ap₂, ◌∙◌, arith, w8, Fits}
-use Rattle.std.specs.List.{prefix_len}
+use Rattle.control_parser.proofs.Vocabulary.{◌≡◌, ℕ, ◌+◌, ◌-◌, ◌%◌, ◌^◌, ◌<◌, ◌≤◌, leb, not, cond, eqb, List, [], ◌∷◌}
+use Rattle.control_parser.proofs.Vocabulary.{map, length, drop, replicate, refl, sym, ap, ap₂, ◌∙◌, arith, w8, Fits}
+use Rattle.control_parser.proofs.Vocabulary.{prefix_len, length-map, prefix_len-append, eq-eqb, ne_eqb, nat_tests}
+use Rattle.control_parser.proofs.Vocabulary.{is_plain, is_no_plain}
 use Rattle.std.proofs.lemmas.Simd.{zip2_splat, map-map, mask_l-mod, chunk-drop, length-chunk, leading_from_mask_l}
 use Rattle.std.proofs.lemmas.Simd.{trailing_mask_l}
-use Rattle.std.proofs.lemmas.List.{length-map}
-use Rattle.std.proofs.lemmas.List.Folds.{prefix_len-append}
 use Rattle.std.proofs.lemmas.List.Sums.{prefix_len-le-length}
-use Rattle.std.proofs.lemmas.Bool.{eq-eqb, ne_eqb}
-use Rattle.std.proofs.lemmas.Bool.Decides.{nat_tests}
 use lib.Lanes.{zip2, mask_l, top, chunk, Each1}
 use lib.Count.{count_trailing_zeros}
-use Rattle.charsets.specs.Units.{is_plain}
-use Rattle.control_parser.specs.Text.{is_no_plain}
 
 -- ONE LOAD
 

@@ -1,21 +1,13 @@
 -- The grammar read unit by unit.
-use Rattle.std.proofs.Common.{◌≡◌, ℕ, zero, suc, ◌+◌, ◌-◌, Bool, true, false, ◌&&◌, cond, List, [], ◌∷◌, ◌++◌, length}
-use Rattle.std.proofs.Common.{drop, refl, sym, ap, ◌∙◌, arith, append_assoc}
-use Rattle.std.specs.Prelude.{◌==◌}
-use Rattle.std.proofs.lemmas.Bool.{cond_both}
-use Rattle.std.proofs.lemmas.Bool.Decides.{nat_tests}
-use Rattle.std.proofs.lemmas.List.{append-nil, drop-drop}
-use Rattle.charsets.specs.declared.decoder.Unit.{Unit}
-use Rattle.control_parser.specs.declared.parser.Func.{Func}
-use Rattle.control_parser.specs.declared.parser.Func.TheVariants.{Print, Control}
-use Rattle.control_parser.specs.Text.{is_intermediate, while}
+use Rattle.control_parser.proofs.Vocabulary.{◌≡◌, ℕ, zero, suc, ◌+◌, ◌-◌, Bool, true, false, ◌&&◌, cond, List, [], ◌∷◌}
+use Rattle.control_parser.proofs.Vocabulary.{◌++◌, length, drop, refl, sym, ap, ◌∙◌, arith, append_assoc, ◌==◌}
+use Rattle.control_parser.proofs.Vocabulary.{cond_both, nat_tests, append-nil, drop-drop, Unit, Func, Print, Control}
+use Rattle.control_parser.proofs.Vocabulary.{is_intermediate, while, functions, breaks_string, is_final_from}
 use Rattle.control_parser.specs.Grammar.{code, ESC, SUB, is_control, is_c1, is_sequence_text, in_escape, in_control}
 use Rattle.control_parser.specs.Grammar.{in_string, in_osc, controls, text, Rest, nothing, escape, control, string, osc}
 use Rattle.control_parser.specs.Grammar.{Piece, ends, unended, behind, broken, escape_of, control_of, control_end}
 use Rattle.control_parser.specs.Grammar.{control_sequence, string_end, string_of, is_string_opener, begun_by}
 use Rattle.control_parser.specs.Grammar.{escape_end, escape_sequence, alone, piece, with_front, functions_behind}
-use Rattle.control_parser.specs.Grammar.{functions}
-use Rattle.control_parser.specs.Steps.{breaks_string, is_final_from}
 
 abbrev pub rest_begun : ℕ → List Func × Rest
 rest_begun f =

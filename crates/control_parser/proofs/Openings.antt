@@ -1,17 +1,10 @@
 -- An incomplete sequence or string goes on like the units that begin it.
-use Rattle.std.proofs.Common.{◌≡◌, ℕ, Bool, true, List, [], ◌∷◌, ◌++◌, map, refl, ap, ◌∙◌, arith, append_assoc}
-use Rattle.std.specs.List.{AllByRecursion, list_all}
-use Rattle.std.proofs.lemmas.Bool.Decides.{nat_tests}
-use Rattle.std.proofs.lemmas.List.{append-nil}
-use Rattle.std.proofs.lemmas.List.Folds.{list_all-append}
+use Rattle.control_parser.proofs.Vocabulary.{◌≡◌, ℕ, Bool, true, List, [], ◌∷◌, ◌++◌, map, refl, ap, ◌∙◌, arith}
+use Rattle.control_parser.proofs.Vocabulary.{append_assoc, AllByRecursion, list_all, nat_tests, append-nil}
+use Rattle.control_parser.proofs.Vocabulary.{list_all-append, Unit, IsUnit, is_intermediate, functions, opening}
 use Rattle.std.proofs.Math.Utf8.{low_scalar}
-use Rattle.charsets.specs.declared.decoder.Unit.{Unit}
 use Rattle.charsets.specs.declared.decoder.Unit.TheVariants as units
-use Rattle.charsets.specs.Units.{IsUnit}
-use Rattle.control_parser.specs.Text.{is_intermediate}
 use Rattle.control_parser.specs.Grammar.{is_sequence_text, Rest, nothing, escape, control, string, osc, with_front}
-use Rattle.control_parser.specs.Grammar.{functions}
-use Rattle.control_parser.specs.Kept.{opening}
 use Rattle.control_parser.proofs.Machine.{rest_step, machine, machine-append, functions-machine}
 
 -- bytes below 80 are units as they are

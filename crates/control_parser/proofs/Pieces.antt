@@ -1,15 +1,10 @@
 -- Units in pieces, and units that are printed.
-use Rattle.std.proofs.Common.{◌≡◌, ℕ, true, List, [], ◌∷◌, ◌++◌, map, refl, sym, ◌∙◌, arith, append_assoc}
-use Rattle.std.specs.List.{flat_map, list_all}
-use Rattle.std.proofs.lemmas.Bool.Decides.{nat_tests}
-use Rattle.std.proofs.lemmas.List.{append-nil}
-use Rattle.charsets.specs.Units.{is_plain}
-use Rattle.charsets.specs.declared.decoder.Unit.{Unit}
+use Rattle.control_parser.proofs.Vocabulary.{◌≡◌, ℕ, true, List, [], ◌∷◌, ◌++◌, map, refl, sym, ◌∙◌, arith}
+use Rattle.control_parser.proofs.Vocabulary.{append_assoc, flat_map, list_all, nat_tests, append-nil, is_plain, Unit}
+use Rattle.control_parser.proofs.Vocabulary.{Print, functions, kept, functions_of_pieces}
 use Rattle.charsets.specs.declared.decoder.Unit.TheVariants.{Code}
-use Rattle.control_parser.specs.declared.parser.Func.TheVariants.{Print}
 use Rattle.control_parser.specs.declared.state.State.TheVariants as state
-use Rattle.control_parser.specs.Grammar.{Rest, nothing, is_graphic, with_front, functions, functions_behind}
-use Rattle.control_parser.specs.Kept.{kept, functions_of_pieces}
+use Rattle.control_parser.specs.Grammar.{Rest, nothing, is_graphic, with_front, functions_behind}
 use Rattle.control_parser.proofs.Machine.{machine, functions-machine}
 use Rattle.control_parser.proofs.Openings.{functions-go_on}
 use Rattle.control_parser.proofs.Spelled.{all_weaker, print_reads}

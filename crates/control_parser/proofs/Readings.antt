@@ -1,17 +1,11 @@
 -- Spelled functions, one after another.
-use Rattle.std.proofs.Common.{◌≡◌, ℕ, List, [], ◌∷◌, ◌++◌, map, true, ap, ◌∙◌, subst, arith}
-use Rattle.std.specs.List.{AllByRecursion, flat_map, list_all}
-use Rattle.charsets.specs.Units.{is_plain}
+use Rattle.control_parser.proofs.Vocabulary.{◌≡◌, ℕ, List, [], ◌∷◌, ◌++◌, map, true, ap, ◌∙◌, subst, arith}
+use Rattle.control_parser.proofs.Vocabulary.{AllByRecursion, flat_map, list_all, is_plain, Utf8, Unit, units-append}
+use Rattle.control_parser.proofs.Vocabulary.{Func, Print, functions, spelling, ReadsAs}
 use Rattle.charsets.specs.declared.decoder.Coding.{Coding}
-use Rattle.charsets.specs.declared.decoder.Coding.TheVariants.{Utf8}
-use Rattle.charsets.specs.declared.decoder.Unit.{Unit}
-use Rattle.charsets.proofs.Joins.{units-append}
 use Rattle.charsets.proofs.Pieces.{units-plain}
 use Rattle.charsets.proofs.Pushes.{units-none}
-use Rattle.control_parser.specs.declared.parser.Func.{Func}
-use Rattle.control_parser.specs.declared.parser.Func.TheVariants.{Print}
-use Rattle.control_parser.specs.Grammar.{functions}
-use Rattle.control_parser.specs.Spelling.{spelling, IsGivenInUtf8, ReadsAs}
+use Rattle.control_parser.specs.Spelling.{IsGivenInUtf8}
 use Rattle.control_parser.proofs.Keeping.{functions-append}
 use Rattle.control_parser.proofs.Pieces.{functions-none, functions-plain}
 use Rattle.control_parser.proofs.Spelled.{spelled_reads}

@@ -1,18 +1,10 @@
 -- A complete control sequence.
-use Rattle.std.proofs.Common.{◌≡◌, ℕ, zero, suc, ◌+◌, ◌-◌, ◌<◌, ◌≤◌, Bool, true, arith, List, [], ◌∷◌, ◌++◌, length}
-use Rattle.std.proofs.Common.{take, get_or, Some, refl, sym, ap, ◌∙◌, subst}
-use Rattle.std.specs.List.{list_all}
-use Rattle.std.proofs.lemmas.List.{take_more}
-use Rattle.std.proofs.lemmas.List.Folds.{list_all_more}
-use Rattle.charsets.specs.declared.decoder.Coding.TheVariants.{Utf8}
-use Rattle.control_parser.specs.declared.parser.Func.TheVariants.{Csi}
-use Rattle.control_parser.specs.declared.state.SequenceText.{SequenceText}
+use Rattle.control_parser.proofs.Vocabulary.{◌≡◌, ℕ, zero, suc, ◌+◌, ◌-◌, ◌<◌, ◌≤◌, Bool, true, arith, List, [], ◌∷◌}
+use Rattle.control_parser.proofs.Vocabulary.{◌++◌, length, take, get_or, Some, refl, sym, ap, ◌∙◌, subst, list_all}
+use Rattle.control_parser.proofs.Vocabulary.{take_more, list_all_more, Utf8, Csi, SequenceText, text_grown, no_text}
+use Rattle.control_parser.proofs.Vocabulary.{valued, TakesDigits, parts, ReadsAs, fields, is_digit, longer, value_of}
+use Rattle.control_parser.proofs.Vocabulary.{with_last, nat_tests}
 use Rattle.control_parser.specs.Grammar.{is_sequence_text}
-use Rattle.control_parser.specs.Steps.{text_grown, no_text, valued, TakesDigits}
-use Rattle.control_parser.specs.Kept.{parts}
-use Rattle.control_parser.specs.Spelling.{ReadsAs}
-use Rattle.control_parser.specs.Text.{fields, is_digit, longer, value_of, with_last}
-use Rattle.std.proofs.lemmas.Bool.Decides.{nat_tests}
 use Rattle.control_parser.proofs.Digits.{digit-last}
 use Rattle.control_parser.proofs.Machine.{machine}
 use Rattle.control_parser.proofs.Texts.{grown, parts-push}

@@ -1,23 +1,17 @@
 -- Spelled functions are read back.
-use Rattle.std.proofs.Common.{◌≡◌, ℕ, ◌<◌, ◌≤◌, Bool, true, false, ◌&&◌, cond, List, [], ◌∷◌, ◌++◌, length, take, map}
-use Rattle.std.proofs.Common.{Option, Some, None, IfSome, option_to_list, refl, ap, ◌∙◌, arith, append_assoc, take_all}
-use Rattle.std.specs.Prelude.{nat_lt, nat_le}
-use Rattle.std.specs.List.{list_all, flat_map}
-use Rattle.std.proofs.lemmas.Bool.Decides.{nat_tests}
-use Rattle.std.proofs.lemmas.List.{append-nil, map-append}
-use Rattle.std.proofs.lemmas.List.Folds.{list_all-append}
-use Rattle.charsets.specs.declared.decoder.Coding.TheVariants.{Utf8}
+use Rattle.control_parser.proofs.Vocabulary.{◌≡◌, ℕ, ◌<◌, ◌≤◌, Bool, true, false, ◌&&◌, cond, List, [], ◌∷◌, ◌++◌}
+use Rattle.control_parser.proofs.Vocabulary.{length, take, map, Option, Some, None, IfSome, option_to_list, refl, ap}
+use Rattle.control_parser.proofs.Vocabulary.{◌∙◌, arith, append_assoc, take_all, nat_lt, nat_le, list_all, flat_map}
+use Rattle.control_parser.proofs.Vocabulary.{nat_tests, append-nil, map-append, list_all-append, Utf8, Func, Print}
+use Rattle.control_parser.proofs.Vocabulary.{Control, Csi, is_intermediate, is_digit, is_number, is_mark, while, value}
+use Rattle.control_parser.proofs.Vocabulary.{fields, values, mark_of, unmarked, parameter, spelling, IsGiven, ReadsAs}
 use Rattle.charsets.specs.declared.decoder.Unit.TheVariants as units
 use Rattle.charsets.specs.Utf8.{codes, cut}
 use Rattle.charsets.proofs.Encoded.{one_byte, codes-encode}
-use Rattle.control_parser.specs.declared.parser.Func.{Func}
-use Rattle.control_parser.specs.declared.parser.Func.TheVariants.{Print, High, Control, Esc, Csi}
-use Rattle.control_parser.specs.Text.{is_intermediate, is_digit, is_number, is_mark, while, value, fields, values}
-use Rattle.control_parser.specs.Text.{mark_of, unmarked}
+use Rattle.control_parser.specs.declared.parser.Func.TheVariants.{High, Esc}
 use Rattle.control_parser.specs.Grammar.{is_control, is_graphic, is_sequence_text, Rest, nothing, escape, control}
 use Rattle.control_parser.specs.Grammar.{escape_of, control_of}
-use Rattle.control_parser.specs.Spelling.{decimal, parameter, numerals, spelling, coding_of, are_intermediates}
-use Rattle.control_parser.specs.Spelling.{begins_none, IsGiven, ReadsAs}
+use Rattle.control_parser.specs.Spelling.{decimal, numerals, coding_of, are_intermediates, begins_none}
 use Rattle.control_parser.proofs.Machine.{Stops, rest_step, machine, machine-append, machine-one, functions-machine}
 use Rattle.control_parser.proofs.Openings.{coded, control_text, escape_text, intermediates_text}
 use Rattle.control_parser.proofs.Texts.{full_fields}

@@ -1,17 +1,11 @@
 -- The text of a control sequence with one more character.
-use Rattle.std.proofs.Common.{◌≡◌, ℕ, zero, suc, ◌+◌, ◌-◌, ◌*◌, ◌<◌, Bool, true, false, not, ◌&&◌, cond, List, [], ◌∷◌}
-use Rattle.std.proofs.Common.{◌++◌, length, take, map, Option, Some, None, refl, ap, ◌∙◌, arith, length-append}
-use Rattle.std.proofs.Common.{take_all}
-use Rattle.std.specs.Prelude.{nat_lt, nat_le, ◌==◌}
-use Rattle.std.specs.List.{list_all}
-use Rattle.std.proofs.lemmas.Bool.Decides.{nat_tests}
-use Rattle.std.proofs.lemmas.List.{length-take, take-append-le, map-append}
-use Rattle.std.proofs.lemmas.List.Folds.{list_all-append}
-use Rattle.control_parser.specs.declared.state.SequenceText.{SequenceText}
-use Rattle.control_parser.specs.Text.{is_intermediate, is_digit, is_number, is_mark, while, number_after, value}
-use Rattle.control_parser.specs.Text.{onto_first, fields, values, mark_of, unmarked, longer, digit_added}
-use Rattle.control_parser.specs.Steps.{text_grown}
-use Rattle.control_parser.specs.Kept.{parts}
+use Rattle.control_parser.proofs.Vocabulary.{◌≡◌, ℕ, zero, suc, ◌+◌, ◌-◌, ◌*◌, ◌<◌, Bool, true, false, not, ◌&&◌, cond}
+use Rattle.control_parser.proofs.Vocabulary.{List, [], ◌∷◌, ◌++◌, length, take, map, Option, Some, None, refl, ap, ◌∙◌}
+use Rattle.control_parser.proofs.Vocabulary.{arith, length-append, take_all, nat_lt, nat_le, ◌==◌, list_all, nat_tests}
+use Rattle.control_parser.proofs.Vocabulary.{length-take, take-append-le, map-append, list_all-append, SequenceText}
+use Rattle.control_parser.proofs.Vocabulary.{is_intermediate, is_digit, is_number, is_mark, while, number_after, value}
+use Rattle.control_parser.proofs.Vocabulary.{onto_first, fields, values, mark_of, unmarked, longer, digit_added}
+use Rattle.control_parser.proofs.Vocabulary.{text_grown, parts}
 
 -- numbers
 number_after-push : (n : ℕ) (digits : List ℕ) (d : ℕ)

@@ -1,16 +1,14 @@
 -- A page that is moved back, line by line.
-use Rattle.std.proofs.Common.{◌≡◌, ℕ, ◌+◌, ◌-◌, ◌<◌, ◌≤◌, List, [], ◌++◌, length, take, reverse, get_or, sym, ap}
-use Rattle.std.proofs.Common.{◌∙◌, subst, arith, ⊎_elim, length-append, Bor, Option, None, Some}
+use Rattle.emulator.proofs.Vocabulary.{◌≡◌, ℕ, ◌+◌, ◌-◌, ◌<◌, ◌≤◌, List, [], ◌++◌, length, take, reverse, get_or, sym}
+use Rattle.emulator.proofs.Vocabulary.{ap, ◌∙◌, subst, arith, ⊎_elim, length-append, Bor, Option, None, Some}
+use Rattle.emulator.proofs.Vocabulary.{length-take-le, get_or-take, take_all, line_at, IsPage, Page, Screen, IsSound}
 use Rattle.std.specs.Prelude.{option_copied, slice_get, unwrap_or}
 use Rattle.std.proofs.lemmas.Option.{slice_get-get_or}
-use Rattle.std.proofs.lemmas.List.{length-take-le, get_or-take, get_or_append_left, get_or-append_right, get_or-reverse}
-use Rattle.std.proofs.lemmas.List.{get_or_past, take_all, length-reverse}
+use Rattle.std.proofs.lemmas.List.{get_or_append_left, get_or-append_right, get_or-reverse, get_or_past, length-reverse}
 use Rattle.std.proofs.lemmas.Bool.{cases_lt}
 use Rattle.cells.specs.declared.cell.Cell.{Cell}
 use Rattle.cells.specs.Line.{IsPaired}
-use Rattle.cells.specs.Page.{line_at, IsPage}
 use Rattle.cells.proofs.Pages.{IsPaired-nil}
-use Rattle.terminal_model.specs.Screen.{Page, Screen, IsSound}
 use Rattle.terminal_model.specs.Scrollback.{moved_back}
 
 -- the lines of the scrollback that stand above the page's lines

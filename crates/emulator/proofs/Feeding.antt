@@ -1,24 +1,14 @@
 -- The terminals that an emulator stands for, unit by unit and byte by byte.
-use Rattle.std.proofs.Common.{◌≡◌, ℕ, ◌<◌, ◌+◌, List, [], ◌∷◌, ◌++◌, length, take, get_or, refl, sym, ap, ◌∙◌, subst}
-use Rattle.std.proofs.Common.{append_assoc, append-nil, arith}
-use Rattle.std.proofs.lemmas.List.{take_more}
+use Rattle.emulator.proofs.Vocabulary.{◌≡◌, ℕ, ◌<◌, ◌+◌, List, [], ◌∷◌, ◌++◌, length, take, get_or, refl, sym, ap, ◌∙◌}
+use Rattle.emulator.proofs.Vocabulary.{subst, append_assoc, append-nil, arith, take_more, Coding, Decoding, units, Func}
+use Rattle.emulator.proofs.Vocabulary.{nothing, functions, kept, opening, functions-opening, IsGridSize, Screen}
+use Rattle.emulator.proofs.Vocabulary.{IsSound, Terminal, Read, IsTerminal, ready, joined, read_unit, read_units}
+use Rattle.emulator.proofs.Vocabulary.{in_coding, read_byte, reads, Size, writes, IsTerminal-ready}
+use Rattle.emulator.proofs.Vocabulary.{IsTerminal-read_byte, IsTerminal-writes, Parts, StandsFor, StandsWithin, HasRead}
 use Rattle.charsets.specs.declared.decoder.Unit.{Unit}
-use Rattle.charsets.specs.declared.decoder.Coding.{Coding}
-use Rattle.charsets.specs.Units.{Decoding, units}
-use Rattle.control_parser.specs.declared.parser.Func.{Func}
-use Rattle.control_parser.specs.Grammar.{nothing, functions}
-use Rattle.control_parser.specs.Kept.{kept, opening}
-use Rattle.control_parser.proofs.Openings.{functions-opening}
-use Rattle.cells.specs.Page.{IsGridSize}
-use Rattle.terminal_model.specs.Screen.{Screen, IsSound}
 use Rattle.terminal_model.specs.Sizing.{resized}
-use Rattle.terminal_model.specs.Reading.{Terminal, Read, IsTerminal, ready, joined, read_unit, read_units}
-use Rattle.terminal_model.specs.Reading.{in_coding, read_byte, reads}
-use Rattle.terminal_model.specs.Writing.{Size, writes}
 use Rattle.terminal_model.proofs.Readings.{effects, reports_of, outcome, act_all-is, read_units-is, reads-append}
-use Rattle.terminal_model.proofs.Terminals.{IsTerminal-ready, IsTerminal-read_byte, IsTerminal-writes}
-use Rattle.emulator.specs.Standing.{Parts, StandsFor, StandsWithin, HasReadWithin, HasReadByte, HasRead}
-use Rattle.emulator.specs.Standing.{in_screen_coding}
+use Rattle.emulator.specs.Standing.{HasReadWithin, HasReadByte, in_screen_coding}
 
 -- UNITS
 

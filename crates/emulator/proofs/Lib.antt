@@ -1,3 +1,4 @@
+pub mod Vocabulary
 pub mod Feeding
 pub mod Writings
 pub mod Backs

@@ -1,16 +1,12 @@
 -- Control sequences of digits and semicolons, read from a list of bytes at once.
-use Rattle.std.proofs.Common.{◌≡◌, ℕ, ◌+◌, ◌-◌, ◌<◌, ◌≤◌, true, false, arith, List, [], ◌∷◌, ◌++◌, length, take}
-use Rattle.std.proofs.Common.{drop, set}
-use Rattle.std.proofs.Common.{get_or, Option, Some, None, IfSome, refl, sym, ap, ◌∙◌, subst, length-take-le}
+use Rattle.emulator.proofs.Vocabulary.{◌≡◌, ℕ, ◌+◌, ◌-◌, ◌<◌, ◌≤◌, true, false, arith, List, [], ◌∷◌, ◌++◌, length}
+use Rattle.emulator.proofs.Vocabulary.{take, drop, set, get_or, Option, Some, None, IfSome, refl, sym, ap, ◌∙◌, subst}
+use Rattle.emulator.proofs.Vocabulary.{length-take-le, nat_tests, length-set, get_or-take, Utf8, Csi, ReadsAs, no_text}
 use Rattle.std.specs.Prelude.{◌==◌}
-use Rattle.std.proofs.lemmas.Bool.Decides.{nat_tests}
-use Rattle.std.proofs.lemmas.List.{take_more_set, length-set, get_or-take, get_or-drop}
-use Rattle.charsets.specs.declared.decoder.Coding.TheVariants.{Utf8}
-use Rattle.control_parser.specs.declared.parser.Func.TheVariants.{Csi}
+use Rattle.std.proofs.lemmas.List.{take_more_set, get_or-drop}
 use Rattle.control_parser.specs.declared.state.SequenceText.{SequenceText}
 use Rattle.control_parser.specs.Grammar.{is_sequence_text}
-use Rattle.control_parser.specs.Spelling.{ReadsAs}
-use Rattle.control_parser.specs.Steps.{text_grown, no_text, valued}
+use Rattle.control_parser.specs.Steps.{text_grown, valued}
 use Rattle.control_parser.specs.Text.{is_intermediate, is_digit, is_mark, value_of, with_last}
 use Rattle.control_parser.proofs.Sequences.{IsNumerals, no-text, no-digits, text-more, inside-more, sequence-whole}
 use Rattle.control_parser.proofs.Sequences.{value-read, next-read}

@@ -1,37 +1,27 @@
 -- Complete functions at the beginning of some bytes, performed at once.
-use Rattle.std.proofs.Common.{◌≡◌, ℕ, ◌+◌, ◌-◌, ◌<◌, ◌≤◌, true, List, [], ◌∷◌, ◌++◌, length}
-use Rattle.std.proofs.Common.{take, drop, get_or, map, refl, sym, ap, ◌∙◌, subst, append-nil, arith}
+use Rattle.emulator.proofs.Vocabulary.{◌≡◌, ℕ, ◌+◌, ◌-◌, ◌<◌, ◌≤◌, true, List, [], ◌∷◌, ◌++◌, length, take, drop}
+use Rattle.emulator.proofs.Vocabulary.{get_or, map, refl, sym, ap, ◌∙◌, subst, append-nil, arith, nat_tests, take_all}
+use Rattle.emulator.proofs.Vocabulary.{take_more, get_or-take, length-take, Coding, Utf8, text, IsText, Decoding}
+use Rattle.emulator.proofs.Vocabulary.{is_plain, is_character, Func, Print, Control, nothing, functions, kept, ReadsAs}
+use Rattle.emulator.proofs.Vocabulary.{Screen, Terminal, Read, IsTerminal, ready, reads, effect-coding}
+use Rattle.emulator.proofs.Vocabulary.{IsTerminal-reads, Parts, StandsFor, HasRead, TakesWhole, IsBetween}
 use Rattle.std.specs.List.{list_all, prefix_len}
-use Rattle.std.proofs.lemmas.Bool.Decides.{nat_tests}
-use Rattle.std.proofs.lemmas.List.{take_all, take_more, take-take, get_or-take, length-take, length-drop}
+use Rattle.std.proofs.lemmas.List.{take-take, length-drop}
 use Rattle.std.proofs.lemmas.List.Elements.{All-weaker}
 use Rattle.std.proofs.lemmas.List.Sums.{AllPass-from_list_all, list_all-from_AllPass, prefix_len_passes}
 use Rattle.std.proofs.Math.Seq.{take-add}
-use Rattle.charsets.specs.declared.decoder.Coding.{Coding}
-use Rattle.charsets.specs.declared.decoder.Coding.TheVariants.{Utf8}
 use Rattle.charsets.specs.declared.decoder.Unit.TheVariants as units
-use Rattle.charsets.specs.Text.{text, IsText}
 use Rattle.charsets.specs.Units as whole
-use Rattle.charsets.specs.Units.{Decoding, is_plain, is_character}
 use Rattle.charsets.proofs.Pieces.{codes-plain}
-use Rattle.control_parser.specs.declared.parser.Func.{Func}
-use Rattle.control_parser.specs.declared.parser.Func.TheVariants.{Print, Control}
 use Rattle.control_parser.specs.declared.state.State.{State}
-use Rattle.control_parser.specs.Grammar.{Rest, is_graphic, nothing, functions}
-use Rattle.control_parser.specs.Kept.{kept}
-use Rattle.control_parser.specs.Spelling.{ReadsAs}
+use Rattle.control_parser.specs.Grammar.{Rest, is_graphic}
 use Rattle.control_parser.proofs.Pieces.{functions-graphic, kept-ground}
 use Rattle.control_parser.proofs.Readings as spelled
 use Rattle.terminal_model.specs.declared.action.Action.TheVariants as actions
-use Rattle.terminal_model.specs.Screen.{Screen}
 use Rattle.terminal_model.specs.Table.{effect, all_acted}
 use Rattle.terminal_model.specs.Reports.{report}
-use Rattle.terminal_model.specs.Reading.{Terminal, Read, IsTerminal, ready, reads}
-use Rattle.terminal_model.proofs.Codings.{effect-coding}
 use Rattle.terminal_model.proofs.Readings.{effects, reports_of, acts_of}
 use Rattle.terminal_model.proofs.Spellings.{Stays, begun, nothing-opened, reads-is}
-use Rattle.terminal_model.proofs.Terminals.{IsTerminal-reads}
-use Rattle.emulator.specs.Standing.{Parts, StandsFor, HasRead, TakesWhole, IsBetween}
 use Rattle.emulator.proofs.Feeding.{nothing-has-read, has-read-both}
 
 -- QUIET FUNCTIONS

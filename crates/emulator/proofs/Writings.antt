@@ -1,21 +1,15 @@
 -- A terminal doesn't answer the commands clear, reset and encoding.
-use Rattle.std.proofs.Common.{◌≡◌, ℕ, ◌<◌, List, [], ◌∷◌, ◌++◌, get_or, map, None, refl, sym, ap, ◌∙◌, append_assoc}
-use Rattle.std.proofs.Common.{append-nil, arith}
+use Rattle.emulator.proofs.Vocabulary.{◌≡◌, ℕ, ◌<◌, List, [], ◌∷◌, ◌++◌, get_or, map, None, refl, sym, ap, ◌∙◌}
+use Rattle.emulator.proofs.Vocabulary.{append_assoc, append-nil, arith, Coding, Utf8, Ecma35, Func, Esc, Csi, nothing}
+use Rattle.emulator.proofs.Vocabulary.{functions, opening, functions-go_on, functions-opening, Screen, Terminal, Read}
+use Rattle.emulator.proofs.Vocabulary.{joined, in_coding, read_units, read_byte, reads, Clear, Reset, Encoding}
+use Rattle.emulator.proofs.Vocabulary.{clear_bytes, reset_bytes, coding_bytes, writes}
 use Rattle.std.specs.List.{AllByRecursion}
 use Rattle.charsets.specs.declared.decoder.Unit.TheVariants.{Code}
-use Rattle.charsets.specs.declared.decoder.Coding.{Coding}
-use Rattle.charsets.specs.declared.decoder.Coding.TheVariants.{Utf8, Ecma35}
-use Rattle.control_parser.specs.declared.parser.Func.{Func}
-use Rattle.control_parser.specs.declared.parser.Func.TheVariants.{Esc, Csi}
 use Rattle.control_parser.specs.Text.{fields}
-use Rattle.control_parser.specs.Grammar.{Rest, nothing, functions, functions_behind, begun_by, with_front}
+use Rattle.control_parser.specs.Grammar.{Rest, functions_behind, begun_by, with_front}
 use Rattle.control_parser.specs.Grammar as grammar
-use Rattle.control_parser.specs.Kept.{opening}
-use Rattle.control_parser.proofs.Openings.{functions-go_on, functions-opening}
-use Rattle.terminal_model.specs.Screen.{Screen}
 use Rattle.terminal_model.specs.Functions.{plain_sequence}
-use Rattle.terminal_model.specs.Reading.{Terminal, Read, joined, in_coding, read_units, read_byte, reads}
-use Rattle.terminal_model.specs.Writing.{Clear, Reset, Encoding, clear_bytes, reset_bytes, coding_bytes, writes}
 use Rattle.terminal_model.proofs.Readings.{effects, reports_of, outcome, outcome-append, read_units-is}
 use Rattle.terminal_model.proofs.Spellings.{at, ascii-units, nothing-opened}
 

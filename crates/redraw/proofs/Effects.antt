@@ -1,25 +1,14 @@
 -- What each command does to a screen on which a frame is drawn.
-use Rattle.std.proofs.Common.{◌≡◌, ℕ, ◌+◌, ◌<◌, true, false, eqb, ltb, [], ◌∷◌, refl, sym, ap, ◌∙◌, arith, ⊎_elim}
-use Rattle.std.proofs.lemmas.Bool.{cases_Bool, lt-ltb}
-use Rattle.charsets.specs.declared.decoder.Coding.TheVariants.{Utf8}
-use Rattle.control_parser.specs.Spelling.{spelling, coding_of, IsGiven}
-use Rattle.terminal_model.specs.Screen.{Page, Screen}
-use Rattle.terminal_model.specs.Functions.{plain_sequence, private_sequence}
-use Rattle.terminal_model.specs.Table.{effect}
+use Rattle.redraw.proofs.Vocabulary.{◌≡◌, ℕ, ◌+◌, ◌<◌, true, false, eqb, ltb, [], ◌∷◌, refl, sym, ap, ◌∙◌, arith}
+use Rattle.redraw.proofs.Vocabulary.{⊎_elim, cases_Bool, lt-ltb, Utf8, spelling, coding_of, IsGiven, Page, Screen}
+use Rattle.redraw.proofs.Vocabulary.{plain_sequence, private_sequence, effect, ready, IsDiscreet, IsSpare, IsListed}
+use Rattle.redraw.proofs.Vocabulary.{spelled-one, one_draws, Command, Glyph, MoveTo, NextLine, Forward, Render}
+use Rattle.redraw.proofs.Vocabulary.{EraseCells, EraseToEnd, Arrows, ShowCursor, Keypad, func_of, IsCommand}
+use Rattle.redraw.proofs.Vocabulary.{rendition_params, Leads}
 use Rattle.terminal_model.specs.Reports.{report}
-use Rattle.terminal_model.specs.Reading.{ready}
-use Rattle.terminal_model.specs.Drawing.{IsDiscreet, IsSpare, IsListed}
 use Rattle.terminal_model.proofs.Spellings.{spelled-acts}
-use Rattle.terminal_model.proofs.Further.{spelled-one}
 use Rattle.draw_check.specs.Used.{is_used}
-use Rattle.draw_check.proofs.Joining.{one_draws}
 use Rattle.draw_check.proofs.Spelled.{used_is_function}
-use Rattle.redraw.specs.declared.command.Command.{Command}
-use Rattle.redraw.specs.declared.command.Command.TheVariants.{Glyph, MoveTo, NextLine, Forward, Render, EraseCells}
-use Rattle.redraw.specs.declared.command.Command.TheVariants.{EraseToEnd, Arrows, ShowCursor, Keypad}
-use Rattle.redraw.specs.Commands.{func_of, IsCommand}
-use Rattle.redraw.specs.Renditions.{rendition_params}
-use Rattle.redraw.specs.Drawing.{Leads}
 use Rattle.terminal_model.proofs.Renditions.{values-quiet}
 use Rattle.redraw.proofs.Renditions.{AreGiven, params-given, params-listed, all-small}
 

@@ -1,28 +1,15 @@
 -- A frame from terminals that agree with a shadow leads to terminals that show the view.
-use Rattle.std.proofs.Common.{◌≡◌, ℕ, ◌<◌, ◌≤◌, true, false, List, [], ◌∷◌, ◌++◌, length, Option, Some, None, refl, sym, ap}
-use Rattle.std.proofs.Common.{◌∙◌, subst, arith, ⊎_elim, is_some, replicate}
-use Rattle.std.proofs.lemmas.Bool.{cases_lt}
-use Rattle.std.proofs.lemmas.List.{get_or_past, get_or-replicate, length-replicate}
-use Rattle.cells.specs.declared.cell.Cell.{Cell}
-use Rattle.cells.specs.Line.{blank, cell_at, plain, unprotected}
-use Rattle.cells.specs.Page.{line_at, IsPage, IsGrid}
-use Rattle.cells.proofs.Settling.{cell_at_past}
-use Rattle.terminal_model.specs.declared.state.State.{State}
-use Rattle.terminal_model.specs.declared.state.Position.{Position}
-use Rattle.terminal_model.specs.Screen.{Page, Screen, IsSound, blank_page}
-use Rattle.terminal_model.specs.Reading.{Terminal, IsTerminal, ready, reads, joined}
-use Rattle.terminal_model.specs.Shows.{View, ShowsCursor, IsOfSize}
-use Rattle.terminal_model.specs.Drawing.{frame_bytes, frame_start, Draws, AreSpelled, Agrees}
-use Rattle.terminal_model.proofs.Readings.{reads-append}
+use Rattle.redraw.proofs.Vocabulary.{◌≡◌, ℕ, ◌<◌, ◌≤◌, true, false, List, [], ◌∷◌, ◌++◌, length, Option, Some, None}
+use Rattle.redraw.proofs.Vocabulary.{refl, sym, ap, ◌∙◌, subst, arith, ⊎_elim, is_some, replicate, cases_lt}
+use Rattle.redraw.proofs.Vocabulary.{get_or_past, get_or-replicate, length-replicate, Cell, blank, cell_at, plain}
+use Rattle.redraw.proofs.Vocabulary.{unprotected, line_at, IsPage, IsGrid, cell_at_past, State, Position, Page, Screen}
+use Rattle.redraw.proofs.Vocabulary.{IsSound, blank_page, Terminal, IsTerminal, ready, reads, joined, View, ShowsCursor}
+use Rattle.redraw.proofs.Vocabulary.{IsOfSize, frame_bytes, frame_start, Draws, AreSpelled, Agrees, reads-append}
+use Rattle.redraw.proofs.Vocabulary.{HasSize, HaveHalves, draws_append, Pen, Drawing, Takes, Stage, Final, Begins}
+use Rattle.redraw.proofs.Vocabulary.{Redraws, pen_of, EndsAs, DrawsBytes}
 use Rattle.terminal_model.proofs.Resets.{frame-terminal, frame-reports}
 use Rattle.terminal_model.proofs.Terminals.{IsTerminal-reads, IsTerminal-ready}
-use Rattle.view.specs.View.{HasSize}
-use Rattle.terminal_model.specs.Drawable.{HaveHalves}
 use Rattle.draw_check.specs.Functions.{AreDraws}
-use Rattle.draw_check.proofs.Joining.{draws_append}
-use Rattle.redraw.specs.declared.pen.Pen.{Pen}
-use Rattle.redraw.specs.Drawing.{Drawing, Takes, Stage, Final}
-use Rattle.redraw.specs.Frames.{Begins, Redraws, pen_of, EndsAs, DrawsBytes}
 use Rattle.redraw.proofs.Takings.{takes_weaker}
 
 -- the reset is four functions that draws use: CAN, RIS, ESC % G, DECRM of DECAWM

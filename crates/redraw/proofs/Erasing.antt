@@ -1,23 +1,10 @@
 -- What erasures do to a screen on which a frame is drawn.
-use Rattle.std.proofs.Common.{◌≡◌, ℕ, ◌+◌, ◌-◌, ◌<◌, ◌≤◌, min, max}
-use Rattle.std.proofs.Common.{length, replicate, Option, refl, sym, ap, ◌∙◌, arith, ⊎_elim}
-use Rattle.std.proofs.lemmas.Bool.{cases_lt}
-use Rattle.std.proofs.lemmas.List.{get_or-replicate, get_or_past, length-replicate}
-use Rattle.cells.specs.declared.rendition.Rendition.{Rendition}
-use Rattle.cells.specs.Line.{blank, cell_at, unprotected, fresh_at, spliced}
-use Rattle.cells.specs.Page.{line_at, page_from, edited}
-use Rattle.control_parser.specs.Spelling.{spelling}
-use Rattle.terminal_model.specs.declared.state.State.{State}
-use Rattle.terminal_model.specs.Screen.{Page, Screen, IsSound}
-use Rattle.terminal_model.specs.Functions.{plain_sequence}
-use Rattle.terminal_model.specs.Motion.{unpending}
-use Rattle.terminal_model.specs.Table.{effect, acted_from}
-use Rattle.terminal_model.specs.Drawing.{drawn_state}
-use Rattle.terminal_model.proofs.Sound.{IsSound-effect}
-use Rattle.redraw.specs.declared.pen.Pen.{Pen}
-use Rattle.redraw.specs.declared.command.Command.TheVariants.{EraseCells, EraseToEnd}
-use Rattle.redraw.specs.Commands.{func_of}
-use Rattle.redraw.specs.Drawing.{seen, row_written, Drawing, Writes}
+use Rattle.redraw.proofs.Vocabulary.{◌≡◌, ℕ, ◌+◌, ◌-◌, ◌<◌, ◌≤◌, min, max, length, replicate, Option, refl, sym, ap}
+use Rattle.redraw.proofs.Vocabulary.{◌∙◌, arith, ⊎_elim, cases_lt, get_or-replicate, get_or_past, length-replicate}
+use Rattle.redraw.proofs.Vocabulary.{Rendition, blank, cell_at, unprotected, fresh_at, spliced, line_at, page_from}
+use Rattle.redraw.proofs.Vocabulary.{edited, spelling, State, Page, Screen, IsSound, plain_sequence, unpending, effect}
+use Rattle.redraw.proofs.Vocabulary.{acted_from, drawn_state, IsSound-effect, Pen, EraseCells, EraseToEnd, func_of}
+use Rattle.redraw.proofs.Vocabulary.{seen, row_written, Drawing, Writes}
 use Rattle.redraw.proofs.Writing.{written, written_elsewhere}
 use Rattle.redraw.proofs.Effects.{silent_leads}
 use Rattle.redraw.proofs.Screens.{utf8, sized, LeadsTo, at_place}

@@ -1,24 +1,13 @@
 -- A cell with its marks is put at the pen's place; and a stretch of bytes that writes may follow
 -- one that aims the pen.
-use Rattle.std.proofs.Common.{◌≡◌, ℕ, ◌+◌, ◌<◌, ◌≤◌, false, ◌&&◌, cond, eqb, ltb, List, ◌++◌, Option, Some, refl, sym}
-use Rattle.std.proofs.Common.{ap, ◌∙◌, subst, arith, inl, inr, append-nil}
-use Rattle.cells.specs.declared.cell.Shape.{Shape}
-use Rattle.cells.specs.declared.cell.Shape.TheVariants.{Narrow, Left, Right}
+use Rattle.redraw.proofs.Vocabulary.{◌≡◌, ℕ, ◌+◌, ◌<◌, ◌≤◌, false, ◌&&◌, cond, eqb, ltb, List, ◌++◌, Option, Some, refl}
+use Rattle.redraw.proofs.Vocabulary.{sym, ap, ◌∙◌, subst, arith, inl, inr, append-nil, Shape, Narrow, Left, Right, Cell}
+use Rattle.redraw.proofs.Vocabulary.{Rendition, blank, cell_at, is_left, is_right, line_at, spelling, Page, Screen}
+use Rattle.redraw.proofs.Vocabulary.{HasMark, HasPart, Differs, IsGlyph, AreMarks, HasGlyph, IsDrawableCell, Pen, Glyph}
+use Rattle.redraw.proofs.Vocabulary.{func_of, Row, seen, row_written, row_of, width_of, mark_bytes, glyph_bytes}
+use Rattle.redraw.proofs.Vocabulary.{Drawing, Takes, Keeps, Writes, Stands, Knows}
 use Rattle.cells.specs.declared.marks.Marks.{Marks}
 use Rattle.cells.specs.declared.marks.Marks.TheVariants.{Bare, One, Two}
-use Rattle.cells.specs.declared.cell.Cell.{Cell}
-use Rattle.cells.specs.declared.rendition.Rendition.{Rendition}
-use Rattle.cells.specs.Line.{blank, cell_at, is_left, is_right}
-use Rattle.cells.specs.Page.{line_at}
-use Rattle.control_parser.specs.Spelling.{spelling}
-use Rattle.terminal_model.specs.Screen.{Page, Screen}
-use Rattle.terminal_model.specs.Drawing.{HasMark, HasPart, Differs}
-use Rattle.terminal_model.specs.Drawable.{IsGlyph, AreMarks, HasGlyph, IsDrawableCell}
-use Rattle.redraw.specs.declared.pen.Pen.{Pen}
-use Rattle.redraw.specs.declared.command.Command.TheVariants.{Glyph}
-use Rattle.redraw.specs.Commands.{func_of}
-use Rattle.redraw.specs.Drawing.{Row, seen, row_written, row_of, width_of, mark_bytes, glyph_bytes, Drawing, Takes}
-use Rattle.redraw.specs.Drawing.{Keeps, Writes, Stands, Knows}
 use Rattle.redraw.proofs.Screens.{LeadsTo, at_place}
 use Rattle.redraw.proofs.Printing.{Inked, column_behind, pen_behind, narrow_leads, wide_leads}
 use Rattle.redraw.proofs.Marking.{mark_leads}

@@ -1,3 +1,4 @@
+pub mod Vocabulary
 pub mod Rows
 pub mod Writing
 pub mod Effects

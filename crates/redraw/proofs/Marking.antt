@@ -1,26 +1,11 @@
 -- What marks do to a screen on which a frame is drawn: each joins the character before it.
-use Rattle.std.proofs.Common.{◌≡◌, ℕ, ◌+◌, ◌<◌, true, List, []}
-use Rattle.std.proofs.Common.{length, set, Option, Some, refl, sym, ap, ◌∙◌, subst, arith, ⊎_elim}
-use Rattle.std.proofs.Common.{eq-eqb}
-use Rattle.std.proofs.lemmas.Bool.{cases_eq, ne_eqb, lt-ltb, le-ltb}
-use Rattle.std.proofs.lemmas.List.{get_or-set_same, get_or-set_other}
-use Rattle.cells.specs.declared.cell.Cell.{Cell}
-use Rattle.cells.specs.declared.rendition.Rendition.{Rendition}
-use Rattle.cells.specs.Line.{blank, cell_at, unprotected, marked}
-use Rattle.cells.specs.Page.{line_at, IsPage, page_marked}
-use Rattle.control_parser.specs.declared.parser.Func.TheVariants.{Print}
-use Rattle.control_parser.specs.Spelling.{spelling}
-use Rattle.terminal_model.specs.declared.state.Position.{Position}
-use Rattle.terminal_model.specs.Screen.{Page, Screen, IsSound}
+use Rattle.redraw.proofs.Vocabulary.{◌≡◌, ℕ, ◌+◌, ◌<◌, true, List, [], length, set, Option, Some, refl, sym, ap, ◌∙◌}
+use Rattle.redraw.proofs.Vocabulary.{subst, arith, ⊎_elim, eq-eqb, cases_eq, ne_eqb, lt-ltb, le-ltb, get_or-set_same}
+use Rattle.redraw.proofs.Vocabulary.{get_or-set_other, Cell, Rendition, blank, cell_at, unprotected, marked, line_at}
+use Rattle.redraw.proofs.Vocabulary.{IsPage, page_marked, Print, spelling, Position, Page, Screen, IsSound, effect}
+use Rattle.redraw.proofs.Vocabulary.{StandsAt, cell_of, has_room, mark_place, place_by, Differs, IsSound-effect}
+use Rattle.redraw.proofs.Vocabulary.{IsGlyph, Pen, Glyph, func_of, seen, row_written, row_of}
 use Rattle.terminal_model.specs.Printing.{marked_at}
-use Rattle.terminal_model.specs.Table.{effect}
-use Rattle.terminal_model.specs.Drawing.{StandsAt, cell_of, has_room, mark_place, place_by, Differs}
-use Rattle.terminal_model.proofs.Sound.{IsSound-effect}
-use Rattle.terminal_model.specs.Drawable.{IsGlyph}
-use Rattle.redraw.specs.declared.pen.Pen.{Pen}
-use Rattle.redraw.specs.declared.command.Command.TheVariants.{Glyph}
-use Rattle.redraw.specs.Commands.{func_of}
-use Rattle.redraw.specs.Drawing.{seen, row_written, row_of}
 use Rattle.redraw.proofs.Screens.{sized, LeadsTo}
 use Rattle.redraw.proofs.Seen.{over_same}
 use Rattle.redraw.proofs.Printing.{Inked, pen_behind, print_is, printed_leads}

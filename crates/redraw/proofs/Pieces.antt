@@ -1,19 +1,10 @@
 -- A line is drawn piece by piece, and a page line by line.
-use Rattle.std.proofs.Common.{◌≡◌, ℕ, zero, suc, ◌+◌, ◌-◌, ◌<◌, ◌≤◌, true, false, List, length, refl, sym, ap, ◌∙◌}
-use Rattle.std.proofs.Common.{subst, arith, ⊎_elim, eq-eqb}
-use Rattle.std.proofs.lemmas.Bool.{cases_lt, cases_eq, cases_Bool, ne_eqb}
-use Rattle.cells.specs.declared.cell.Shape.{Shape}
-use Rattle.cells.specs.declared.cell.Shape.TheVariants.{Narrow, Left, Right}
-use Rattle.cells.specs.declared.cell.Cell.{Cell}
-use Rattle.cells.specs.Line.{blank, cell_at, is_left, is_right, unprotected, right_cell, IsPaired}
-use Rattle.cells.specs.Page.{line_at}
-use Rattle.cells.proofs.Settling.{cell_at_past, true≢false}
-use Rattle.terminal_model.specs.Screen.{Page}
-use Rattle.terminal_model.specs.Shows.{seen_at}
-use Rattle.terminal_model.specs.Drawable.{IsDrawableLine}
-use Rattle.redraw.specs.declared.pen.Pen.{Pen}
-use Rattle.redraw.specs.Drawing.{Row, seen, mixed, row_of, width_of, Drawing, Takes, Writes, Stands, HasLine, DrawsLine}
-use Rattle.redraw.specs.Drawing.{DrawsPiece, DrawsUpTo, AreLines}
+use Rattle.redraw.proofs.Vocabulary.{◌≡◌, ℕ, zero, suc, ◌+◌, ◌-◌, ◌<◌, ◌≤◌, true, false, List, length, refl, sym, ap}
+use Rattle.redraw.proofs.Vocabulary.{◌∙◌, subst, arith, ⊎_elim, eq-eqb, cases_lt, cases_eq, cases_Bool, ne_eqb, Shape}
+use Rattle.redraw.proofs.Vocabulary.{Narrow, Left, Right, Cell, blank, cell_at, is_left, is_right, unprotected}
+use Rattle.redraw.proofs.Vocabulary.{right_cell, IsPaired, line_at, cell_at_past, true≢false, Page, seen_at}
+use Rattle.redraw.proofs.Vocabulary.{IsDrawableLine, Pen, Row, seen, mixed, row_of, width_of, Drawing, Takes, Writes}
+use Rattle.redraw.proofs.Vocabulary.{Stands, HasLine, DrawsLine, DrawsPiece, DrawsUpTo, AreLines}
 use Rattle.redraw.proofs.Rows.{IsPairedRow, mixed_over, mixed_same, mixed_start}
 use Rattle.redraw.proofs.Seen.{over_same}
 use Rattle.redraw.proofs.Takings.{takes_nothing, takes_then, takes_weaker}

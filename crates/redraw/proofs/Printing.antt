@@ -1,32 +1,18 @@
 -- What characters do to a screen on which a frame is drawn.
-use Rattle.std.proofs.Common.{◌≡◌, ℕ, ◌+◌, ◌-◌, ◌<◌, ◌≤◌, Bool, true, false, cond, eqb, ltb, List, []}
-use Rattle.std.proofs.Common.{◌∷◌, length, Option, Some, refl, sym, ap, ◌∙◌, subst, arith, ⊎_elim}
-use Rattle.std.proofs.Common.{eq-eqb}
+use Rattle.redraw.proofs.Vocabulary.{◌≡◌, ℕ, ◌+◌, ◌-◌, ◌<◌, ◌≤◌, Bool, true, false, cond, eqb, ltb, List, [], ◌∷◌}
+use Rattle.redraw.proofs.Vocabulary.{length, Option, Some, refl, sym, ap, ◌∙◌, subst, arith, ⊎_elim, eq-eqb, cases_lt}
+use Rattle.redraw.proofs.Vocabulary.{cases_eq, cases_Bool, ne_eqb, lt-ltb, le-ltb, Cell, Rendition, cell_at}
+use Rattle.redraw.proofs.Vocabulary.{unprotected, fresh_at, spliced, narrow_cell, left_cell, right_cell, line_at}
+use Rattle.redraw.proofs.Vocabulary.{page_from, edited, Print, spelling, State, Page, Screen, IsSound, with_state}
+use Rattle.redraw.proofs.Vocabulary.{effect, acted_from, drawn_state, StandsAt, place_by, Differs, IsSound-effect}
+use Rattle.redraw.proofs.Vocabulary.{IsGlyph, Pen, Glyph, func_of, Row, seen, row_of, Drawing, Knows, Leads, Writes}
 use Rattle.std.specs.Bool.{then_some}
-use Rattle.std.proofs.lemmas.Bool.{cases_lt, cases_eq, cases_Bool, ne_eqb, lt-ltb, le-ltb}
 use Rattle.charsets.specs.declared.decoder.Unit.{Unit}
 use Rattle.charsets.specs.declared.decoder.Unit.TheVariants.{Code}
 use Rattle.charsets.specs.declared.shifts.Shifts.{Shifts}
 use Rattle.charsets.specs.Shifts.{mapped, spent, is_position, is_graphic, starting as starting_shifts}
 use Rattle.charsets.specs.Sets.{character_at}
-use Rattle.cells.specs.declared.cell.Cell.{Cell}
-use Rattle.cells.specs.declared.rendition.Rendition.{Rendition}
-use Rattle.cells.specs.Line.{cell_at, unprotected, fresh_at, spliced, narrow_cell}
-use Rattle.cells.specs.Line.{left_cell, right_cell}
-use Rattle.cells.specs.Page.{line_at, page_from, edited}
-use Rattle.control_parser.specs.declared.parser.Func.TheVariants.{Print}
-use Rattle.control_parser.specs.Spelling.{spelling}
-use Rattle.terminal_model.specs.declared.state.State.{State}
-use Rattle.terminal_model.specs.Screen.{Page, Screen, IsSound, with_state}
 use Rattle.terminal_model.specs.Printing.{printed, printed_as, placed, advanced, following, drawn}
-use Rattle.terminal_model.specs.Table.{effect, acted_from}
-use Rattle.terminal_model.specs.Drawing.{drawn_state, StandsAt, place_by, Differs}
-use Rattle.terminal_model.proofs.Sound.{IsSound-effect}
-use Rattle.terminal_model.specs.Drawable.{IsGlyph}
-use Rattle.redraw.specs.declared.pen.Pen.{Pen}
-use Rattle.redraw.specs.declared.command.Command.TheVariants.{Glyph}
-use Rattle.redraw.specs.Commands.{func_of}
-use Rattle.redraw.specs.Drawing.{Row, seen, row_of, Drawing, Knows, Leads, Writes}
 use Rattle.redraw.proofs.Writing.{written, written_elsewhere}
 use Rattle.redraw.proofs.Effects.{one_leads}
 use Rattle.redraw.proofs.Screens.{utf8, no_insert, none_pending, sized, LeadsTo, at_place}

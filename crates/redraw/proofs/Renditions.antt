@@ -1,30 +1,23 @@
 -- SGR leads to a rendition, from any rendition and from a known one.
-use Rattle.std.proofs.Common.{◌≡◌, ℕ, ◌+◌, ◌<◌, ◌≤◌, ◌==◌, eqb, Bool, true, false, List, [], ◌∷◌, ◌++◌, length, Option}
-use Rattle.std.proofs.Common.{Some, None, refl, sym, ap, ◌∙◌, arith, append_assoc}
+use Rattle.redraw.proofs.Vocabulary.{◌≡◌, ℕ, ◌+◌, ◌<◌, ◌≤◌, ◌==◌, eqb, Bool, true, false, List, [], ◌∷◌, ◌++◌, length}
+use Rattle.redraw.proofs.Vocabulary.{Option, Some, None, refl, sym, ap, ◌∙◌, arith, append_assoc, AllByRecursion}
+use Rattle.redraw.proofs.Vocabulary.{length-append, eqb-true, Rendition, Csi, Screen, with_state, plain_sequence}
+use Rattle.redraw.proofs.Vocabulary.{unjoined, acted_from, effect, IsListed, Knows, all_bytes, rendition_params}
 use Rattle.std.specs.Prelude.{if◌then◌else◌, nat_lt, option_to_list}
-use Rattle.std.specs.List.{AllByRecursion, list_all}
-use Rattle.std.proofs.lemmas.List.{length-append}
-use Rattle.std.proofs.lemmas.Bool.{eqb-true}
+use Rattle.std.specs.List.{list_all}
 use Rattle.cells.specs.declared.rendition.Colour.{Colour}
-use Rattle.cells.specs.declared.rendition.Colour.TheVariants.{Default, Black, Red, Green, Yellow, Blue, Magenta}
-use Rattle.cells.specs.declared.rendition.Colour.TheVariants.{Cyan, White}
-use Rattle.cells.specs.declared.rendition.Rendition.{Rendition}
-use Rattle.control_parser.specs.declared.parser.Func.TheVariants.{Csi}
+use Rattle.cells.specs.declared.rendition.Colour.TheVariants.{Default, Black, Red, Green, Yellow, Blue, Magenta, Cyan}
+use Rattle.cells.specs.declared.rendition.Colour.TheVariants.{White}
 use Rattle.terminal_model.specs.declared.action.Action.TheVariants.{Render}
 use Rattle.cells.specs.declared.rendition.Attribute.{Attribute}
 use Rattle.cells.specs.declared.rendition.Attribute.TheVariants.{Plain, Bold, Underlined, Blinking, Reversed}
 use Rattle.cells.specs.declared.rendition.Attribute.TheVariants.{Foreground, Background}
-use Rattle.terminal_model.specs.Screen.{Screen, with_state}
-use Rattle.terminal_model.specs.Functions.{plain_sequence, each, rendered, colour_digit}
-use Rattle.terminal_model.specs.Motion.{unjoined}
-use Rattle.terminal_model.specs.Table.{acted_from, all_acted, effect}
-use Rattle.terminal_model.specs.Drawing.{IsListed}
+use Rattle.terminal_model.specs.Functions.{each, rendered, colour_digit}
+use Rattle.terminal_model.specs.Table.{all_acted}
 use Rattle.terminal_model.specs.Places.{value_if, value_of_colour, rendition_values}
 use Rattle.terminal_model.proofs.Frames.{all_acted-append, each-append}
 use Rattle.terminal_model.proofs.Renditions.{is_named, named-listed, rendition-is}
-use Rattle.redraw.specs.Drawing.{Knows}
-use Rattle.redraw.specs.Renditions.{whole_params, switched, recoloured, change_params, all_bytes, shorter}
-use Rattle.redraw.specs.Renditions.{rendition_params}
+use Rattle.redraw.specs.Renditions.{whole_params, switched, recoloured, change_params, shorter}
 
 -- THE VALUES
 

@@ -1,10 +1,7 @@
 -- A line that is drawn from left to right.
-use Rattle.std.proofs.Common.{◌≡◌, ℕ, zero, suc, ◌+◌, ◌<◌, ◌≤◌, false, ◌&&◌, cond, eqb, refl, sym, ap, ◌∙◌, arith}
-use Rattle.std.proofs.Common.{⊎_elim, lt-ltb, le-ltb, eq-eqb}
-use Rattle.std.proofs.lemmas.Bool.{cases_lt, cases_eq, ne_eqb}
-use Rattle.cells.specs.declared.cell.Cell.{Cell}
-use Rattle.cells.specs.Line.{blank, is_left, is_right}
-use Rattle.redraw.specs.Drawing.{Row, row_written, mixed}
+use Rattle.redraw.proofs.Vocabulary.{◌≡◌, ℕ, zero, suc, ◌+◌, ◌<◌, ◌≤◌, false, ◌&&◌, cond, eqb, refl, sym, ap, ◌∙◌}
+use Rattle.redraw.proofs.Vocabulary.{arith, ⊎_elim, lt-ltb, le-ltb, eq-eqb, cases_lt, cases_eq, ne_eqb, Cell, blank}
+use Rattle.redraw.proofs.Vocabulary.{is_left, is_right, Row, row_written, mixed}
 
 -- a right half stands exactly after each left half
 pub record IsPairedRow (row : Row) : Type 0 where

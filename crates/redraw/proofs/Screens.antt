@@ -1,24 +1,12 @@
 -- A screen on which a frame is drawn, after each command that moves the pen or sets a rendition.
-use Rattle.std.proofs.Common.{◌≡◌, ℕ, ◌+◌, ◌-◌, ◌<◌, min, max, true, false, eqb, List, Option, Some, refl, sym, ap}
-use Rattle.std.proofs.Common.{subst, arith, ⊎_elim}
-use Rattle.std.proofs.lemmas.Bool.{cases_Bool, ne_eqb, eqb-true}
-use Rattle.charsets.specs.declared.decoder.Coding.TheVariants.{Utf8}
-use Rattle.cells.specs.declared.rendition.Rendition.{Rendition}
-use Rattle.cells.specs.Page.{IsPage}
-use Rattle.control_parser.specs.Spelling.{spelling}
-use Rattle.terminal_model.specs.declared.state.State.{State}
-use Rattle.terminal_model.specs.Screen.{Page, Screen, IsSound}
-use Rattle.terminal_model.specs.Functions.{first, second, plain_sequence}
-use Rattle.terminal_model.specs.Motion.{moved_to, unpending, unjoined, line_named, line_below}
-use Rattle.terminal_model.specs.Table.{effect, acted_from}
-use Rattle.terminal_model.specs.Drawing.{drawn_state}
-use Rattle.terminal_model.proofs.Sound.{IsSound-effect}
-use Rattle.redraw.specs.declared.pen.Pen.{Pen}
-use Rattle.redraw.specs.declared.command.Command.{Command}
-use Rattle.redraw.specs.declared.command.Command.TheVariants.{Glyph, MoveTo, NextLine, Forward, Render, EraseCells}
-use Rattle.redraw.specs.declared.command.Command.TheVariants.{EraseToEnd, Arrows, ShowCursor, Keypad}
-use Rattle.redraw.specs.Commands.{func_of, place_params}
-use Rattle.redraw.specs.Drawing.{Drawing, Knows, Leads, Keeps, IsWay}
+use Rattle.redraw.proofs.Vocabulary.{◌≡◌, ℕ, ◌+◌, ◌-◌, ◌<◌, min, max, true, false, eqb, List, Option, Some, refl, sym}
+use Rattle.redraw.proofs.Vocabulary.{ap, subst, arith, ⊎_elim, cases_Bool, ne_eqb, eqb-true, Utf8, Rendition, IsPage}
+use Rattle.redraw.proofs.Vocabulary.{spelling, State, Page, Screen, IsSound, plain_sequence, unpending, unjoined}
+use Rattle.redraw.proofs.Vocabulary.{effect, acted_from, drawn_state, IsSound-effect, Pen, Command, Glyph, MoveTo}
+use Rattle.redraw.proofs.Vocabulary.{NextLine, Forward, Render, EraseCells, EraseToEnd, Arrows, ShowCursor, Keypad}
+use Rattle.redraw.proofs.Vocabulary.{func_of, place_params, Drawing, Knows, Leads, Keeps, IsWay}
+use Rattle.terminal_model.specs.Functions.{first, second}
+use Rattle.terminal_model.specs.Motion.{moved_to, line_named, line_below}
 use Rattle.redraw.proofs.Effects.{silent_leads}
 use Rattle.redraw.proofs.Renditions.{with_rendition, params-made}
 

@@ -1,12 +1,7 @@
 -- What is seen of new cells.
-use Rattle.std.proofs.Common.{◌≡◌, ℕ, ◌+◌, ◌-◌, ◌<◌, ◌≤◌, Bool, true, false, ◌&&◌, cond, eqb, ltb, List}
-use Rattle.std.proofs.Common.{length, refl, ap, ◌∙◌, ⊎_elim}
-use Rattle.std.proofs.lemmas.Bool.{cases_lt, lt-ltb, le-ltb}
-use Rattle.cells.specs.declared.cell.Cell.{Cell}
-use Rattle.cells.specs.Line.{blank, cell_at, unprotected, fresh_at, is_left, is_right}
-use Rattle.cells.specs.Page.{line_at, IsPage}
-use Rattle.terminal_model.specs.Screen.{Page}
-use Rattle.redraw.specs.Drawing.{Row, row_written}
+use Rattle.redraw.proofs.Vocabulary.{◌≡◌, ℕ, ◌+◌, ◌-◌, ◌<◌, ◌≤◌, Bool, true, false, ◌&&◌, cond, eqb, ltb, List, length}
+use Rattle.redraw.proofs.Vocabulary.{refl, ap, ◌∙◌, ⊎_elim, cases_lt, lt-ltb, le-ltb, Cell, blank, cell_at, unprotected}
+use Rattle.redraw.proofs.Vocabulary.{fresh_at, is_left, is_right, line_at, IsPage, Page, Row, row_written}
 use Rattle.redraw.proofs.Writing.{written, written_here}
 
 same_side : {A : Type 0} (f : Cell → A) (b : Bool) (x y : Cell) → f (cond b x y) ≡ cond b (f x) (f y)

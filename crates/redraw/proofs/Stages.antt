@@ -1,25 +1,11 @@
 -- A page is drawn line by line; then the modes and the cursor are set.
-use Rattle.std.proofs.Common.{◌≡◌, ℕ, ◌+◌, ◌<◌, ◌≤◌, Bool, true, false, List, ◌++◌, Option, Some, None, refl, sym, ap}
-use Rattle.std.proofs.Common.{◌∙◌, subst, arith, ⊎_elim}
-use Rattle.std.proofs.lemmas.Bool.{cases_lt}
-use Rattle.control_parser.specs.Spelling.{spelling}
-use Rattle.terminal_model.specs.declared.state.State.{State}
+use Rattle.redraw.proofs.Vocabulary.{◌≡◌, ℕ, ◌+◌, ◌<◌, ◌≤◌, Bool, true, false, List, ◌++◌, Option, Some, None, refl}
+use Rattle.redraw.proofs.Vocabulary.{sym, ap, ◌∙◌, subst, arith, ⊎_elim, cases_lt, spelling, State, Position, Page}
+use Rattle.redraw.proofs.Vocabulary.{Screen, private_sequence, unpending, effect, acted_from, seen_at, IsSound-effect}
+use Rattle.redraw.proofs.Vocabulary.{KeyModes, Pen, Command, Arrows, ShowCursor, Keypad, func_of, AreAlikeAbove, seen}
+use Rattle.redraw.proofs.Vocabulary.{Drawing, Knows, Takes, Keeps, HasLine, DrawsLine, HasPage, DrawsPage, Stage, Final}
+use Rattle.redraw.proofs.Vocabulary.{changed}
 use Rattle.terminal_model.specs.declared.state.Modes.{Modes}
-use Rattle.terminal_model.specs.declared.state.Position.{Position}
-use Rattle.terminal_model.specs.Screen.{Page, Screen}
-use Rattle.terminal_model.specs.Functions.{private_sequence}
-use Rattle.terminal_model.specs.Motion.{unpending}
-use Rattle.terminal_model.specs.Table.{effect, acted_from}
-use Rattle.terminal_model.specs.Shows.{seen_at}
-use Rattle.terminal_model.proofs.Sound.{IsSound-effect}
-use Rattle.view.specs.declared.view.KeyModes.{KeyModes}
-use Rattle.redraw.specs.declared.pen.Pen.{Pen}
-use Rattle.redraw.specs.declared.command.Command.{Command}
-use Rattle.redraw.specs.declared.command.Command.TheVariants.{Arrows, ShowCursor, Keypad}
-use Rattle.redraw.specs.Commands.{func_of}
-use Rattle.redraw.specs.Shadow.{AreAlikeAbove}
-use Rattle.redraw.specs.Drawing.{seen, Drawing, Knows, Takes, Keeps, HasLine, DrawsLine, HasPage, DrawsPage, Stage}
-use Rattle.redraw.specs.Drawing.{Final, changed}
 use Rattle.redraw.proofs.Rows.{mixed_front}
 use Rattle.redraw.proofs.Effects.{silent_leads}
 use Rattle.redraw.proofs.Screens.{utf8, LeadsTo, at_place}

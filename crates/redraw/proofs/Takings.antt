@@ -1,13 +1,7 @@
 -- Bytes that were appended in stretches, one after another.
-use Rattle.std.proofs.Common.{◌≡◌, ℕ, List, [], ◌∷◌, ◌++◌, refl, sym, ap, ◌∙◌, append_assoc, append-nil}
-use Rattle.std.specs.List.{AllByRecursion}
-use Rattle.terminal_model.specs.Screen.{Page, Screen}
-use Rattle.terminal_model.specs.Reading.{Act, ready, reads, joined}
-use Rattle.terminal_model.specs.Drawing.{Draws, IsDiscreet, IsSpare}
-use Rattle.terminal_model.proofs.Readings.{reads-append}
-use Rattle.terminal_model.proofs.Further.{spelled-append}
-use Rattle.draw_check.proofs.Joining.{none_draw, draws_append as joined_draws}
-use Rattle.redraw.specs.Drawing.{Leads, Takes}
+use Rattle.redraw.proofs.Vocabulary.{◌≡◌, ℕ, List, [], ◌∷◌, ◌++◌, refl, sym, ap, ◌∙◌, append_assoc, append-nil}
+use Rattle.redraw.proofs.Vocabulary.{AllByRecursion, Page, Screen, Act, ready, reads, joined, Draws, IsDiscreet}
+use Rattle.redraw.proofs.Vocabulary.{IsSpare, reads-append, spelled-append, none_draw, joined_draws, Leads, Takes}
 
 all_append : {A : Type 0} (P : A → Type 0) (xs ys : List A) → AllByRecursion P xs → AllByRecursion P ys
     → AllByRecursion P (xs ++ ys)

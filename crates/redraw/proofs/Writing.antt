@@ -1,19 +1,14 @@
 -- The cells of a page of which one line gets new cells.
-use Rattle.std.proofs.Common.{◌≡◌, ℕ, zero, suc, ◌+◌, ◌-◌, ◌<◌, ◌≤◌, Bool, true, false, ◌&&◌, cond, eqb, List, length}
-use Rattle.std.proofs.Common.{set, refl, sym, ap, ◌∙◌, arith, ⊎_elim, eq-eqb}
-use Rattle.std.proofs.lemmas.List.{get_or-set_same, get_or-set_other}
-use Rattle.std.proofs.lemmas.Bool.{cases_lt, cases_eq, ne_eqb, lt-ltb}
-use Rattle.cells.specs.declared.cell.Cell.{Cell}
-use Rattle.cells.specs.declared.cell.Shape.{Shape}
-use Rattle.cells.specs.declared.cell.Shape.TheVariants.{Narrow, Left, Right}
-use Rattle.cells.specs.Line.{blank, cell_at, is_left, is_right, IsPaired, Source, Old, are_halves, kept, settled}
-use Rattle.cells.specs.Line.{source_before, source_after, cells_from, spliced, fresh_at}
-use Rattle.cells.specs.Page.{line_at, IsPage, page_from, edited}
-use Rattle.cells.proofs.Settling.{settled_at, cell_at-cells_from, cell_at_past, after_inside, kept_is, true≢false}
+use Rattle.redraw.proofs.Vocabulary.{◌≡◌, ℕ, zero, suc, ◌+◌, ◌-◌, ◌<◌, ◌≤◌, Bool, true, false, ◌&&◌, cond, eqb, List}
+use Rattle.redraw.proofs.Vocabulary.{length, set, refl, sym, ap, ◌∙◌, arith, ⊎_elim, eq-eqb, get_or-set_same}
+use Rattle.redraw.proofs.Vocabulary.{get_or-set_other, cases_lt, cases_eq, ne_eqb, lt-ltb, Cell, Shape, Narrow, Left}
+use Rattle.redraw.proofs.Vocabulary.{Right, blank, cell_at, is_left, is_right, IsPaired, Source, Old, are_halves, kept}
+use Rattle.redraw.proofs.Vocabulary.{settled, source_before, source_after, cells_from, spliced, fresh_at, line_at}
+use Rattle.redraw.proofs.Vocabulary.{IsPage, page_from, edited, cell_at_past, true≢false, Row, row_written}
+use Rattle.cells.proofs.Settling.{settled_at, cell_at-cells_from, after_inside, kept_is}
 use Rattle.cells.proofs.Splicing.{at_front, at_fresh, at_rest}
 use Rattle.cells.proofs.Putting.{settled_new}
 use Rattle.cells.proofs.Pages.{page_from-edited}
-use Rattle.redraw.specs.Drawing.{Row, row_written}
 use Rattle.redraw.proofs.Rows.{over_fresh, over_behind}
 
 left_torn : (s : Shape) (cell : Cell) (p q : Bool) → p ≡ false → (is_right s ≡ true → q ≡ true)

@@ -1,25 +1,18 @@
 -- Lines of a setup, given one after another.
-use Rattle.std.proofs.Common.{ℕ, ◌+◌, ◌<◌, ◌≡◌, refl, sym, ◌∙◌, ap, subst, List, [], ◌∷◌, ◌++◌, map, length, take, drop}
-use Rattle.std.proofs.Common.{get_or, Result, Ok, Err, IfErr}
-use Rattle.std.specs.Prelude.{IsErrAnd, is_ok}
-use Rattle.std.proofs.lemmas.List.{map_more, map-append, drop_more, take-append-drop}
-use Rattle.acl.specs.declared.user_id.UserId.{UserId}
+use Rattle.session.proofs.Vocabulary.{ℕ, ◌+◌, ◌<◌, ◌≡◌, refl, sym, ◌∙◌, ap, subst, List, [], ◌∷◌, ◌++◌, map, length}
+use Rattle.session.proofs.Vocabulary.{take, drop, get_or, Result, Ok, Err, IfErr, IsErrAnd, is_ok, map-append, UserId}
+use Rattle.session.proofs.Vocabulary.{Line, line_of, Effect, text_of, EventValue, Reply, Entry, Trace, with_step}
+use Rattle.session.proofs.Vocabulary.{tables_of, with_steps, AllSteps, StandsFor, Takes, entry_of, Session, command_of}
+use Rattle.session.proofs.Vocabulary.{AreDone, SetsUp, Behind, Refuses, StopsAt, IfRefused}
+use Rattle.std.proofs.lemmas.List.{map_more, drop_more, take-append-drop}
 use Rattle.program_words.specs.declared.setup.SetupLine.{SetupLine}
-use Rattle.program_words.specs.SetupLines.{Line, line_of}
 use Rattle.session_model.specs.declared.event.Done.{Done}
-use Rattle.session_model.specs.declared.event.Effect.{Effect}
 use Rattle.session_model.specs.declared.refusal.Refusal.{Refusal}
-use Rattle.session_model.specs.Texts.{text_of}
-use Rattle.session_model.specs.Trace.{EventValue, Reply, Entry, Trace, with_step}
-use Rattle.session_model.specs.Run.{tables_of}
 use Rattle.session_laws.proofs.Promising.{step_keeps}
-use Rattle.session_core.specs.Headline.{with_steps, AllSteps, Keeps}
+use Rattle.session_core.specs.Headline.{Keeps}
 use Rattle.session_core.specs.Noted.{Noted}
-use Rattle.session_core.specs.Stands.{StandsFor, Takes, entry_of}
-use Rattle.session_core.specs.declared.session.Session.{Session}
 use Rattle.session.specs.declared.setup_file.Unbegun.{Unbegun}
 use Rattle.session.specs.declared.setup_file.Unbegun.TheVariants.{Refused, NoMemory}
-use Rattle.session.specs.Setup.{command_of, AreDone, SetsUp, Behind, Refuses, StopsAt, IfRefused}
 
 -- ---- one step
 

@@ -1,3 +1,4 @@
+pub mod Vocabulary
 pub use Rattle.session_core.proofs.Crossing
 pub use Rattle.session_laws.proofs.ActsOfMoves
 pub use Rattle.session_laws.proofs.ActsOfRuns

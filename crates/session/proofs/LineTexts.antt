@@ -1,11 +1,9 @@
 -- A title is read as text.
-use Rattle.std.proofs.Common.{◌≡◌, ℕ, List, ap, ◌∙◌, refl}
-use Rattle.std.specs.Prelude.{Bool, true, false, cond, Some, None, option_copied, Result, Ok, Err, MatchResult}
+use Rattle.session.proofs.Vocabulary.{◌≡◌, ℕ, List, ap, ◌∙◌, refl, Bool, true, false, cond, Some, None, option_copied}
+use Rattle.session.proofs.Vocabulary.{Result, Ok, Err, MatchResult, IsUtf8, is_utf8, if_utf8}
 use Rattle.std.specs.Borrow.{Bor}
 use Rattle.std.specs.Result.{result_ok}
-use Rattle.std.specs.Str.{IsUtf8, is_utf8}
 use Rattle.std.proofs.lemmas.Str.{IsUtf8-from_is_utf8, is_utf8-from_IsUtf8}
-use Rattle.session.specs.Fields.{if_utf8}
 
 as_title : (bytes : List ℕ) (is : Bool) → is ≡ true → Some bytes ≡ cond is (Some bytes) None
 as_title bytes true e = refl

@@ -1,10 +1,7 @@
 -- The first line of a script.
-use Rattle.std.proofs.Common.{ℕ, ◌<◌, ◌≡◌, refl, sym, ◌∙◌, ap, true, false, Bool, List, [], ◌∷◌, length, take, arith}
-use Rattle.std.proofs.Common.{suc, get_or}
-use Rattle.std.specs.Prelude.{◌==◌, if◌then◌else◌, nat_lt, ◌-◌}
-use Rattle.std.proofs.lemmas.Bool.Decides.{nat_tests}
-use Rattle.std.specs.Io.BufRead.{take_through, drop_through, first_piece, strip_last}
-use Rattle.session.specs.ScriptLines.{with_byte, lines_of}
+use Rattle.session.proofs.Vocabulary.{ℕ, ◌<◌, ◌≡◌, refl, sym, ◌∙◌, ap, true, false, Bool, List, [], ◌∷◌, length, take}
+use Rattle.session.proofs.Vocabulary.{arith, suc, get_or, ◌==◌, if◌then◌else◌, nat_lt, ◌-◌, nat_tests, take_through}
+use Rattle.session.proofs.Vocabulary.{drop_through, first_piece, strip_last, with_byte, lines_of}
 
 -- the bytes before the first line feed
 abbrev piece : List ℕ → List ℕ

@@ -1,33 +1,19 @@
 -- Scripts that are played line by line.
-use Rattle.std.proofs.Common.{ℕ, Bool, true, false, ◌+◌, ◌<◌, ◌≡◌, refl, sym, ◌∙◌, ap, subst, List, [], ◌∷◌, ◌++◌}
-use Rattle.std.proofs.Common.{length, Option, Some, None, Result, Ok, Err, drop, append_assoc, length-append}
-use Rattle.std.specs.Prelude.{IfErr, IsErrAnd, IfSome}
-use Rattle.std.specs.List.{flat_map}
-use Rattle.std.proofs.lemmas.List.{append-nil}
-use Rattle.std.specs.Io.KnownBytes.{Appends, Keeps, IsAtEnd, prepend_known}
-use Rattle.std.specs.Io.BufRead.{first_piece, drop_through, DropsThrough}
-use Rattle.std.specs.Io.Iter.{YieldsKnownPiece}
-use Rattle.std.specs.Io.Buffered.{reader_remaining, reader_buffer, reader_capacity, reader_inner}
+use Rattle.session.proofs.Vocabulary.{ℕ, Bool, true, false, ◌+◌, ◌<◌, ◌≡◌, refl, sym, ◌∙◌, ap, subst, List, [], ◌∷◌}
+use Rattle.session.proofs.Vocabulary.{◌++◌, length, Option, Some, None, Result, Ok, Err, drop, append_assoc}
+use Rattle.session.proofs.Vocabulary.{length-append, IfErr, IsErrAnd, IfSome, flat_map, append-nil, Appends, Keeps}
+use Rattle.session.proofs.Vocabulary.{IsAtEnd, prepend_known, first_piece, drop_through, DropsThrough, YieldsKnownPiece}
+use Rattle.session.proofs.Vocabulary.{reader_remaining, reader_buffer, reader_capacity, reader_inner, Effect, Session}
+use Rattle.session.proofs.Vocabulary.{EventValue, Reply, Trace, begun, StandsFor, with_steps, AllSteps, KeepsPromise}
+use Rattle.session.proofs.Vocabulary.{Serves, SomeRun, untaken_events, without_keys, effects_of, replies_of}
+use Rattle.session.proofs.Vocabulary.{effect_line, reply_line, lines_of, tables_of, printed, views, views_if}
+use Rattle.session.proofs.Vocabulary.{IfNotUnderstood, IsBad, OfScript, PlaysAll, PlaysUntil, Runs, Played, PlayedPart}
+use Rattle.session.proofs.Vocabulary.{Edition, UserId, Line, Behind, SetsUp}
 use Rattle.std.specs.declared.io.buffered.BufReader.{BufReader}
-use Rattle.session_model.specs.declared.event.Effect.{Effect}
 use Rattle.session_model.specs.declared.event.Ran.{Ran}
-use Rattle.session_core.specs.declared.session.Session.{Session}
-use Rattle.session_model.specs.Trace.{EventValue, Reply, Trace, begun}
-use Rattle.session_core.specs.Stands.{StandsFor}
-use Rattle.session_core.specs.Headline.{with_steps, AllSteps, Keeps as KeepsPromise, Serves, SomeRun, untaken_events}
-use Rattle.session_core.specs.Headline.{without_keys, effects_of, replies_of}
-use Rattle.session.specs.Printed.{effect_line, reply_line}
 use Rattle.session.specs.declared.player.Fault.{Fault}
 use Rattle.session.specs.declared.player.Fault.TheVariants.{NotUnderstood, Io, NoMemory}
-use Rattle.session.specs.ScriptLines.{lines_of}
 use Rattle.session_model.specs.Tables.{Tables}
-use Rattle.session_model.specs.Run.{tables_of}
-use Rattle.session.specs.Played.{printed, views, views_if, IfNotUnderstood, IsBad, OfScript, PlaysAll, PlaysUntil, Runs}
-use Rattle.session.specs.Played.{Played, PlayedPart}
-use Rattle.acl.specs.declared.leaders.Edition.{Edition}
-use Rattle.acl.specs.declared.user_id.UserId.{UserId}
-use Rattle.program_words.specs.SetupLines.{Line}
-use Rattle.session.specs.Setup.{Behind, SetsUp}
 use Rattle.session.proofs.Lines.{first_line}
 use Rattle.session.proofs.Playing.{keeps_on, appends_on, played_on}
 use Rattle.session.proofs.Texts.{one_event}

@@ -1,16 +1,10 @@
 -- Lines that are played one after another.
-use Rattle.std.proofs.Common.{ℕ, ◌<◌, ◌≡◌, refl, sym, ◌∙◌, ap, subst, List, [], ◌∷◌, ◌++◌, map, length, arith, Option}
-use Rattle.std.proofs.Common.{Some, None, append_assoc}
-use Rattle.std.proofs.lemmas.Grind.{flat_map-append}
-use Rattle.std.proofs.lemmas.List.{append-nil, map-append}
-use Rattle.std.specs.Io.KnownBytes.{Appends, Keeps}
-use Rattle.session_model.specs.Trace.{EventValue, Entry, Trace, with_step}
-use Rattle.session_core.specs.Stands.{StandsFor}
-use Rattle.session_core.specs.Headline.{with_steps, AllSteps, Keeps as KeepsPromise}
+use Rattle.session.proofs.Vocabulary.{ℕ, ◌<◌, ◌≡◌, refl, sym, ◌∙◌, ap, subst, List, [], ◌∷◌, ◌++◌, map, length, arith}
+use Rattle.session.proofs.Vocabulary.{Option, Some, None, append_assoc, flat_map-append, append-nil, map-append}
+use Rattle.session.proofs.Vocabulary.{Appends, Keeps, EventValue, Entry, Trace, with_step, StandsFor, with_steps}
+use Rattle.session.proofs.Vocabulary.{AllSteps, KeepsPromise, Session, event_of, filled, Plays, IsBad, step_lines}
+use Rattle.session.proofs.Vocabulary.{printed, Runs, Played}
 use Rattle.session.proofs.Serving.{with_steps-append, serves_before, serves_on}
-use Rattle.session_core.specs.declared.session.Session.{Session}
-use Rattle.session.specs.Script.{event_of}
-use Rattle.session.specs.Played.{filled, Plays, IsBad, step_lines, printed, Runs, Played}
 
 -- ---- known bytes
 

@@ -1,9 +1,7 @@
 -- A text that was printed is read as the same bytes.
-use Rattle.std.proofs.Common.{◌≡◌, ℕ, ◌≤◌, length, List, ap, ◌∙◌, arith}
-use Rattle.std.specs.Prelude.{Bool, true, cond, nat_le, Some, None}
-use Rattle.std.proofs.lemmas.Bool.Decides.{nat_tests}
+use Rattle.session.proofs.Vocabulary.{◌≡◌, ℕ, ◌≤◌, length, List, ap, ◌∙◌, arith, Bool, true, cond, nat_le, Some, None}
+use Rattle.session.proofs.Vocabulary.{nat_tests, if_short}
 use Rattle.line_fields.proofs.ReadBack.{read_back}
-use Rattle.session.specs.Fields.{if_short}
 use Rattle.session.specs.ReadBack.{ReadsTexts}
 
 is_short : (bytes : List ℕ) (is : Bool) → is ≡ true → cond is (Some bytes) None ≡ Some bytes

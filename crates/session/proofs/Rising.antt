@@ -1,22 +1,13 @@
 -- Clients by rising serials.
-use Rattle.std.proofs.Common.{ℕ, ◌+◌, ◌<◌, ◌≤◌, ◌^◌, ◌≡◌, refl, sym, ◌∙◌, ap, subst, Bool, true, false, List, [], ◌∷◌}
-use Rattle.std.proofs.Common.{◌++◌, arith, Option, Some, None, Ok}
-use Rattle.std.specs.Prelude.{◌==◌, nat_lt, nat_le, if◌then◌else◌, MatchOption}
-use Rattle.std.specs.List.{flat_map, AllByRecursion}
-use Rattle.std.proofs.lemmas.Bool.Decides.{nat_tests}
-use Rattle.std.proofs.lemmas.Grind.{flat_map-append}
-use Rattle.std.proofs.lemmas.List.{append-nil}
+use Rattle.session.proofs.Vocabulary.{ℕ, ◌+◌, ◌<◌, ◌≤◌, ◌^◌, ◌≡◌, refl, sym, ◌∙◌, ap, subst, Bool, true, false, List}
+use Rattle.session.proofs.Vocabulary.{[], ◌∷◌, ◌++◌, arith, Option, Some, None, Ok, ◌==◌, nat_lt, nat_le, if◌then◌else◌}
+use Rattle.session.proofs.Vocabulary.{MatchOption, flat_map, AllByRecursion, nat_tests, flat_map-append, append-nil}
+use Rattle.session.proofs.Vocabulary.{Trace, tables_of, Rises, client_serials, row_serial, view_lines, IsViewOf}
+use Rattle.session.proofs.Vocabulary.{client_lines, views}
 use Rattle.terminal_model.specs.Shows.{View}
-use Rattle.session_model.specs.Trace.{Trace}
 use Rattle.session_model.specs.Tables.{Client, Tables, row_of, client_at}
 use Rattle.session_model.specs.Granted.{granted_view}
-use Rattle.session_model.specs.Run.{tables_of}
-use Rattle.session_model.specs.Sound.{Rises, client_serials}
-use Rattle.session_laws.proofs.Lists.{row_serial}
-use Rattle.session.specs.Printed.{view_lines}
 use Rattle.session_core.specs.Least.{least_from}
-use Rattle.session_core.specs.Headline.{IsViewOf}
-use Rattle.session.specs.Played.{client_lines, views}
 use Rattle.session.proofs.Serials.{sound, in_range}
 
 abbrev serial_of : Client → ℕ

@@ -1,18 +1,14 @@
 -- The line of an event is read as this event.
-use Rattle.std.proofs.Common.{◌≡◌, ℕ, ◌<◌, ◌≤◌, ◌^◌, List, [], ◌∷◌, ◌++◌, length, ap, refl, ◌∙◌, arith, subst}
-use Rattle.std.specs.Prelude.{Bool, true, false, ◌&&◌, cond, nat_le, min, Option, Some, None, option_map, codes}
-use Rattle.std.specs.List.{list_all}
+use Rattle.session.proofs.Vocabulary.{◌≡◌, ℕ, ◌<◌, ◌≤◌, ◌^◌, List, [], ◌∷◌, ◌++◌, length, ap, refl, ◌∙◌, arith, subst}
+use Rattle.session.proofs.Vocabulary.{Bool, true, false, ◌&&◌, cond, nat_le, min, Option, Some, None, option_map, codes}
+use Rattle.session.proofs.Vocabulary.{list_all, decimal, is_utf8, bytes_eq, nat_tests, length-decimal-le, UserId}
+use Rattle.session.proofs.Vocabulary.{is_name_byte, is_name, name_of, number_of, window_of, value_of, if_utf8, title_of}
+use Rattle.session.proofs.Vocabulary.{event_of, escaped}
 use Rattle.std.specs.Char.{is_ascii_digit}
-use Rattle.std.specs.Fmt.{decimal}
-use Rattle.std.specs.Str.{is_utf8, bytes_eq}
 use Rattle.std.proofs.lemmas.Bool.{and_parts}
-use Rattle.std.proofs.lemmas.Bool.Decides.{nat_tests}
-use Rattle.std.proofs.lemmas.Fmt.{length-decimal-le}
-use Rattle.acl.specs.declared.user_id.UserId.{UserId}
-use Rattle.acl.specs.Names.{is_name_byte, is_name, name_of}
 use Rattle.line_fields.specs.Cutting.{is_byte}
-use Rattle.line_fields.specs.Events.{Field, User, Number, Serial, Window, Bytes, Text, Title, Value}
-use Rattle.line_fields.specs.Events.{row_of, word_of, Parts}
+use Rattle.line_fields.specs.Events.{Field, User, Number, Serial, Window, Bytes, Text, Title, Value, row_of, word_of}
+use Rattle.line_fields.specs.Events.{Parts}
 use Rattle.line_fields.specs.Numbers.{number_below}
 use Rattle.line_fields.specs.Parts.{blank}
 use Rattle.line_fields.specs.Rows.{Values, fields_in, made_in, Each, AllBut}
@@ -23,11 +19,8 @@ use Rattle.line_fields.proofs.Digits as numbers
 use Rattle.line_fields.proofs.EventParts.{kind_again, word_part, parts_of, made_again}
 use Rattle.line_fields.proofs.Rows.{IsAgain, HasField, first_then, after_is, row_again}
 use Rattle.line_fields.proofs.Words.{IsFree, passing, first_field}
-use Rattle.session.specs.Fields.{number_of, window_of, value_of, if_utf8, title_of}
-use Rattle.session.specs.Script.{event_of}
-use Rattle.session.specs.Printed.{escaped}
-use Rattle.session.specs.ReadBack.{IsText, IsNamed, IsNumber, IsWindow, window_field, printed, line_of}
-use Rattle.session.specs.ReadBack.{event_line, CanSay, CanSayAll, IsSayable, ReadsEvents}
+use Rattle.session.specs.ReadBack.{IsText, IsNamed, IsNumber, IsWindow, window_field, printed, line_of, event_line}
+use Rattle.session.specs.ReadBack.{CanSay, CanSayAll, IsSayable, ReadsEvents}
 use Rattle.session.proofs.ReadBack.{reads_texts}
 
 -- a word has no blank

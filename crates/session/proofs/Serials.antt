@@ -1,21 +1,15 @@
 -- Serials of clients stay below 2^32.
-use Rattle.std.proofs.Common.{ℕ, ◌+◌, ◌≤◌, ◌^◌, ◌≡◌, true, List, [], ◌∷◌, Option, Some, None, refl, sym, subst, arith}
-use Rattle.std.specs.Prelude.{nat_lt, length}
-use Rattle.std.proofs.lemmas.Bool.Decides.{nat_tests}
-use Rattle.acl.specs.declared.user_id.UserId.{UserId}
+use Rattle.session.proofs.Vocabulary.{ℕ, ◌+◌, ◌≤◌, ◌^◌, ◌≡◌, true, List, [], ◌∷◌, Option, Some, None, refl, sym, subst}
+use Rattle.session.proofs.Vocabulary.{arith, nat_lt, length, nat_tests, UserId, Effect, EventValue, Attach, Open, Draw}
+use Rattle.session.proofs.Vocabulary.{Entry, Trace, drawn, drawn_on, tables_from, tables_of, AreSound, and_second}
 use Rattle.session_model.specs.declared.refusal.Check.TheVariants.{Must as must}
-use Rattle.session_model.specs.declared.event.Effect.{Effect}
 use Rattle.session_model.specs.declared.refusal.Refusal.TheVariants.{NotMultiuser, UnknownUser, TooManyClients, BadSize}
-use Rattle.session_model.specs.Trace.{EventValue, Attach, Open, Draw, Entry, Trace}
 use Rattle.session_model.specs.Tables.{Tables, Window, Client, client_at, is_known, fresh}
 use Rattle.session_model.specs.Checks.{first_fault, verdicts}
 use Rattle.session_model.specs.Events.{outcome}
 use Rattle.session_model.specs.Comings.{attach_checks, attaches, new_client, open_checks, opens, new_window}
 use Rattle.session_model.specs.Comings.{is_client_size, is_let_in}
 use Rattle.session_model.specs.Outcomes.{reply_of}
-use Rattle.session_model.specs.Run.{drawn, drawn_on, tables_from, tables_of}
-use Rattle.session_model.specs.Sound.{AreSound}
-use Rattle.session_laws.proofs.Lists.{and_second}
 use Rattle.session_laws.proofs.Settling.{moving}
 use Rattle.session_laws.proofs.Sounding.{check_passed, fresh_sound, run_sound}
 use Rattle.session_laws.proofs.Outcomes as outcomes

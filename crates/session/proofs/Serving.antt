@@ -1,7 +1,6 @@
 -- Steps one after another.
-use Rattle.std.proofs.Common.{◌≡◌, List, [], ◌∷◌, ◌++◌, refl, ap, subst, append_assoc}
-use Rattle.session_model.specs.Trace.{EventValue, Entry, Trace, with_step}
-use Rattle.session_core.specs.Headline.{with_steps, Serves, untaken_keys}
+use Rattle.session.proofs.Vocabulary.{◌≡◌, List, [], ◌∷◌, ◌++◌, refl, ap, subst, append_assoc, EventValue, Entry, Trace}
+use Rattle.session.proofs.Vocabulary.{with_step, with_steps, Serves, untaken_keys}
 
 pub with_steps-append : (h : Trace) (xs ys : List Entry) → with_steps h (xs ++ ys) ≡ with_steps (with_steps h xs) ys
 with_steps-append h [] ys = refl

@@ -1,14 +1,8 @@
 -- What the steps of one event print.
-use Rattle.std.proofs.Common.{ℕ, ◌≡◌, refl, sym, ◌∙◌, ap, Bool, true, false, List, [], ◌∷◌, ◌++◌, length, drop, Ok, Err}
-use Rattle.std.proofs.Common.{append_assoc}
-use Rattle.std.specs.Prelude.{nat_lt, if◌then◌else◌}
-use Rattle.std.specs.List.{flat_map}
-use Rattle.std.proofs.lemmas.Grind.{flat_map-append}
-use Rattle.std.proofs.lemmas.List.{append-nil}
-use Rattle.session_model.specs.Trace.{EventValue, Keys, Reply, Entry}
-use Rattle.session_core.specs.Headline.{Serves, untaken_keys, last_reply, replies_of, effects_of}
-use Rattle.session.specs.Printed.{effect_line, reply_line}
-use Rattle.session.specs.Played.{printed}
+use Rattle.session.proofs.Vocabulary.{ℕ, ◌≡◌, refl, sym, ◌∙◌, ap, Bool, true, false, List, [], ◌∷◌, ◌++◌, length, drop}
+use Rattle.session.proofs.Vocabulary.{Ok, Err, append_assoc, nat_lt, if◌then◌else◌, flat_map, flat_map-append}
+use Rattle.session.proofs.Vocabulary.{append-nil, EventValue, Keys, Reply, Entry, Serves, untaken_keys, last_reply}
+use Rattle.session.proofs.Vocabulary.{replies_of, effects_of, effect_line, reply_line, printed}
 
 -- nothing is left of an event, or an event with the same lines for replies
 data IsLeft (event : EventValue) : List EventValue → Type 0 where

@@ -1,23 +1,18 @@
 -- Clients that the code finds alike are granted to see the same.
-use Rattle.std.proofs.Common.{◌≡◌, ◌↔◌, ℕ, ◌+◌, ◌<◌, zero, suc, Bool, true, false, List, [], ◌∷◌, Option, Some, None}
-use Rattle.std.proofs.Common.{refl, ap, sym, ◌∙◌, subst, map, take, length, get_or, arith}
+use Rattle.session_view.proofs.Vocabulary.{◌≡◌, ℕ, ◌+◌, List, [], ◌∷◌, Some, None, refl, ap, sym, ◌∙◌, subst, map, take}
+use Rattle.session_view.proofs.Vocabulary.{length, UserId, Read, Shown, box_of, status_of, Tables, window_at, may_in}
+use Rattle.session_view.proofs.Vocabulary.{part_shown, layout_of, message_text, status_text, SeesAlso, AreKnownAlike}
+use Rattle.std.proofs.Common.{◌↔◌, ◌<◌, zero, suc, Bool, true, false, Option, get_or, arith}
 use Prim.Native.Char.{code}
 use mathlib.Core.Bool.{beq}
-use Rattle.acl.specs.declared.user_id.UserId.{UserId}
-use Rattle.acl.specs.declared.bits.Bit.TheVariants.{Read}
 use Rattle.acl.specs.declared.act.Object.TheVariants as object
-use Rattle.regions.specs.declared.layout.Shown.{Shown}
 use Rattle.regions.specs.Layouts.{Arrangement}
 use Rattle.regions.specs.Shapes.{boxes, separators}
-use Rattle.regions.specs.Pages.{box_of, status_of}
 use Rattle.view.specs.Granted as view
 use Rattle.session_model.specs.declared.event.StatusMessage.{StatusMessage}
 use Rattle.session_model.specs.declared.event.StatusMessage.TheVariants as message
 use Rattle.session_model.specs.Tables as model
-use Rattle.session_model.specs.Tables.{Tables, window_at}
-use Rattle.session_model.specs.Rights.{may_in}
-use Rattle.session_model.specs.Granted.{part_shown, layout_of, message_text, status_text}
-use Rattle.session_view.specs.Sameness.{SeesAlso, is_for_all, AreKnownAlike}
+use Rattle.session_view.specs.Sameness.{is_for_all}
 use Rattle.session_view.proofs.Panes.{readable, hidden}
 
 -- ---- views

@@ -1,32 +1,20 @@
 -- A frame that is delivered draws the client's granted view, and the state stands for it being drawn.
-use Rattle.std.proofs.Common.{◌≡◌, ℕ, List, [], ◌∷◌, ◌++◌, Option, Some, None, refl, ap, sym, ◌∙◌, subst, append-nil}
-use Rattle.std.specs.Prelude.{◌==◌}
-use Rattle.terminal_model.specs.Shows.{View, ShowsFromAny, NeedsDraw, NeedsNoDraw}
-use Rattle.session_model.specs.declared.event.Effect.TheVariants.{Deliver}
+use Rattle.session_view.proofs.Vocabulary.{◌≡◌, ℕ, List, [], ◌∷◌, Some, None, refl, ap, sym, ◌∙◌, subst, ◌==◌, View}
+use Rattle.session_view.proofs.Vocabulary.{NeedsNoDraw, Deliver, granted_view, Tables, client_at, row_of, with_row}
+use Rattle.session_view.proofs.Vocabulary.{AreFit, if_true, serial_is, Client, ClientStands, LeadsFrom, State, Stands}
+use Rattle.session_view.proofs.Vocabulary.{Knowledge, knowledge_of, Made, BothOrNone, row_there, both_back, serials}
+use Rattle.session_view.proofs.Vocabulary.{IsGranted, IsViewFor, HasDrawnSo, IsSomething, LeadsOn}
+use Rattle.std.proofs.Common.{◌++◌, Option, append-nil}
+use Rattle.terminal_model.specs.Shows.{ShowsFromAny, NeedsDraw}
 use Rattle.session_model.specs.Framed.{IsFrame}
-use Rattle.session_model.specs.Granted.{granted_view}
 use Rattle.session_model.specs.Run.{deliveries, drawn_on}
 use Rattle.session_model.specs.Tables as model
-use Rattle.session_model.specs.Tables.{Tables, client_at, row_of, with_row}
-use Rattle.session_model.specs.Sound.{AreFit}
-use Rattle.windows_model.proofs.Serials.{if_true, equal_number, serial_is, with_back}
-use Rattle.session_state.specs.declared.client.Client.{Client}
-use Rattle.session_state.specs.Clients.{AreClients}
+use Rattle.windows_model.proofs.Serials.{equal_number, with_back}
+use Rattle.session_state.specs.Clients.{AreClients, Finds}
 use Rattle.session_state.specs.Draws.{ShowsAlready, Draw}
-use Rattle.session_state.specs.declared.state.State.{State}
 use Rattle.session_state.specs.declared.state.StepOutput.{StepOutput}
-use Rattle.session_state.specs.Stands.{Stands}
-use Rattle.redraw.specs.Shadow.{Knowledge, knowledge_of}
-use Rattle.redraw.specs.Frames.{Made}
-use Rattle.windows_model.specs.Matched.{BothOrNone}
-use Rattle.windows_model.proofs.Matching.{row_there, both_back}
-use Rattle.session_state.specs.Clients.{ClientStands, Finds}
-use Rattle.session_state.specs.Draws.{LeadsFrom}
-use Rattle.session_state.proofs.Changing.{serials}
 use Rattle.session_state.proofs.Changing as changing
-use Rattle.session_view.specs.Viewed.{IsGranted, IsViewFor}
-use Rattle.session_view.specs.Drawn.{HasDrawn, HasDrawnSo, IsNothing, IsSomething, LeadsOn, Delivers, IsDrawnBy}
-use Rattle.session_view.specs.Drawn.{DrawsBy, DrawsFor}
+use Rattle.session_view.specs.Drawn.{HasDrawn, IsNothing, Delivers, IsDrawnBy, DrawsBy, DrawsFor}
 
 abbrev serial_of : model.Client → ℕ
 serial_of m = m.serial

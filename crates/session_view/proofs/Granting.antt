@@ -1,36 +1,21 @@
 -- The view that is composed for a client is its granted view.
-use Rattle.std.proofs.Common.{◌≡◌, ℕ, ◌+◌, ◌-◌, ◌<◌, ◌≤◌, Bool, true, List, Option, Some, None}
-use Rattle.std.proofs.Common.{arith, refl, ap, sym, ◌∙◌, subst}
-use Rattle.std.proofs.Common.{map, length, Result, Ok, Err, IfOk}
-use Rattle.std.specs.Prelude.{◌&&◌, nat_le}
+use Rattle.session_view.proofs.Vocabulary.{◌≡◌, ℕ, ◌+◌, List, Some, None, refl, ap, sym, ◌∙◌, subst, map, length, ◌&&◌}
+use Rattle.session_view.proofs.Vocabulary.{nat_le, length-map, IsGridSize, IsRects, status_of, View, UserId, HasSize}
+use Rattle.session_view.proofs.Vocabulary.{Tables, part_shown, status_text, layout_of, Client, ClientStands, BothOrNone}
+use Rattle.session_view.proofs.Vocabulary.{State, Stands, AreFit, SaysStatus, IsGranted, IsViewFor, ViewOf}
+use Rattle.std.proofs.Common.{◌-◌, ◌<◌, ◌≤◌, Bool, true, Option, arith, Result, Ok, Err, IfOk}
 use Rattle.std.proofs.lemmas.Bool.{leb-true}
-use Rattle.std.proofs.lemmas.List.{length-map}
-use Rattle.cells.specs.Page.{IsGridSize}
 use Rattle.regions.specs.declared.rect.Rect.{Rect}
 use Rattle.regions.specs.declared.rect.Rects.{Rects}
 use Rattle.regions.specs.Layouts.{Arrangement}
-use Rattle.regions.specs.Pages.{IsRects, status_of}
 use Rattle.regions.proofs.Room.{both_true}
 use Rattle.regions.specs.Shapes.{Shape}
-use Rattle.terminal_model.specs.Shows.{View}
-use Rattle.acl.specs.declared.user_id.UserId.{UserId}
 use Rattle.view.specs.Composing.{HasPageSize}
-use Rattle.view.specs.View.{HasSize}
 use Rattle.view.specs.Drawable.{IsDrawable}
 use Rattle.view.specs.Granted as view
 use Rattle.session_model.specs.Tables as model
-use Rattle.session_model.specs.Tables.{Tables}
 use Rattle.session_model.specs.Comings.{is_client_size}
-use Rattle.session_model.specs.Granted.{part_shown, status_text, layout_of}
-use Rattle.session_state.specs.declared.client.Client.{Client}
-use Rattle.session_state.specs.Clients.{ClientStands}
-use Rattle.windows_model.specs.Matched.{BothOrNone}
 use Rattle.std.specs.declared.alloc.AllocError.{AllocError}
-use Rattle.session_state.specs.declared.state.State.{State}
-use Rattle.session_state.specs.Stands.{Stands}
-use Rattle.session_model.specs.Sound.{AreFit}
-use Rattle.session_view.specs.Status.{SaysStatus}
-use Rattle.session_view.specs.Viewed.{IsGranted, IsViewFor, ViewOf}
 use Rattle.session_view.proofs.Panes.{parts_well}
 
 module _ (t : Tables) (s : State) (m : model.Client) (c : Client) (st : Stands t s)

@@ -1,22 +1,9 @@
 -- A client that sees the same as the client of a frame is drawn by that frame, or by its own.
-use Rattle.std.proofs.Common.{◌≡◌, ℕ, Some, ap, sym, ◌∙◌, subst}
-use Rattle.redraw.specs.Shadow.{Knowledge, knowledge_of}
-use Rattle.redraw.specs.Frames.{Made}
-use Rattle.view.specs.View.{HasSize}
+use Rattle.session_view.proofs.Vocabulary.{◌≡◌, ℕ, Some, ap, sym, ◌∙◌, subst, Knowledge, knowledge_of, Made, HasSize}
+use Rattle.session_view.proofs.Vocabulary.{Tables, client_at, granted_view, row_there, ClientStands, Client, LeadsFrom}
+use Rattle.session_view.proofs.Vocabulary.{FitsIn, serials, State, Stands, Lead, IsGranted, LeadsOn, SeesAlso}
 use Rattle.session_model.specs.Tables as model
-use Rattle.session_model.specs.Tables.{Tables, client_at}
-use Rattle.session_model.specs.Granted.{granted_view}
-use Rattle.windows_model.proofs.Matching.{row_there}
-use Rattle.session_state.specs.Clients.{ClientStands}
-use Rattle.session_state.specs.declared.client.Client.{Client}
-use Rattle.session_state.specs.Draws.{LeadsFrom, FitsIn}
-use Rattle.session_state.proofs.Changing.{model_serial, serial_of, serials}
-use Rattle.session_state.specs.declared.state.State.{State}
-use Rattle.session_state.specs.Stands.{Stands}
-use Rattle.session_view.specs.declared.following.Lead.{Lead}
-use Rattle.session_view.specs.Viewed.{IsGranted}
-use Rattle.session_view.specs.Drawn.{LeadsOn}
-use Rattle.session_view.specs.Sameness.{SeesAlso}
+use Rattle.session_state.proofs.Changing.{model_serial, serial_of}
 use Rattle.session_view.specs.Following.{Leads, IsLed}
 use Rattle.session_view.proofs.Delivering.{shadow_is}
 

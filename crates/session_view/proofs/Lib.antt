@@ -1,3 +1,4 @@
+pub mod Vocabulary
 pub mod Lines
 pub mod Panes
 pub mod Granting

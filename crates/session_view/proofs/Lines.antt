@@ -1,13 +1,10 @@
 -- The lines of a window's page, scrolled back, are the definitions' lines.
-use Rattle.std.proofs.Common.{ℕ, zero, suc, ◌-◌, ◌<◌, List, [], ◌∷◌, ◌++◌, length}
-use Rattle.std.proofs.Common.{get_or, take, reverse, map, sym, subst, arith}
+use Rattle.session_view.proofs.Vocabulary.{ℕ, List, [], ◌∷◌, length, take, map, sym, subst, get_or-reverse}
+use Rattle.session_view.proofs.Vocabulary.{length-reverse, line_at, Screen, moved_back}
+use Rattle.std.proofs.Common.{zero, suc, ◌-◌, ◌<◌, ◌++◌, get_or, reverse, arith}
 use Rattle.std.specs.List.{All}
-use Rattle.std.proofs.lemmas.List.{get_or-reverse, length-reverse}
 use Rattle.std.proofs.lemmas.List.Elements.{All-from_get_or, All-get_or, All-append, All-take}
 use Rattle.cells.specs.declared.cell.Cell.{Cell}
-use Rattle.cells.specs.Page.{line_at}
-use Rattle.terminal_model.specs.Screen.{Screen}
-use Rattle.terminal_model.specs.Scrollback.{moved_back}
 
 all_reverse : {X : Type 0} (P : X → Type 0) (xs : List X) (d : X) → All P xs → All P (reverse xs)
 all_reverse P xs d all =

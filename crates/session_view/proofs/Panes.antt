@@ -1,30 +1,21 @@
 -- What the code's regions show a user is what the definitions' regions show.
-use Rattle.std.proofs.Common.{◌≡◌, ℕ, zero, suc, ◌+◌, ◌<◌, ◌≤◌, true, false, List, [], ◌∷◌}
-use Rattle.std.proofs.Common.{◌++◌, Option, Some, None, refl, ap, sym, ◌∙◌, subst, map, take, length}
-use Rattle.std.proofs.Common.{get_or, arith, add-one, is_some}
-use Rattle.std.proofs.lemmas.List.{take_more, take_all, map-append}
-use Rattle.acl.specs.declared.user_id.UserId.{UserId}
-use Rattle.acl.specs.declared.bits.Bit.TheVariants.{Read}
+use Rattle.session_view.proofs.Vocabulary.{◌≡◌, ℕ, ◌+◌, List, [], ◌∷◌, Some, None, refl, ap, sym, ◌∙◌, subst, map, take}
+use Rattle.session_view.proofs.Vocabulary.{length, take_more, take_all, map-append, UserId, Read, Shown, Tables}
+use Rattle.session_view.proofs.Vocabulary.{window_at, may_in, window_read, part_of_window, part_shown, Matched}
+use Rattle.session_view.proofs.Vocabulary.{row_there, serial_is, if_true, WindowStands, AreFit, Part, ShowsPart}
+use Rattle.std.proofs.Common.{zero, suc, ◌<◌, ◌≤◌, true, false, ◌++◌, Option, get_or, arith, add-one, is_some}
 use Rattle.acl.specs.declared.act.Object.TheVariants as object
 use Rattle.acl.specs.History.{there}
 use Rattle.cells.specs.Line.{IsPaired}
-use Rattle.regions.specs.declared.layout.Shown.{Shown}
 use Rattle.terminal_model.specs.Drawable.{IsDrawableLine}
 use Rattle.view.specs.declared.view.Pane.{Pane}
 use Rattle.view.specs.Granted as view
 use Rattle.session_model.specs.Tables as model
-use Rattle.session_model.specs.Tables.{Tables, window_at}
-use Rattle.session_model.specs.Rights.{may_in}
 use Rattle.session_model.specs.Terminals.{terminal_of}
-use Rattle.session_model.specs.Granted.{window_read, part_of_window, part_shown}
-use Rattle.windows_model.specs.Matched.{Matched}
-use Rattle.windows_model.proofs.Matching.{push_match, row_there, length_match}
-use Rattle.windows_model.proofs.Serials.{serial_is, by_if, if_true, if_false}
+use Rattle.windows_model.proofs.Matching.{push_match, length_match}
+use Rattle.windows_model.proofs.Serials.{by_if, if_false}
 use Rattle.windows.specs.declared.window.Window.{Window}
-use Rattle.windows.specs.Standing.{WindowStands, StandFor}
-use Rattle.session_model.specs.Sound.{AreFit}
-use Rattle.session_view.specs.declared.parts.Part.{Part}
-use Rattle.session_view.specs.Parts.{ShowsPart}
+use Rattle.windows.specs.Standing.{StandFor}
 use Rattle.session_view.proofs.Lines.{lines_moved, at_each}
 
 -- what a region shows of this window

@@ -1,16 +1,11 @@
 -- Which functions print nothing and leave the coding as it is.
-use Rattle.std.proofs.Common.{◌≡◌, ℕ, Bool, true, false, List, [], ◌∷◌, Option, refl, arith}
-use Rattle.std.specs.Prelude.{◌==◌}
-use Rattle.std.specs.List.{list_all}
-use Rattle.charsets.specs.declared.decoder.Coding.TheVariants.{Utf8}
-use Rattle.control_parser.specs.declared.parser.Func.{Func}
+use Rattle.terminal_model.proofs.Vocabulary.{◌≡◌, ℕ, Bool, true, false, List, [], ◌∷◌, Option, refl, arith, ◌==◌}
+use Rattle.terminal_model.proofs.Vocabulary.{list_all, Utf8, Func, Action, Screen, actions_of, plain_sequence}
+use Rattle.terminal_model.proofs.Vocabulary.{private_sequence, each, rendered, private_mode_set, acted_from, acted}
+use Rattle.terminal_model.proofs.Vocabulary.{all_acted, effect}
 use Rattle.control_parser.specs.declared.parser.Func.TheVariants as funcs
-use Rattle.terminal_model.specs.declared.action.Action.{Action}
 use Rattle.terminal_model.specs.declared.action.Action.TheVariants as acts
-use Rattle.terminal_model.specs.Screen.{Screen}
-use Rattle.terminal_model.specs.Functions.{actions_of, intermediate_action, sequence_actions, plain_sequence}
-use Rattle.terminal_model.specs.Functions.{private_sequence, each, alone, rendered, mode_set, private_mode_set}
-use Rattle.terminal_model.specs.Table.{acted_from, acted, all_acted, effect}
+use Rattle.terminal_model.specs.Functions.{intermediate_action, sequence_actions, alone, mode_set}
 
 -- an action that neither prints nor sets the coding
 abbrev pub is_ordinary : Action → Bool

@@ -1,26 +1,14 @@
 -- What is drawn for a character of the sets is a glyph.
-use Rattle.std.proofs.lemmas.Grind.{common_steps}
-use Rattle.std.proofs.Common.{◌≡◌, ℕ, ◌-◌, ◌<◌, ◌≤◌, Bool, true, false, ◌&&◌, cond, List}
-use Rattle.std.proofs.Common.{length, slice_index, Option, refl, arith}
-use Rattle.std.specs.Prelude.{IfSome, nat_lt}
-use Rattle.std.specs.List.{list_all}
-use Rattle.std.proofs.lemmas.Bool.Decides.{nat_tests}
+use Rattle.terminal_model.proofs.Vocabulary.{common_steps, ◌≡◌, ℕ, ◌-◌, ◌<◌, ◌≤◌, Bool, true, false, ◌&&◌, cond, List}
+use Rattle.terminal_model.proofs.Vocabulary.{length, slice_index, Option, refl, arith, IfSome, nat_lt, list_all}
+use Rattle.terminal_model.proofs.Vocabulary.{nat_tests, char_width, unicode_width, Shifts, Unit, Code, High, supplement}
+use Rattle.terminal_model.proofs.Vocabulary.{character_at, mapped, Print, IsGiven, columns_of, drawn, IsGlyph}
 use Rattle.std.proofs.Math.Utf8.{scalar}
-use Rattle.unicode_width.specs.Width.{char_width}
-use Rattle.unicode_width.proofs.Computing.{unicode_width}
 use Rattle.charsets.specs.declared.shifts.CharacterSet.{CharacterSet}
 use Rattle.charsets.specs.declared.shifts.CharacterSet.TheVariants.{Ascii, UnitedKingdom, SpecialGraphics, Supplemental}
-use Rattle.charsets.specs.declared.shifts.Shifts.{Shifts}
-use Rattle.charsets.specs.declared.decoder.Unit.{Unit}
-use Rattle.charsets.specs.declared.decoder.Unit.TheVariants.{Code, High}
-use Rattle.charsets.specs.Sets.{graphics, supplement, character_at}
-use Rattle.charsets.specs.Shifts.{mapped}
+use Rattle.charsets.specs.Sets.{graphics}
 use Rattle.cells.specs.Glyph.{drawn_as, glyph_columns}
-use Rattle.control_parser.specs.declared.parser.Func.TheVariants.{Print}
 use Rattle.control_parser.specs.Grammar.{is_graphic}
-use Rattle.control_parser.specs.Spelling.{IsGiven}
-use Rattle.terminal_model.specs.Printing.{columns_of, drawn}
-use Rattle.terminal_model.specs.Drawable.{IsGlyph}
 
 -- THE SETS give graphic characters
 

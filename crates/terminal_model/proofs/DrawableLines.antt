@@ -1,24 +1,15 @@
 -- New cells in drawable lines, marks, kept lines and lines of another width are drawable.
-use Rattle.std.proofs.Common.{◌≡◌, ℕ, ◌-◌, ◌<◌, Bool, false, ◌&&◌, List, []}
-use Rattle.std.proofs.Common.{◌∷◌, length, map, set, replicate, refl, ap, ◌∙◌, subst, arith}
-use Rattle.cells.specs.declared.cell.Cell.{Cell}
-use Rattle.cells.specs.declared.rendition.Rendition.{Rendition}
-use Rattle.cells.specs.Line.{blank, cell_at, is_right, kept, marked, narrow_cell}
-use Rattle.cells.specs.Line.{left_cell, right_cell, spliced}
-use Rattle.cells.specs.Page.{line_at, Origin, New, From, are_own_halves, settled_cell, origin_before}
-use Rattle.cells.specs.Page.{origin_after, page_from, on_line, edited, page_marked}
-use Rattle.cells.specs.Resizing.{line_resized, page_resized}
+use Rattle.terminal_model.proofs.Vocabulary.{◌≡◌, ℕ, ◌-◌, ◌<◌, Bool, false, ◌&&◌, List, [], ◌∷◌, length, map, set}
+use Rattle.terminal_model.proofs.Vocabulary.{replicate, refl, ap, ◌∙◌, subst, arith, Cell, Rendition, blank, cell_at}
+use Rattle.terminal_model.proofs.Vocabulary.{is_right, kept, marked, narrow_cell, left_cell, right_cell, spliced}
+use Rattle.terminal_model.proofs.Vocabulary.{line_at, Origin, New, From, are_own_halves, settled_cell, origin_before}
+use Rattle.terminal_model.proofs.Vocabulary.{origin_after, page_from, on_line, edited, page_marked, line_resized}
+use Rattle.terminal_model.proofs.Vocabulary.{page_resized, Page, with_newest, IsGlyph, IsDrawableCell, IsDrawableLine}
+use Rattle.terminal_model.proofs.Vocabulary.{AreDrawableLines, place, line_from-resized, nat_tests, common_steps}
 use Rattle.cells.proofs.Settling.{right_kept}
-use Rattle.terminal_model.specs.Screen.{Page, with_newest}
-use Rattle.terminal_model.specs.Drawable.{IsGlyph, IsDrawableCell, IsDrawableLine, AreDrawableLines}
-use Rattle.terminal_model.specs.Places.{place}
-use Rattle.cells.proofs.Grids.{line_from-resized}
-use Rattle.std.proofs.lemmas.Bool.Decides.{nat_tests}
-use Rattle.std.proofs.lemmas.Grind.{common_steps}
 use Rattle.terminal_model.proofs.Items.{item-replicated, item-built, item-mapped, item-set, item-newest}
-use Rattle.terminal_model.proofs.DrawableOrigins.{drawable_blank, cell_drawable, Follows}
-use Rattle.terminal_model.proofs.DrawableOrigins.{AreDrawable, line_from-drawable}
-use Rattle.terminal_model.proofs.DrawableOrigins.{drawable_nil, from_drawable}
+use Rattle.terminal_model.proofs.DrawableOrigins.{drawable_blank, cell_drawable, Follows, AreDrawable}
+use Rattle.terminal_model.proofs.DrawableOrigins.{line_from-drawable, drawable_nil, from_drawable}
 
 -- new cells in a line
 pub spliced_drawable : (at : ℕ) (fresh : List Cell) (rest width line : ℕ) → IsDrawableLine fresh

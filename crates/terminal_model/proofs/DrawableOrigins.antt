@@ -1,20 +1,13 @@
 -- Lines and pages of drawable lines are drawable.
-use Rattle.std.proofs.Common.{◌≡◌, ℕ, suc, ◌<◌, ◌≤◌, Bool, true, false, cond, List, []}
-use Rattle.std.proofs.Common.{length, arith, ⊎_elim, eq-eqb}
-use Rattle.std.proofs.lemmas.List.FromFn.{get_or-map-range_with_len}
-use Rattle.std.proofs.lemmas.Bool.{cases_lt, ne_eqb}
-use Rattle.std.proofs.lemmas.Bool.Decides.{nat_tests}
+use Rattle.terminal_model.proofs.Vocabulary.{◌≡◌, ℕ, suc, ◌<◌, ◌≤◌, Bool, true, false, cond, List, [], length, arith}
+use Rattle.terminal_model.proofs.Vocabulary.{⊎_elim, eq-eqb, get_or-map-range_with_len, cases_lt, ne_eqb, nat_tests}
+use Rattle.terminal_model.proofs.Vocabulary.{Cell, blank, cell_at, is_left, is_right, kept, unprotected, right_cell}
+use Rattle.terminal_model.proofs.Vocabulary.{Source, line_at, Origin, New, From, are_own_halves, settled_cell}
+use Rattle.terminal_model.proofs.Vocabulary.{origin_before, origin_after, page_from, on_line, edited, cell_at_past}
+use Rattle.terminal_model.proofs.Vocabulary.{length-line_from, Page, IsDrawableCell, IsDrawableLine, AreDrawableLines}
 use Rattle.terminal_model.proofs.Items.{item-built}
-use Rattle.cells.specs.declared.cell.Cell.{Cell}
 use Rattle.cells.specs.declared.cell.Shape.{Shape}
-use Rattle.cells.specs.Line.{blank, cell_at, is_left, is_right, kept, unprotected}
-use Rattle.cells.specs.Line.{right_cell, Source}
-use Rattle.cells.specs.Page.{line_at, Origin, New, From, cell_from, are_own_halves, settled_cell, origin_before}
-use Rattle.cells.specs.Page.{origin_after, line_from, page_from, on_line, edited}
-use Rattle.cells.proofs.Settling.{cell_at_past}
-use Rattle.cells.proofs.Pages.{length-line_from}
-use Rattle.terminal_model.specs.Screen.{Page}
-use Rattle.terminal_model.specs.Drawable.{IsDrawableCell, IsDrawableLine, AreDrawableLines}
+use Rattle.cells.specs.Page.{cell_from, line_from}
 use Rattle.terminal_model.proofs.DrawableGlyphs.{space}
 
 -- CELLS

@@ -1,37 +1,26 @@
 -- Every effect of a function that units can give keeps a screen drawable.
-use Rattle.std.proofs.Common.{◌≡◌, ℕ, zero, suc, ◌<◌, ◌≤◌, Bool, true, false, ◌&&◌, List, []}
-use Rattle.std.proofs.Common.{◌∷◌, length, replicate, Option, Some, None, refl, sym, subst, arith}
-use Rattle.std.specs.Prelude.{IfSome}
-use Rattle.std.specs.List.{AllByRecursion}
-use Rattle.std.proofs.lemmas.Bool.Decides.{nat_tests}
-use Rattle.cells.specs.declared.cell.Cell.{Cell}
-use Rattle.cells.specs.Line.{blank, plain, cell_at, is_right, unprotected_erased, narrow_cell}
-use Rattle.cells.specs.Line.{left_cell, right_cell}
-use Rattle.cells.specs.Page.{line_at, page_marked, on_line}
+use Rattle.terminal_model.proofs.Vocabulary.{◌≡◌, ℕ, zero, suc, ◌<◌, ◌≤◌, Bool, true, false, ◌&&◌, List, [], ◌∷◌}
+use Rattle.terminal_model.proofs.Vocabulary.{length, replicate, Option, Some, None, refl, sym, subst, arith, IfSome}
+use Rattle.terminal_model.proofs.Vocabulary.{AllByRecursion, nat_tests, Cell, blank, plain, cell_at, is_right}
+use Rattle.terminal_model.proofs.Vocabulary.{unprotected_erased, narrow_cell, left_cell, right_cell, line_at}
+use Rattle.terminal_model.proofs.Vocabulary.{page_marked, on_line, Func, IsGiven, Action, SetMargins, SetMode, Position}
+use Rattle.terminal_model.proofs.Vocabulary.{State, Page, Screen, blank_page, starting, actions_of, place, IsGlyph}
+use Rattle.terminal_model.proofs.Vocabulary.{IsDrawableLine, AreDrawableLines, IsDrawableScreen}
 use Rattle.cells.specs.Moves.{filled}
-use Rattle.control_parser.specs.declared.parser.Func.{Func}
 use Rattle.control_parser.specs.declared.parser.Func.TheVariants as funcs
-use Rattle.control_parser.specs.Spelling.{IsGiven}
-use Rattle.terminal_model.specs.declared.action.Action.{Action}
 use Rattle.terminal_model.specs.declared.action.Action.TheVariants.{Print, LineFeed, Index, NextLine, ReverseIndex}
-use Rattle.terminal_model.specs.declared.action.Action.TheVariants.{Reset, Align, SetMargins, EraseInPage, EraseInLine}
-use Rattle.terminal_model.specs.declared.action.Action.TheVariants.{EraseCells, EraseUnprotectedInPage}
-use Rattle.terminal_model.specs.declared.action.Action.TheVariants.{EraseUnprotectedInLine, InsertCells, DeleteCells}
-use Rattle.terminal_model.specs.declared.action.Action.TheVariants.{InsertLines, DeleteLines, SetMode, BlankPage}
+use Rattle.terminal_model.specs.declared.action.Action.TheVariants.{Reset, Align, EraseInPage, EraseInLine, EraseCells}
+use Rattle.terminal_model.specs.declared.action.Action.TheVariants.{EraseUnprotectedInPage, EraseUnprotectedInLine}
+use Rattle.terminal_model.specs.declared.action.Action.TheVariants.{InsertCells, DeleteCells, InsertLines, DeleteLines}
+use Rattle.terminal_model.specs.declared.action.Action.TheVariants.{BlankPage}
 use Rattle.terminal_model.specs.declared.action.Mode.TheVariants as modes
-use Rattle.terminal_model.specs.declared.state.Position.{Position}
-use Rattle.terminal_model.specs.declared.state.State.{State}
-use Rattle.terminal_model.specs.Screen.{Page, Screen, blank_page, starting}
-use Rattle.terminal_model.specs.Functions.{actions_of}
 use Rattle.terminal_model.specs.Motion
 use Rattle.terminal_model.specs.Printing
 use Rattle.terminal_model.specs.Erasing
 use Rattle.terminal_model.specs.Sizing
 use Rattle.terminal_model.specs.Table
-use Rattle.terminal_model.specs.Places.{place}
 use Rattle.terminal_model.proofs.Items.{item-replicated}
 use Rattle.terminal_model.specs.declared.action.Action.TheVariants as acts
-use Rattle.terminal_model.specs.Drawable.{IsGlyph, IsDrawableLine, AreDrawableLines, IsDrawableScreen}
 use Rattle.terminal_model.proofs.Codings.{are_ordinary, func-ordinary, between-ordinary}
 use Rattle.terminal_model.proofs.DrawableGlyphs.{IsGivenUnit, mapped_given, drawn_glyph, columns_few, letter_e}
 use Rattle.terminal_model.proofs.DrawableOrigins.{AreDrawable, IsOldOrBlank, old_or_blank, old_or_blank_if}

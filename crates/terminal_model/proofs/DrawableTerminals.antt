@@ -1,22 +1,12 @@
 -- Reading and writing keep a terminal's screen drawable.
-use Rattle.std.proofs.lemmas.Grind.{common_steps}
-use Rattle.std.proofs.Common.{arith}
-use Rattle.std.proofs.Common.{◌≡◌, ℕ, List, [], ◌∷◌, ◌++◌, sym, ap, subst}
-use Rattle.std.specs.List.{AllByRecursion}
-use Rattle.charsets.specs.declared.decoder.Unit.{Unit}
-use Rattle.charsets.specs.Units.{IsUnit}
+use Rattle.terminal_model.proofs.Vocabulary.{common_steps, arith, ◌≡◌, ℕ, List, [], ◌∷◌, ◌++◌, sym, ap, subst}
+use Rattle.terminal_model.proofs.Vocabulary.{AllByRecursion, Unit, IsUnit, Func, Rest, functions, opening, IsGiven}
+use Rattle.terminal_model.proofs.Vocabulary.{Screen, effect, Terminal, IsTerminal, ready, Read, read_units, read_byte}
+use Rattle.terminal_model.proofs.Vocabulary.{reads, Writing, Output, IsWriting, writes, writes_all, IsDrawableScreen}
 use Rattle.charsets.proofs.Scalars.{units-are}
-use Rattle.control_parser.specs.declared.parser.Func.{Func}
-use Rattle.control_parser.specs.Grammar.{Rest, functions}
-use Rattle.control_parser.specs.Kept.{opening}
-use Rattle.control_parser.specs.Spelling.{IsGiven}
 use Rattle.control_parser.proofs.Given.{given_all}
 use Rattle.control_parser.proofs.Openings.{opening-units}
-use Rattle.terminal_model.specs.Screen.{Screen}
-use Rattle.terminal_model.specs.Table.{effect}
-use Rattle.terminal_model.specs.Reading.{Terminal, IsTerminal, ready, Read, read_units, read_byte, reads}
-use Rattle.terminal_model.specs.Writing.{Writing, Output, Size, Clear, Reset, Encoding, IsWriting, writes, writes_all}
-use Rattle.terminal_model.specs.Drawable.{IsDrawableScreen}
+use Rattle.terminal_model.specs.Writing.{Size, Clear, Reset, Encoding}
 use Rattle.terminal_model.proofs.Readings.{effects, read_units-is}
 use Rattle.terminal_model.proofs.Terminals.{IsTerminal-read_byte, IsTerminal-ready, IsTerminal-writes}
 use Rattle.terminal_model.proofs.DrawableScreens.{drawable-effect, drawable-resized}

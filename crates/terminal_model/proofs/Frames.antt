@@ -1,37 +1,23 @@
 -- The effects of the functions that frames are made of.
-use Rattle.std.proofs.lemmas.Bool.Decides.{nat_tests}
-use Rattle.std.proofs.lemmas.Grind.{common_steps}
-use Rattle.std.proofs.Common.{◌≡◌, ℕ, ◌+◌, ◌-◌, ◌<◌, ◌≤◌, min, max, Bool, true, false, ◌&&◌, cond, eqb, List, [], ◌∷◌}
-use Rattle.std.proofs.Common.{◌++◌, length, replicate, Option, Some, None, refl, sym, ap, ◌∙◌, subst, arith}
-use Rattle.std.specs.Prelude.{option_to_list}
-use Rattle.std.proofs.lemmas.List.{length-replicate}
-use Rattle.std.proofs.lemmas.Bool.{ne_eqb}
-use Rattle.charsets.specs.declared.decoder.Unit.TheVariants.{Code}
-use Rattle.charsets.specs.Shifts.{is_graphic}
+use Rattle.terminal_model.proofs.Vocabulary.{nat_tests, common_steps, ◌≡◌, ℕ, ◌+◌, ◌-◌, ◌<◌, ◌≤◌, min, max, Bool, true}
+use Rattle.terminal_model.proofs.Vocabulary.{false, ◌&&◌, cond, eqb, List, [], ◌∷◌, ◌++◌, length, replicate, Option}
+use Rattle.terminal_model.proofs.Vocabulary.{Some, None, refl, sym, ap, ◌∙◌, subst, arith, option_to_list}
+use Rattle.terminal_model.proofs.Vocabulary.{length-replicate, ne_eqb, Code, is_graphic, Cell, blank, IsPaired}
+use Rattle.terminal_model.proofs.Vocabulary.{narrow_cell, left_cell, right_cell, spliced, page_from, edited}
+use Rattle.terminal_model.proofs.Vocabulary.{IsPaired-blanks, narrow_pairs, wide_pairs, Print, Esc, Csi, Action, Render}
+use Rattle.terminal_model.proofs.Vocabulary.{SetMode, Attribute, report, Position, Screen, IsSound, with_state}
+use Rattle.terminal_model.proofs.Vocabulary.{with_page, each, plain_sequence, private_sequence, rendered}
+use Rattle.terminal_model.proofs.Vocabulary.{private_mode_set, unpending, unjoined, moved_to, columns_of, drawn}
+use Rattle.terminal_model.proofs.Vocabulary.{acted_from, acted, all_acted, effect, place, IsPlain, mode_final}
+use Rattle.terminal_model.proofs.Vocabulary.{keypad_final}
 use Rattle.charsets.proofs.Shifted.{mapped-ascii, spent-none}
-use Rattle.cells.specs.declared.cell.Cell.{Cell}
-use Rattle.cells.specs.Line.{blank, IsPaired, narrow_cell, left_cell, right_cell, spliced}
-use Rattle.cells.specs.Page.{page_from, edited}
-use Rattle.cells.proofs.Splicing.{IsPaired-blanks, narrow_pairs, wide_pairs}
-use Rattle.control_parser.specs.declared.parser.Func.TheVariants.{Print, Esc, Csi}
-use Rattle.terminal_model.specs.declared.action.Action.{Action}
-use Rattle.terminal_model.specs.declared.action.Action.TheVariants.{Render, SetMode}
-use Rattle.cells.specs.declared.rendition.Attribute.{Attribute}
 use Rattle.terminal_model.specs.declared.action.Mode.{Mode}
-use Rattle.terminal_model.specs.Reports.{report}
-use Rattle.terminal_model.specs.declared.state.Position.{Position}
-use Rattle.terminal_model.specs.Screen.{Screen, IsSound, with_state, with_page}
-use Rattle.terminal_model.specs.Functions.{each, plain_sequence, private_sequence, rendered, private_mode_set}
-use Rattle.terminal_model.specs.Motion.{unpending, unjoined, moved_to}
-use Rattle.terminal_model.specs.Printing.{printed_as, placed, placed_narrow, placed_wide, wrapped}
-use Rattle.terminal_model.specs.Printing.{wide_printed, wide_or_none, lacks_room, marked_at, advanced, columns_of}
-use Rattle.terminal_model.specs.Printing.{drawn}
+use Rattle.terminal_model.specs.Printing.{printed_as, placed, placed_narrow, placed_wide, wrapped, wide_printed}
+use Rattle.terminal_model.specs.Printing.{wide_or_none, lacks_room, marked_at, advanced}
 use Rattle.terminal_model.specs.Erasing.{line_erased}
 use Rattle.cells.specs.Rendition.{rendition_with}
 use Rattle.terminal_model.specs.Settings.{homed, modes_with}
-use Rattle.terminal_model.specs.Table.{acted_from, acted, all_acted, effect}
-use Rattle.terminal_model.specs.Places.{place, IsPlain, narrow_at, wide_at, PutsOver, PutsMark, mode_final}
-use Rattle.terminal_model.specs.Places.{keypad_final}
+use Rattle.terminal_model.specs.Places.{narrow_at, wide_at, PutsOver, PutsMark}
 use Rattle.terminal_model.proofs.Places.{over-at, marked-at}
 
 -- a graphic code stands for itself

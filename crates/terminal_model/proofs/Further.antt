@@ -1,18 +1,10 @@
 -- First frames, acts one after another, and the functions of frames.
-use Rattle.std.proofs.lemmas.Bool.Decides.{nat_tests}
-use Rattle.std.proofs.lemmas.Grind.{common_steps}
-use Rattle.std.proofs.Common.{◌≡◌, ℕ, Bool, List, [], ◌∷◌, ◌++◌, Some, None, refl}
-use Rattle.std.proofs.Common.{sym, arith, append-nil}
-use Rattle.control_parser.specs.Spelling.{spelling}
-use Rattle.control_parser.specs.declared.parser.Func.TheVariants.{Esc, Csi}
-use Rattle.control_parser.specs.declared.parser.Func.{Func}
-use Rattle.terminal_model.specs.declared.action.Action.{Action}
-use Rattle.terminal_model.specs.Screen.{Page, Screen, IsSound}
-use Rattle.terminal_model.specs.Functions.{plain_sequence, private_sequence, rendered, private_mode_set}
-use Rattle.terminal_model.specs.Reading.{Act, ready}
+use Rattle.terminal_model.proofs.Vocabulary.{nat_tests, common_steps, ◌≡◌, ℕ, Bool, List, [], ◌∷◌, ◌++◌, Some, None}
+use Rattle.terminal_model.proofs.Vocabulary.{refl, sym, arith, append-nil, spelling, Esc, Csi, Func, Action, Page}
+use Rattle.terminal_model.proofs.Vocabulary.{Screen, IsSound, plain_sequence, private_sequence, rendered}
+use Rattle.terminal_model.proofs.Vocabulary.{private_mode_set, Act, ready, Draws, IsListed, IsDrawn, AreSpelled}
+use Rattle.terminal_model.proofs.Vocabulary.{frame_start, IsPlain, mode_final, keypad_final}
 use Rattle.terminal_model.specs.Shows.{blank_view}
-use Rattle.terminal_model.specs.Drawing.{Draws, IsListed, IsDrawn, AreSpelled, frame_start}
-use Rattle.terminal_model.specs.Places.{IsPlain, mode_final, keypad_final}
 use Rattle.terminal_model.proofs.Sound.{IsPage-blank, tabs-start}
 
 -- the beginning of a first frame

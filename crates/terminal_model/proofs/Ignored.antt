@@ -1,15 +1,7 @@
 -- Ignored functions change nothing.
-use Rattle.std.proofs.lemmas.Bool.Decides.{nat_tests}
-use Rattle.std.proofs.Common.{arith}
-use Rattle.std.proofs.Common.{◌≡◌, ℕ, false, [], Option, ap}
-use Rattle.std.specs.Prelude.{nat_lt}
-use Rattle.control_parser.specs.declared.parser.Func.{Func}
-use Rattle.terminal_model.specs.declared.action.Action.TheVariants.{SetMargins}
-use Rattle.terminal_model.specs.Screen.{Screen}
-use Rattle.terminal_model.specs.Functions.{actions_of}
-use Rattle.terminal_model.specs.Motion.{bottom_of}
-use Rattle.terminal_model.specs.Table.{acted_from, acted, all_acted, effect}
-use Rattle.terminal_model.specs.Reports.{all_answered, report}
+use Rattle.terminal_model.proofs.Vocabulary.{nat_tests, arith, ◌≡◌, ℕ, false, [], Option, ap, nat_lt, Func, SetMargins}
+use Rattle.terminal_model.proofs.Vocabulary.{Screen, actions_of, bottom_of, acted_from, acted, all_acted, effect}
+use Rattle.terminal_model.proofs.Vocabulary.{all_answered, report}
 
 pub effect-none : (x : Screen) (f : Func) → actions_of f ≡ [] → effect x f ≡ x
 effect-none x f h = ap (all_acted x) h

@@ -1,9 +1,7 @@
 -- What holds of an item of a list, or of what stands for one past its end.
-use Rattle.std.proofs.Common.{ℕ, ◌<◌, ◌≤◌, List, ◌∷◌, length, map, set, take, replicate, get_or, arith}
-use Rattle.std.specs.List.{range_with_len}
-use Rattle.std.proofs.lemmas.Grind.{common_steps}
-use Rattle.std.proofs.lemmas.List.FromFn.{length-map-range_with_len, get_or-map-range_with_len}
-use Rattle.std.proofs.lemmas.List.{get_or_past}
+use Rattle.terminal_model.proofs.Vocabulary.{ℕ, ◌<◌, ◌≤◌, List, ◌∷◌, length, map, set, take, replicate, get_or, arith}
+use Rattle.terminal_model.proofs.Vocabulary.{range_with_len, common_steps, length-map-range_with_len}
+use Rattle.terminal_model.proofs.Vocabulary.{get_or-map-range_with_len, get_or_past}
 
 pub item-replicated : {A : Type 0} (P : A → Type 0) (n : ℕ) (a d : A) (k : ℕ) → P a → P d
     → P (get_or (replicate n a) k d)

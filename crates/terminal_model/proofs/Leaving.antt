@@ -1,25 +1,14 @@
 -- A screen's scrollback has the last ones of all lines that left its page.
-use Rattle.std.proofs.lemmas.Grind.{common_steps}
-use Rattle.std.proofs.Common.{◌≡◌, ℕ, zero, suc, ◌≤◌, List, [], ◌∷◌}
-use Rattle.std.proofs.Common.{◌++◌, length, take, map, reverse, Option, refl, ap, ◌∙◌, arith}
-use Rattle.std.proofs.lemmas.List.{reverse-append}
-use Rattle.std.proofs.lemmas.Grind.{flat_map-append}
-use Rattle.std.specs.List.{AllByRecursion}
-use Rattle.charsets.specs.declared.shifts.Shifts.{Shifts}
-use Rattle.charsets.specs.Shifts.{mapped, spent}
-use Rattle.cells.specs.Resizing.{line_resized}
-use Rattle.control_parser.specs.declared.parser.Func.{Func}
-use Rattle.terminal_model.specs.declared.action.Action.{Action}
+use Rattle.terminal_model.proofs.Vocabulary.{common_steps, flat_map-append, ◌≡◌, ℕ, zero, suc, ◌≤◌, List, [], ◌∷◌, ◌++◌}
+use Rattle.terminal_model.proofs.Vocabulary.{length, take, map, reverse, Option, refl, ap, ◌∙◌, arith, reverse-append}
+use Rattle.terminal_model.proofs.Vocabulary.{AllByRecursion, Shifts, mapped, spent, line_resized, Func, Action, Page}
+use Rattle.terminal_model.proofs.Vocabulary.{Screen, IsSound, with_state, actions_of, resized, acted_from, acted}
+use Rattle.terminal_model.proofs.Vocabulary.{all_acted, effect, Terminal, IsTerminal, read_byte, reads, Writing}
+use Rattle.terminal_model.proofs.Vocabulary.{IsWriting, writes, writes_all, lines_of}
 use Rattle.terminal_model.specs.declared.action.Action.TheVariants.{Print}
-use Rattle.terminal_model.specs.Screen.{Page, Screen, IsSound, with_state}
-use Rattle.terminal_model.specs.Functions.{actions_of}
 use Rattle.terminal_model.specs.Printing.{printed}
-use Rattle.terminal_model.specs.Sizing.{resized}
-use Rattle.terminal_model.specs.Table.{acted_from, acted, all_acted, effect}
-use Rattle.terminal_model.specs.Reading.{Terminal, IsTerminal, read_byte, reads}
-use Rattle.terminal_model.specs.Writing.{Writing, IsWriting, writes, writes_all}
-use Rattle.terminal_model.specs.Scrollback.{printed_out, acted_out, all_acted_out, lines_out}
-use Rattle.terminal_model.specs.Scrollback.{lines_of, left_by_writing, all_left, KeepsLast}
+use Rattle.terminal_model.specs.Scrollback.{printed_out, acted_out, all_acted_out, lines_out, left_by_writing, all_left}
+use Rattle.terminal_model.specs.Scrollback.{KeepsLast}
 use Rattle.terminal_model.proofs.Readings.{effects, acts_of, read_units-is}
 use Rattle.terminal_model.proofs.Sound.{IsSound-acted, IsSound-effect}
 use Rattle.terminal_model.proofs.Terminals.{IsTerminal-read_byte, IsTerminal-ready, IsTerminal-writes}

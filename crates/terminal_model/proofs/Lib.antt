@@ -1,3 +1,4 @@
+pub mod Vocabulary
 pub mod Readings
 pub mod Codings
 pub mod DrawableGlyphs

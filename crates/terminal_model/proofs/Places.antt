@@ -1,21 +1,15 @@
 -- The cell at each place after new cells were put over a line.
-use Rattle.std.proofs.Common.{get_or}
-use Rattle.std.proofs.lemmas.Grind.{common_steps}
-use Rattle.std.proofs.Common.{◌≡◌, ℕ, zero, suc, ◌+◌, ◌-◌, ◌<◌, ◌≤◌, Bool, true, false, ◌&&◌, eqb, ltb, leb, List, []}
-use Rattle.std.proofs.Common.{length, set, refl, sym, ap, ◌∙◌, arith, ⊎_elim, eq-eqb}
-use Rattle.std.specs.Prelude.{if◌then◌else◌, ◌==◌}
-use Rattle.std.proofs.lemmas.Bool.{cases_lt, cases_eq, cases_Bool, ne_eqb}
-use Rattle.std.proofs.lemmas.Bool.Decides.{nat_tests}
-use Rattle.cells.specs.declared.cell.Cell.{Cell}
-use Rattle.cells.specs.Line.{blank, cell_at, is_left, is_right, marked, IsPaired, Source, Fresh, Old, are_halves, kept}
-use Rattle.cells.specs.Line.{settled, source_before, source_after, cells_from, spliced}
-use Rattle.cells.specs.Page.{line_at, IsPage, page_from, page_marked, edited}
-use Rattle.cells.proofs.Settling.{cell_at_past, true≢false, settled_at, after_inside, length-cells_from}
-use Rattle.cells.proofs.Settling.{cell_at-cells_from, kept_is, left_only, right_only}
-use Rattle.cells.proofs.Splicing.{at_front, at_fresh, at_rest}
-use Rattle.cells.proofs.Pages.{page_from-edited}
-use Rattle.terminal_model.specs.Screen.{Page, blank_page}
-use Rattle.terminal_model.specs.Places.{place, overlaid_cell, with_mark}
+use Rattle.terminal_model.proofs.Vocabulary.{get_or, ◌≡◌, ℕ, zero, suc, ◌+◌, ◌-◌, ◌<◌, ◌≤◌, Bool, true, false, ◌&&◌}
+use Rattle.terminal_model.proofs.Vocabulary.{eqb, ltb, leb, List, [], length, set, refl, sym, ap, ◌∙◌, arith, ⊎_elim}
+use Rattle.terminal_model.proofs.Vocabulary.{eq-eqb, common_steps, if◌then◌else◌, ◌==◌, cases_lt, ne_eqb, nat_tests}
+use Rattle.terminal_model.proofs.Vocabulary.{Cell, blank, cell_at, is_left, is_right, marked, IsPaired, Source, Fresh}
+use Rattle.terminal_model.proofs.Vocabulary.{Old, are_halves, kept, settled, source_before, source_after, cells_from}
+use Rattle.terminal_model.proofs.Vocabulary.{spliced, line_at, IsPage, page_from, page_marked, edited, cell_at_past}
+use Rattle.terminal_model.proofs.Vocabulary.{at_front, at_fresh, at_rest, page_from-edited, Page, blank_page, place}
+use Rattle.std.proofs.lemmas.Bool.{cases_eq, cases_Bool}
+use Rattle.cells.proofs.Settling.{true≢false, settled_at, after_inside, length-cells_from, cell_at-cells_from, kept_is}
+use Rattle.cells.proofs.Settling.{left_only, right_only}
+use Rattle.terminal_model.specs.Places.{overlaid_cell, with_mark}
 
 and_true : (a b : Bool) → a ≡ true → b ≡ true → (a && b) ≡ true
 and_true a b h k = rw h k

@@ -1,17 +1,9 @@
 -- Bytes 20 to 7E are printed, each as a character of width 1.
-use Rattle.std.proofs.Common.{◌≡◌, ℕ, Bool, true, false, ◌&&◌, List, [], ◌∷◌, map, Option, Some, refl, ap, ◌∙◌, arith}
-use Rattle.std.specs.List.{list_all}
-use Rattle.std.proofs.lemmas.Bool.Decides.{nat_tests}
-use Rattle.unicode_width.specs.Width.{char_width}
+use Rattle.terminal_model.proofs.Vocabulary.{◌≡◌, ℕ, Bool, true, false, ◌&&◌, List, [], ◌∷◌, map, Option, Some, refl}
+use Rattle.terminal_model.proofs.Vocabulary.{ap, ◌∙◌, arith, list_all, nat_tests, char_width, is_plain, Print, nothing}
+use Rattle.terminal_model.proofs.Vocabulary.{Screen, columns_of, drawn, effect, Read, ready, joined, reads}
 use Rattle.cells.specs.Glyph.{drawn_as, glyph_columns}
-use Rattle.charsets.specs.Units.{is_plain}
-use Rattle.control_parser.specs.declared.parser.Func.TheVariants.{Print}
-use Rattle.control_parser.specs.Grammar.{nothing}
 use Rattle.control_parser.proofs.Pieces.{functions-plain}
-use Rattle.terminal_model.specs.Screen.{Screen}
-use Rattle.terminal_model.specs.Printing.{columns_of, drawn}
-use Rattle.terminal_model.specs.Table.{effect}
-use Rattle.terminal_model.specs.Reading.{Read, ready, joined, reads}
 use Rattle.terminal_model.proofs.Readings.{effects, acts_of}
 use Rattle.terminal_model.proofs.Spellings.{done, ending}
 

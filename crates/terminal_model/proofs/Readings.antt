@@ -1,18 +1,9 @@
 -- Reading goes on, and the functions of the bytes are those that act.
-use Rattle.std.proofs.lemmas.Grind.{common_steps}
-use Rattle.std.proofs.Common.{arith}
-use Rattle.std.proofs.Common.{◌≡◌, ℕ, List, [], ◌∷◌, ◌++◌, refl, sym, ap, ◌∙◌, append_assoc, append-nil}
-use Rattle.charsets.specs.declared.decoder.Unit.{Unit}
-use Rattle.control_parser.specs.declared.parser.Func.{Func}
-use Rattle.control_parser.specs.Grammar.{Rest, functions, with_front}
-use Rattle.control_parser.specs.Kept.{opening}
-use Rattle.control_parser.proofs.Openings.{functions-go_on, functions-opening}
-use Rattle.terminal_model.specs.Screen.{Screen}
-use Rattle.terminal_model.specs.Table.{effect}
-use Rattle.terminal_model.specs.Reports.{report}
-use Rattle.terminal_model.specs.Reading.{Terminal, Act, Read, joined, act, act_all, read_unit, read_units, read_byte}
-use Rattle.terminal_model.specs.Reading.{reads}
-use Rattle.terminal_model.specs.Writing.{Writing, Output, writes, writes_all}
+use Rattle.terminal_model.proofs.Vocabulary.{common_steps, arith, ◌≡◌, ℕ, List, [], ◌∷◌, ◌++◌, refl, sym, ap, ◌∙◌}
+use Rattle.terminal_model.proofs.Vocabulary.{append_assoc, append-nil, Unit, Func, Rest, functions, with_front, opening}
+use Rattle.terminal_model.proofs.Vocabulary.{functions-go_on, functions-opening, Screen, effect, report, Terminal, Act}
+use Rattle.terminal_model.proofs.Vocabulary.{Read, joined, act, act_all, read_unit, read_units, read_byte, reads}
+use Rattle.terminal_model.proofs.Vocabulary.{Writing, Output, writes, writes_all}
 
 joined_assoc : (r s u : Read) → joined (joined r s) u ≡ joined r (joined s u)
 joined_assoc r s u = simp append_assoc

@@ -1,23 +1,11 @@
 -- SGR sets a rendition from any other one, and answers nothing.
-use Rattle.std.proofs.lemmas.Grind.{common_steps}
-use Rattle.std.proofs.lemmas.Bool.Decides.{nat_tests}
-use Rattle.std.proofs.Common.{◌≡◌, ℕ, Bool, true, List, [], ◌∷◌, ◌++◌, Option, Some, None}
-use Rattle.std.proofs.Common.{refl, ap, ◌∙◌, arith}
-use Rattle.std.specs.Prelude.{if◌then◌else◌, option_to_list, is_some}
-use Rattle.std.specs.List.{list_all}
+use Rattle.terminal_model.proofs.Vocabulary.{common_steps, nat_tests, ◌≡◌, ℕ, Bool, true, List, [], ◌∷◌, ◌++◌, Option}
+use Rattle.terminal_model.proofs.Vocabulary.{Some, None, refl, ap, ◌∙◌, arith, if◌then◌else◌, option_to_list, is_some}
+use Rattle.terminal_model.proofs.Vocabulary.{list_all, Rendition, Csi, Action, Render, Attribute, Screen, with_state}
+use Rattle.terminal_model.proofs.Vocabulary.{plain_sequence, each, rendered, unjoined, acted_from, acted, all_acted}
+use Rattle.terminal_model.proofs.Vocabulary.{effect, all_answered, report, IsListed}
 use Rattle.cells.specs.declared.rendition.Colour.{Colour}
 use Rattle.cells.specs.declared.rendition.Colour.TheVariants.{Default}
-use Rattle.cells.specs.declared.rendition.Rendition.{Rendition}
-use Rattle.control_parser.specs.declared.parser.Func.TheVariants.{Csi}
-use Rattle.terminal_model.specs.declared.action.Action.{Action}
-use Rattle.terminal_model.specs.declared.action.Action.TheVariants.{Render}
-use Rattle.cells.specs.declared.rendition.Attribute.{Attribute}
-use Rattle.terminal_model.specs.Screen.{Screen, with_state}
-use Rattle.terminal_model.specs.Functions.{plain_sequence, each, rendered}
-use Rattle.terminal_model.specs.Motion.{unjoined}
-use Rattle.terminal_model.specs.Table.{acted_from, acted, all_acted, effect}
-use Rattle.terminal_model.specs.Reports.{all_answered, report}
-use Rattle.terminal_model.specs.Drawing.{IsListed}
 use Rattle.terminal_model.specs.Places.{value_if, value_of_colour, colour_values, rendition_values}
 use Rattle.terminal_model.proofs.Frames.{all_acted-append, each-append}
 

@@ -1,22 +1,12 @@
 -- The beginning of a first frame brings every terminal of a size to one screen.
-use Rattle.std.proofs.Common.{◌≡◌, ℕ, List, [], ◌∷◌, ◌++◌, Some, refl, ap, ◌∙◌, arith}
+use Rattle.terminal_model.proofs.Vocabulary.{◌≡◌, ℕ, List, [], ◌∷◌, ◌++◌, Some, refl, ap, ◌∙◌, arith, Coding, units}
+use Rattle.terminal_model.proofs.Vocabulary.{units-can, Esc, Csi, fields, Rest, nothing, escape, control, functions}
+use Rattle.terminal_model.proofs.Vocabulary.{functions_behind, begun_by, opening, Screen, private_sequence, acted_from}
+use Rattle.terminal_model.proofs.Vocabulary.{effect, report, Terminal, IsTerminal, ready, nothing_read, joined, act_all}
+use Rattle.terminal_model.proofs.Vocabulary.{read_unit, read_units, read_byte, reads, frame_bytes, frame_start}
 use Rattle.charsets.specs.declared.decoder.Unit.TheVariants as codes
-use Rattle.charsets.specs.declared.decoder.Coding.{Coding}
-use Rattle.charsets.specs.Units.{units}
-use Rattle.charsets.proofs.Joins.{units-can}
-use Rattle.control_parser.specs.declared.parser.Func.TheVariants.{Esc, Csi}
-use Rattle.control_parser.specs.Text.{fields}
-use Rattle.control_parser.specs.Grammar.{Rest, nothing, escape, control, functions, functions_behind, begun_by}
 use Rattle.control_parser.specs.Grammar as grammar
-use Rattle.control_parser.specs.Kept.{opening}
 use Rattle.control_parser.proofs.Keeping.{functions-can}
-use Rattle.terminal_model.specs.Screen.{Screen}
-use Rattle.terminal_model.specs.Functions.{private_sequence}
-use Rattle.terminal_model.specs.Table.{acted_from, effect}
-use Rattle.terminal_model.specs.Reports.{report}
-use Rattle.terminal_model.specs.Reading.{Terminal, IsTerminal, ready, nothing_read, joined, act_all, read_unit}
-use Rattle.terminal_model.specs.Reading.{read_units, read_byte, reads}
-use Rattle.terminal_model.specs.Drawing.{frame_bytes, frame_start}
 use Rattle.terminal_model.proofs.Spellings.{done, silent, ending, escape-opens, percent-goes_on}
 
 cancel-units : (c : Coding) (rest : List ℕ) → units c rest ≡ ([], rest)

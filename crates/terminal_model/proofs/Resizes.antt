@@ -1,14 +1,9 @@
 -- A change of size keeps pages well formed.
-use Rattle.std.proofs.Common.{ℕ, List, [], length, ap, ◌∙◌, subst, sym, refl, min, take, replicate, ◌+◌}
-use Rattle.cells.specs.declared.cell.Cell.{Cell}
-use Rattle.cells.specs.Line.{blank, IsPaired, spliced}
-use Rattle.cells.specs.Page.{line_at, IsPage, From}
-use Rattle.cells.specs.Resizing.{line_resized, page_resized}
+use Rattle.terminal_model.proofs.Vocabulary.{ℕ, List, [], length, ap, ◌∙◌, subst, sym, refl, min, take, replicate, ◌+◌}
+use Rattle.terminal_model.proofs.Vocabulary.{Cell, blank, IsPaired, spliced, line_at, IsPage, From, line_resized}
+use Rattle.terminal_model.proofs.Vocabulary.{page_resized, IsPaired-blanks, IsPaired-nil, length-line_from}
+use Rattle.terminal_model.proofs.Vocabulary.{line_from-resized, line_at-page_resized, length-page_resized, resized_is}
 use Rattle.cells.proofs.Settling.{IsPaired-cells_from}
-use Rattle.cells.proofs.Splicing.{IsPaired-blanks}
-use Rattle.cells.proofs.Pages.{IsPaired-nil, length-line_from}
-use Rattle.cells.proofs.Grids.{line_from-resized, line_at-page_resized, length-page_resized}
-use Rattle.cells.proofs.Resizing.{resized_is}
 use Rattle.terminal_model.proofs.Items.{item-built}
 
 pub IsPaired-line_resized : (width : ℕ) (cells : List Cell) → IsPaired cells → IsPaired (line_resized width cells)

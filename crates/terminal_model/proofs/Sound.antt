@@ -1,30 +1,20 @@
 -- Every effect keeps a screen sound.
-use Rattle.std.proofs.Common.{◌≡◌, ℕ, ◌<◌, Bool, true, false, List, [], ◌∷◌, length, map, Option}
-use Rattle.std.proofs.Common.{arith}
-use Rattle.std.specs.Prelude.{IfSome, option_map}
-use Rattle.std.proofs.lemmas.List.FromFn.{length-map-range_with_len}
-use Rattle.std.proofs.lemmas.Grind.{common_steps}
-use Rattle.std.proofs.lemmas.List.{length-map, length-replicate, length-set}
-use Rattle.std.proofs.lemmas.Bool.Decides.{nat_tests}
-use Rattle.cells.specs.Line.{IsPaired}
-use Rattle.cells.specs.Page.{line_at, IsPage, IsGridSize}
-use Rattle.cells.specs.Resizing.{line_resized}
-use Rattle.cells.proofs.Pages.{IsPage-page_from, IsPaired-nil}
-use Rattle.cells.proofs.Resizing.{length-line_resized}
-use Rattle.control_parser.specs.declared.parser.Func.{Func}
-use Rattle.terminal_model.specs.declared.action.Action.{Action}
+use Rattle.terminal_model.proofs.Vocabulary.{◌≡◌, ℕ, ◌<◌, Bool, true, false, List, [], ◌∷◌, length, map, Option, arith}
+use Rattle.terminal_model.proofs.Vocabulary.{IfSome, option_map, length-map-range_with_len, common_steps, length-map}
+use Rattle.terminal_model.proofs.Vocabulary.{length-replicate, length-set, nat_tests, IsPaired, line_at, IsPage}
+use Rattle.terminal_model.proofs.Vocabulary.{IsGridSize, line_resized, IsPage-page_from, IsPaired-nil}
+use Rattle.terminal_model.proofs.Vocabulary.{length-line_resized, Func, Action, Page, Screen, blank_page, starting}
+use Rattle.terminal_model.proofs.Vocabulary.{starting_tabs, IsInside, AreKept, IsSound, actions_of}
 use Rattle.terminal_model.specs.declared.action.Action.TheVariants as acts
 use Rattle.terminal_model.specs.declared.action.Mode.TheVariants as modes
 use Rattle.terminal_model.specs.declared.state.Saved.{Saved}
-use Rattle.terminal_model.specs.Screen.{Page, Screen, blank_page, starting, starting_tabs, IsInside, AreKept, IsSound}
-use Rattle.terminal_model.specs.Functions.{actions_of}
 use Rattle.terminal_model.specs.Erasing
 use Rattle.terminal_model.specs.Sizing
 use Rattle.terminal_model.specs.Table
 use Rattle.terminal_model.proofs.Items.{item-mapped}
 use Rattle.terminal_model.proofs.Resizes.{IsPaired-line_resized, IsPage-page_resized}
-use Rattle.terminal_model.proofs.SoundPrinting.{with-page, IsSound-indexed, IsSound-reverse_indexed}
-use Rattle.terminal_model.proofs.SoundPrinting.{wrapped-sound, printed-sound}
+use Rattle.terminal_model.proofs.SoundPrinting.{with-page, IsSound-indexed, IsSound-reverse_indexed, wrapped-sound}
+use Rattle.terminal_model.proofs.SoundPrinting.{printed-sound}
 
 pub IsPage-blank : (rows columns : ℕ) → IsPage rows columns (blank_page rows columns)
 IsPage-blank rows columns = grind (arith, common_steps)

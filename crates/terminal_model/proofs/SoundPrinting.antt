@@ -1,18 +1,10 @@
 -- Scrolling and printing keep a screen sound.
-use Rattle.std.proofs.Common.{◌≡◌, ℕ, zero, suc, ◌<◌, ◌≤◌, Bool, true, false, ◌&&◌, List, [], length}
-use Rattle.std.proofs.Common.{set, Option, Some, None, refl, arith}
-use Rattle.std.specs.Prelude.{IfSome, ◌==◌}
-use Rattle.std.proofs.lemmas.Grind.{common_steps}
-use Rattle.std.proofs.lemmas.List.{length-take}
-use Rattle.std.proofs.lemmas.Bool.Decides.{nat_tests}
-use Rattle.cells.specs.declared.cell.Cell.{Cell}
-use Rattle.cells.specs.Line.{cell_at, IsPaired, marked}
-use Rattle.cells.specs.Page.{line_at, IsPage, page_marked}
-use Rattle.cells.proofs.Pages.{IsPage-page_from, IsPaired-nil}
+use Rattle.terminal_model.proofs.Vocabulary.{◌≡◌, ℕ, zero, suc, ◌<◌, ◌≤◌, Bool, true, false, ◌&&◌, List, [], length}
+use Rattle.terminal_model.proofs.Vocabulary.{set, Option, Some, None, refl, arith, IfSome, ◌==◌, common_steps}
+use Rattle.terminal_model.proofs.Vocabulary.{length-take, nat_tests, Cell, cell_at, IsPaired, marked, line_at, IsPage}
+use Rattle.terminal_model.proofs.Vocabulary.{page_marked, IsPage-page_from, IsPaired-nil, State, Position, Page, Screen}
+use Rattle.terminal_model.proofs.Vocabulary.{IsInside, AreKept, IsSound, with_page, with_newest}
 use Rattle.cells.proofs.Putting.{IsPaired-set}
-use Rattle.terminal_model.specs.declared.state.State.{State}
-use Rattle.terminal_model.specs.declared.state.Position.{Position}
-use Rattle.terminal_model.specs.Screen.{Page, Screen, IsInside, AreKept, IsSound, with_page, with_newest}
 use Rattle.terminal_model.specs.Motion
 use Rattle.terminal_model.specs.Printing
 use Rattle.terminal_model.proofs.Items.{item-newest, item-set}

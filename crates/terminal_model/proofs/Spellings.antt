@@ -1,29 +1,15 @@
 -- The spelling of a function is read as this function only.
-use Rattle.std.proofs.lemmas.Grind.{common_steps}
-use Rattle.std.proofs.Common.{◌≡◌, ℕ, ◌<◌, ⊎_elim, List, [], ◌∷◌, ◌++◌, ◌⊎◌, refl, sym, ap, ◌∙◌}
-use Rattle.std.proofs.Common.{arith, append_assoc, append-nil}
-use Rattle.std.proofs.lemmas.Bool.Decides.{nat_tests}
+use Rattle.terminal_model.proofs.Vocabulary.{common_steps, ◌≡◌, ℕ, ◌<◌, ⊎_elim, List, [], ◌∷◌, ◌++◌, ◌⊎◌, refl, sym, ap}
+use Rattle.terminal_model.proofs.Vocabulary.{◌∙◌, arith, append_assoc, append-nil, nat_tests, Coding, Utf8, Ecma35}
+use Rattle.terminal_model.proofs.Vocabulary.{units, cut, units-go_on, units-rest, Func, Esc, Rest, nothing, escape}
+use Rattle.terminal_model.proofs.Vocabulary.{control, functions, functions_behind, begun_by, with_front, opening}
+use Rattle.terminal_model.proofs.Vocabulary.{IsGiven, coding_of, spelling, ReadsAs, functions-go_on, functions-opening}
+use Rattle.terminal_model.proofs.Vocabulary.{Screen, effect, report, Terminal, ready, Read, joined, act, act_all}
+use Rattle.terminal_model.proofs.Vocabulary.{read_unit, read_units, rest_in, in_coding, read_byte, reads}
 use Rattle.charsets.specs.declared.decoder.Unit.TheVariants as codes
-use Rattle.charsets.specs.declared.decoder.Coding.{Coding}
-use Rattle.charsets.specs.declared.decoder.Coding.TheVariants.{Utf8, Ecma35}
-use Rattle.charsets.specs.Units.{units}
-use Rattle.charsets.specs.Utf8.{cut}
-use Rattle.charsets.proofs.Joins.{units-go_on, units-rest}
 use Rattle.charsets.proofs.Encoded.{one_byte}
-use Rattle.control_parser.specs.declared.parser.Func.{Func}
-use Rattle.control_parser.specs.declared.parser.Func.TheVariants.{Esc}
-use Rattle.control_parser.specs.Grammar.{Rest, nothing, escape, control, functions, functions_behind, begun_by}
-use Rattle.control_parser.specs.Grammar.{with_front}
 use Rattle.control_parser.specs.Grammar as grammar
-use Rattle.control_parser.specs.Kept.{opening}
-use Rattle.control_parser.specs.Spelling.{IsGiven, coding_of, spelling, ReadsAs}
-use Rattle.control_parser.proofs.Openings.{functions-go_on, functions-opening}
 use Rattle.control_parser.proofs.Spelled.{spelled_reads}
-use Rattle.terminal_model.specs.Screen.{Screen}
-use Rattle.terminal_model.specs.Table.{effect}
-use Rattle.terminal_model.specs.Reports.{report}
-use Rattle.terminal_model.specs.Reading.{Terminal, ready, Read, joined, act, act_all, read_unit, read_units, rest_in}
-use Rattle.terminal_model.specs.Reading.{in_coding, read_byte, reads}
 use Rattle.terminal_model.proofs.Readings.{effects, outcome, effects-append, outcome-append, read_units-is}
 use Rattle.terminal_model.proofs.Codings.{effect-coding, escape-coding, other-coding, utf8-coding}
 

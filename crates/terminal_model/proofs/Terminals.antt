@@ -1,21 +1,9 @@
 -- Reading and writing keep a terminal.
-use Rattle.std.proofs.Common.{arith}
-use Rattle.std.proofs.Common.{◌≡◌, ℕ, List, [], ◌∷◌, ◌++◌, refl, ◌∙◌}
-use Rattle.std.specs.List.{AllByRecursion}
-use Rattle.charsets.specs.declared.decoder.Unit.{Unit}
-use Rattle.charsets.specs.declared.decoder.Coding.{Coding}
-use Rattle.charsets.specs.Units.{units}
-use Rattle.charsets.proofs.Joins.{units-rest}
-use Rattle.cells.specs.Page.{IsGridSize}
-use Rattle.control_parser.specs.declared.parser.Func.{Func}
-use Rattle.control_parser.specs.Grammar.{functions}
-use Rattle.control_parser.specs.Kept.{opening}
-use Rattle.control_parser.proofs.Openings.{functions-opening}
-use Rattle.terminal_model.specs.Screen.{Screen, IsSound}
-use Rattle.terminal_model.specs.Sizing.{resized}
-use Rattle.terminal_model.specs.Reading.{Terminal, IsTerminal, ready, act, act_all, read_unit, read_units, rest_in}
-use Rattle.terminal_model.specs.Reading.{read_byte, reads}
-use Rattle.terminal_model.specs.Writing.{Writing, IsWriting, writes, writes_all}
+use Rattle.terminal_model.proofs.Vocabulary.{arith, ◌≡◌, ℕ, List, [], ◌∷◌, ◌++◌, refl, ◌∙◌, AllByRecursion, Unit}
+use Rattle.terminal_model.proofs.Vocabulary.{Coding, units, units-rest, IsGridSize, Func, functions, opening}
+use Rattle.terminal_model.proofs.Vocabulary.{functions-opening, Screen, IsSound, resized, Terminal, IsTerminal, ready}
+use Rattle.terminal_model.proofs.Vocabulary.{act, act_all, read_unit, read_units, rest_in, read_byte, reads, Writing}
+use Rattle.terminal_model.proofs.Vocabulary.{IsWriting, writes, writes_all}
 use Rattle.terminal_model.proofs.Sound.{IsSound-effect, IsSound-resized}
 use Rattle.terminal_model.proofs.Spellings.{begun, nothing-opened}
 

@@ -1,21 +1,8 @@
 -- The functions that act are those of all units of all bytes.
-use Rattle.std.proofs.lemmas.Bool.Decides.{nat_tests}
-use Rattle.std.proofs.lemmas.Grind.{common_steps}
-use Rattle.std.proofs.Common.{arith}
-use Rattle.std.proofs.Common.{◌≡◌, ℕ, List, [], ◌∷◌, ◌++◌, refl, sym, ap, ◌∙◌, append_assoc}
-use Rattle.std.proofs.lemmas.List.{map-append}
-use Rattle.std.specs.List.{AllByRecursion}
-use Rattle.charsets.specs.declared.decoder.Unit.{Unit}
-use Rattle.charsets.specs.declared.decoder.Coding.{Coding}
-use Rattle.charsets.specs.Units.{units}
-use Rattle.charsets.proofs.Joins.{units-go_on}
-use Rattle.control_parser.specs.declared.parser.Func.{Func}
-use Rattle.control_parser.specs.Grammar.{functions, with_front}
-use Rattle.control_parser.specs.Kept.{opening}
-use Rattle.control_parser.proofs.Openings.{functions-go_on}
-use Rattle.terminal_model.specs.Screen.{Screen}
-use Rattle.terminal_model.specs.Table.{effect}
-use Rattle.terminal_model.specs.Reading.{Terminal, IsTerminal, Act, Read, joined, rest_in, read_byte, reads}
+use Rattle.terminal_model.proofs.Vocabulary.{nat_tests, common_steps, arith, ◌≡◌, ℕ, List, [], ◌∷◌, ◌++◌, refl, sym, ap}
+use Rattle.terminal_model.proofs.Vocabulary.{◌∙◌, append_assoc, map-append, AllByRecursion, Unit, Coding, units}
+use Rattle.terminal_model.proofs.Vocabulary.{units-go_on, Func, functions, with_front, opening, functions-go_on, Screen}
+use Rattle.terminal_model.proofs.Vocabulary.{effect, Terminal, IsTerminal, Act, Read, joined, rest_in, read_byte, reads}
 use Rattle.terminal_model.specs.Whole.{functions_of_bytes, acted_functions, KeepsCoding, IsWhole}
 use Rattle.terminal_model.proofs.Readings.{effects, acts_of, read_units-is, reads-append}
 use Rattle.terminal_model.proofs.Terminals.{IsTerminal-read_byte, IsTerminal-reads}

@@ -1,16 +1,11 @@
 -- A session that begins with lines that tables take has these tables then, and refuses none of the lines.
-use Rattle.std.proofs.Common.{◌≡◌, ◌∙◌, ℕ, true, false, List, [], ◌∷◌, ◌++◌, ap, sym, subst, map}
-use Rattle.std.specs.Prelude.{is_ok}
-use Rattle.acl.specs.declared.user_id.UserId.{UserId}
+use Rattle.trail_again.proofs.Vocabulary.{◌≡◌, ◌∙◌, ℕ, true, false, List, [], ◌∷◌, ◌++◌, ap, sym, subst, map, is_ok}
+use Rattle.trail_again.proofs.Vocabulary.{UserId, AreDone, StopsAt, command_of, outcome, Tables, BeginsAsTaken}
+use Rattle.trail_again.proofs.Vocabulary.{AreTaken}
 use Rattle.program_words.specs.SetupLines.{Line, line_of}
-use Rattle.session.specs.Setup.{AreDone, StopsAt, command_of}
 use Rattle.session_core.specs.Headline.{with_steps}
-use Rattle.session.specs.Events.{outcome}
 use Rattle.session.specs.Run.{after, drawn, tables_of}
-use Rattle.session.specs.Tables.{Tables}
 use Rattle.session.specs.Trace.{Entry, Trace, begun, with_step}
-use Rattle.trail_again.specs.Restored.{BeginsAsTaken}
-use Rattle.trail_again.specs.Taking.{AreTaken}
 
 -- a step of a line has the tables of the event's outcome
 after_line : (owner : UserId) (line : Line) (t : Tables) (e : Entry) → e.event ≡ command_of owner line

@@ -1,34 +1,16 @@
 -- What the acts of a setup leave, kind by kind.
-use Rattle.std.proofs.Common.{◌≡◌, ◌∙◌, Bool, true, false, List, [], ◌∷◌, ◌++◌, refl, ap, sym, map}
-use Rattle.std.proofs.Common.{◌||◌, ◌&&◌, if◌then◌else◌, Some, None, unwrap_or, append_assoc}
-use Rattle.std.specs.List.{flat_map}
-use Rattle.std.proofs.lemmas.List.{append-nil}
-use Rattle.acl.specs.command_name.TheConstants.CommandName.{ALL}
-use Rattle.acl.specs.declared.act.Act.{Act}
+use Rattle.trail_again.proofs.Vocabulary.{◌≡◌, ◌∙◌, Bool, true, false, List, [], ◌∷◌, ◌++◌, refl, ap, sym, map, ◌||◌}
+use Rattle.trail_again.proofs.Vocabulary.{◌&&◌, if◌then◌else◌, Some, None, unwrap_or, append_assoc, subst, flat_map}
+use Rattle.trail_again.proofs.Vocabulary.{append-nil, ALL, Act, Object, Command, PresetKind, Bit, BitChange}
+use Rattle.trail_again.proofs.Vocabulary.{CommandName, Edition, UserId, sets, sets_on, History, among, decided}
+use Rattle.trail_again.proofs.Vocabulary.{followed_by, greeting, has, is_known, latest, decides_known, leaders_of}
+use Rattle.trail_again.proofs.Vocabulary.{leaders_with, mask, users_of, same_user, followed_by-append, same_user-sym}
+use Rattle.trail_again.proofs.Vocabulary.{same_user-true, every_command, Read}
 use Rattle.acl.specs.declared.act.Act.TheVariants as act
-use Rattle.acl.specs.declared.act.Object.{Object}
-use Rattle.acl.specs.declared.act.Object.TheVariants.{Command}
-use Rattle.acl.specs.declared.act.PresetKind.{PresetKind}
-use Rattle.acl.specs.declared.bits.Bit.{Bit}
-use Rattle.acl.specs.declared.bits.BitChange.{BitChange}
-use Rattle.acl.specs.declared.command_name.CommandName.{CommandName}
-use Rattle.acl.specs.declared.leaders.Edition.{Edition}
-use Rattle.acl.specs.declared.user_id.UserId.{UserId}
-use Rattle.acl.specs.Commands.{sets, sets_on}
-use Rattle.acl.specs.History.{History, among, decided, followed_by, greeting, has, is_known, latest, decides_known}
-use Rattle.acl.specs.History.{leaders_of, leaders_with, mask, users_of}
-use Rattle.acl.specs.Same.{same_user}
-use Rattle.acl.proofs.FollowingLemmas.{followed_by-append, same_user-sym}
-use Rattle.acl.proofs.StandsForLemmas.{same_user-true}
-use Rattle.session.specs.Naming.{every_command}
 use Rattle.trail_again.proofs.Commands.{all_there, among_commands}
 use Rattle.trail_again.proofs.Lawful.{among_more, given_leaders}
-use Rattle.trail_again.proofs.Setting.{Distinct, keyed, masks_on, object_among, presets_on, set_bits, sets_value}
-use Rattle.trail_again.proofs.Touching.{Without, known_stays, none_append}
-use Rattle.trail_again.proofs.Touching.{on_users, stays, users_stay}
-use Rattle.std.proofs.Common.{subst}
-use Rattle.trail_again.proofs.Setting.{pick}
-use Rattle.acl.specs.declared.bits.Bit.TheVariants.{Read}
+use Rattle.trail_again.proofs.Setting.{Distinct, keyed, masks_on, object_among, presets_on, set_bits, sets_value, pick}
+use Rattle.trail_again.proofs.Touching.{Without, known_stays, none_append, on_users, stays, users_stay}
 
 -- ---- acts of one kind leave what others change
 

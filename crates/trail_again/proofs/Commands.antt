@@ -1,24 +1,15 @@
 -- Objects of a setup's lines that are commands.
-use Rattle.std.proofs.Common.{◌≡◌, ◌∙◌, ℕ, Bool, true, false, List, [], ◌∷◌, ◌++◌, refl, ap, sym, map, filter, cond}
-use Rattle.std.proofs.Common.{◌||◌, ◌&&◌, if◌then◌else◌, Some, arith}
-use Rattle.std.specs.Prelude.{◌==◌}
-use Rattle.std.specs.List.{list_any, list_all}
-use Rattle.std.specs.Option.{option_and_then, option_map, option_or}
-use Rattle.std.proofs.lemmas.Bool.Decides.{nat_tests}
-use Rattle.acl.specs.command_name.TheConstants.CommandName.{ALL}
-use Rattle.acl.specs.declared.act.Object.TheVariants.{Command}
-use Rattle.acl.specs.declared.command_name.CommandName.{CommandName}
+use Rattle.trail_again.proofs.Vocabulary.{◌≡◌, ◌∙◌, ℕ, Bool, true, false, List, [], ◌∷◌, ◌++◌, refl, ap, sym, map}
+use Rattle.trail_again.proofs.Vocabulary.{filter, cond, ◌||◌, ◌&&◌, if◌then◌else◌, Some, arith, ◌==◌, list_any}
+use Rattle.trail_again.proofs.Vocabulary.{list_all, option_and_then, option_map, option_or, nat_tests, ALL, Command}
+use Rattle.trail_again.proofs.Vocabulary.{window_object, CommandName, index_of_command, same_command, command_named}
+use Rattle.trail_again.proofs.Vocabulary.{name_text, objects_of, Tables, Window}
 use Rattle.acl.specs.declared.command_name.CommandName.TheVariants as name
-use Rattle.acl.specs.Same.{index_of_command, same_command}
-use Rattle.command_lang.specs.Names.{command_named, name_text}
 use Rattle.command_lang.specs.Values.{is_wide}
-use Rattle.session.specs.Naming.{item_objects, objects_of, wide_objects}
-use Rattle.session.specs.Tables.{Tables, Window}
+use Rattle.session.specs.Naming.{item_objects, wide_objects, window_named}
 use Rattle.trail_again.proofs.Reading.{name_found}
 use Rattle.trail_again.proofs.Setting.{object_among}
 use Rattle.trail_again.proofs.Wording.{IsItem}
-use Rattle.acl.specs.declared.act.Object.TheVariants.{Window as window_object}
-use Rattle.session.specs.Naming.{window_named}
 
 -- ---- a command's name as an item
 

@@ -1,54 +1,30 @@
 -- What commands of a setup do in a session that nobody has joined.
-use Rattle.std.proofs.Common.{◌≡◌, ◌∙◌, ℕ, true, false, List, [], ◌∷◌, ◌++◌, refl, ap, sym, map, Option, Some, None}
-use Rattle.std.proofs.Common.{◌||◌, if◌then◌else◌, Ok, Err, append_assoc}
-use Rattle.std.specs.Prelude.{IsOk}
-use Rattle.std.specs.Option.{option_or}
-use Rattle.std.proofs.lemmas.List.{append-nil}
-use Rattle.acl.specs.declared.act.Act.{Act}
+use Rattle.trail_again.proofs.Vocabulary.{◌≡◌, ◌∙◌, ℕ, true, false, List, [], ◌∷◌, ◌++◌, refl, ap, sym, map, Option}
+use Rattle.trail_again.proofs.Vocabulary.{Some, None, ◌||◌, if◌then◌else◌, Ok, Err, append_assoc, subst, IsOk}
+use Rattle.trail_again.proofs.Vocabulary.{option_or, append-nil, Act, Object, PresetKind, Execute, BitChange, Edition}
+use Rattle.trail_again.proofs.Vocabulary.{MaskEntry, MaskScope, UserId, known_name_fault, History, followed_by}
+use Rattle.trail_again.proofs.Vocabulary.{is_known, leaders_of, may, users_of, decides_known, has, latest, named_by}
+use Rattle.trail_again.proofs.Vocabulary.{same_user-refl, Order, Mask, order_name, needs, checks_by, first_fault, does}
+use Rattle.trail_again.proofs.Vocabulary.{mask_entries, acting, outcome, Caller, line_caller, read_line, objects_of}
+use Rattle.trail_again.proofs.Vocabulary.{Tables, fresh, session_after, list_any, AclFault}
 use Rattle.acl.specs.declared.act.Act.TheVariants as act
-use Rattle.acl.specs.declared.act.Object.{Object}
 use Rattle.acl.specs.declared.act.Object.TheVariants as object
-use Rattle.acl.specs.declared.act.PresetKind.{PresetKind}
-use Rattle.acl.specs.declared.bits.Bit.TheVariants.{Execute}
-use Rattle.acl.specs.declared.bits.BitChange.{BitChange}
-use Rattle.acl.specs.declared.leaders.Edition.{Edition}
-use Rattle.acl.specs.declared.entries.MaskEntry.{MaskEntry}
-use Rattle.acl.specs.declared.entries.MaskScope.{MaskScope}
 use Rattle.acl.specs.declared.entries.MaskScope.TheVariants as scope
 use Rattle.acl.specs.declared.entries.NewLeader.TheVariants as new_leader
-use Rattle.acl.specs.declared.user_id.UserId.{UserId}
-use Rattle.acl.specs.Commands.{change_acts, change_fault, group_fault, known_name_fault, mask_acts, mask_fault}
-use Rattle.acl.specs.History.{History, followed_by, is_known, leaders_of, may, users_of}
-use Rattle.acl.specs.Names.{named_by}
-use Rattle.acl.proofs.StandsForLemmas.{same_user-refl}
-use Rattle.command_lang.specs.declared.command.Command.{Command as Order}
+use Rattle.acl.specs.Commands.{change_acts, change_fault, group_fault, mask_acts, mask_fault, group_acts, scope_acts}
+use Rattle.acl.specs.Commands.{scope_fault}
 use Rattle.command_lang.specs.declared.command.Command.TheVariants as command
 use Rattle.command_lang.specs.declared.command.Leader.TheVariants as leader
-use Rattle.command_lang.specs.declared.command.Mask.{Mask}
 use Rattle.command_lang.specs.declared.command.Users.TheVariants as users
-use Rattle.command_lang.specs.Names.{name_of as order_name}
-use Rattle.command_lang.specs.Needs.{needs}
 use Rattle.session.specs.refusal.Refusal.TheVariants.{Acl, UnknownUser}
 use Rattle.session.specs.refusal.Refusal.{Refusal}
 use Rattle.session.specs.Answering.{answered, commanded, line_ruling}
-use Rattle.session.specs.Checks.{checks, checks_by, first_fault, refusal_of, verdicts}
+use Rattle.session.specs.Checks.{checks, refusal_of, verdicts}
 use Rattle.session.specs.refusal.Check.TheVariants.{Right as right}
-use Rattle.session.specs.Commands.{does, mask_entries}
-use Rattle.session.specs.Deeds.{Answer, Deed, acting, changing, given, unless}
-use Rattle.session.specs.Events.{outcome}
-use Rattle.session.specs.Lines.{Caller, line_caller, read_line}
-use Rattle.session.specs.Naming.{objects_of}
+use Rattle.session.specs.Deeds.{Answer, Deed, changing, given, unless, changes as on_lists}
 use Rattle.session.specs.Outcomes.{Outcome, finished, refused, reply_of}
-use Rattle.session.specs.Tables.{Tables, fresh}
 use Rattle.session.specs.Trace.{Command, EventValue}
-use Rattle.trail_again.specs.Taking.{session_after}
 use Rattle.trail_again.proofs.Setting.{masks_on, presets_on}
-use Rattle.std.proofs.Common.{subst}
-use Rattle.acl.specs.History.{decides_known, has, latest}
-use Rattle.std.specs.List.{list_any}
-use Rattle.session.specs.Deeds.{changes as on_lists}
-use Rattle.acl.specs.declared.entries.AclFault.{AclFault}
-use Rattle.acl.specs.Commands.{group_acts, scope_acts, scope_fault}
 
 -- ---- one event
 

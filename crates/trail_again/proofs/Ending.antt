@@ -1,56 +1,30 @@
 -- What a session has after all lines of a setup.
-use Rattle.std.proofs.Common.{◌≡◌, ◌∙◌, Bool, true, false, List, [], ◌∷◌, ◌++◌, refl, ap, sym, subst}
-use Rattle.std.proofs.Common.{if◌then◌else◌, ◌||◌, slice_index_or}
-use Rattle.std.specs.List.{AllByRecursion, flat_map}
-use Rattle.acl.specs.declared.act.Act.{Act}
+use Rattle.trail_again.proofs.Vocabulary.{◌≡◌, ◌∙◌, Bool, true, false, List, [], ◌∷◌, ◌++◌, refl, ap, sym, subst}
+use Rattle.trail_again.proofs.Vocabulary.{if◌then◌else◌, ◌||◌, slice_index_or, AllByRecursion, flat_map, list_any, Act}
+use Rattle.trail_again.proofs.Vocabulary.{LockMode, Object, Command, PresetKind, Bit, CommandName, Edition, UserId}
+use Rattle.trail_again.proofs.Vocabulary.{History, among, followed_by, has, leaders_of, mask, preset_of, users_of, may}
+use Rattle.trail_again.proofs.Vocabulary.{same_user, followed_by-append, same_user-refl, IsRestored, Part, bit_in}
+use Rattle.trail_again.proofs.Vocabulary.{IsAfter, default_of, Known, closed_bits, is_first, preset_in, has_on_all}
+use Rattle.trail_again.proofs.Vocabulary.{mask_in, later_parts, state_parts, SetupState, Execute, Read, Write, ◌&&◌}
 use Rattle.acl.specs.declared.act.Act.TheVariants as act
-use Rattle.acl.specs.declared.act.LockMode.{LockMode}
 use Rattle.acl.specs.declared.act.LockMode.TheVariants as lock_mode
-use Rattle.acl.specs.declared.act.Object.{Object}
-use Rattle.acl.specs.declared.act.Object.TheVariants.{Command}
-use Rattle.acl.specs.declared.act.PresetKind.{PresetKind}
 use Rattle.acl.specs.declared.act.PresetKind.TheVariants as preset
-use Rattle.acl.specs.declared.bits.Bit.{Bit}
-use Rattle.acl.specs.declared.command_name.CommandName.{CommandName}
-use Rattle.acl.specs.declared.leaders.Edition.{Edition}
-use Rattle.acl.specs.declared.user_id.UserId.{UserId}
-use Rattle.acl.specs.History.{History, among, followed_by, has, leaders_of, mask, preset_of, users_of}
-use Rattle.acl.specs.Same.{same_user}
-use Rattle.acl.proofs.FollowingLemmas.{followed_by-append}
-use Rattle.acl.proofs.StandsForLemmas.{same_user-refl}
-use Rattle.trail_again.specs.Restored.{IsRestored}
-use Rattle.trail_setup.specs.Giving.{Part, default_line, leader_lines, lines_of}
-use Rattle.trail_setup.specs.Giving.{preset_line}
-use Rattle.trail_setup.specs.Keeping.{bit_in}
-use Rattle.writelock.specs.Holding.{default_of}
-use Rattle.trail_setup.specs.Masks.{Known, closed_bits, is_first, preset_in}
-use Rattle.trail_setup.specs.Setup.{later_parts, state_parts}
-use Rattle.trail_setup.specs.declared.state.SetupState.{SetupState}
-use Rattle.trail_again.proofs.Blocks.{HasNothing, groups_value}
-use Rattle.trail_again.proofs.Blocks.{presets_without}
+use Rattle.trail_setup.specs.Giving.{default_line, leader_lines, lines_of, preset_line}
+use Rattle.trail_again.proofs.Blocks.{HasNothing, groups_value, presets_without}
 use Rattle.trail_again.proofs.Giving.{Waits, all_groups_off, given_off, given_value, groups_lead, users_given}
-use Rattle.trail_again.proofs.Lawful.{IsLawful, not_owner, rebuilt}
+use Rattle.trail_again.proofs.Lawful.{IsLawful, not_owner, rebuilt, Leads as CanLeadOf, given_leaders}
 use Rattle.trail_again.proofs.Later.{later_leads}
 use Rattle.trail_again.proofs.Masking.{pick_is}
-use Rattle.trail_again.proofs.Putting.{PartsLead, default_acts, default_part}
-use Rattle.trail_again.proofs.Putting.{parts_then, preset_part, text_part}
+use Rattle.trail_again.proofs.Putting.{PartsLead, default_acts, default_part, parts_then, preset_part, text_part}
 use Rattle.trail_again.proofs.SetupLines.{IsNamedOther, changes_of}
 use Rattle.trail_again.proofs.Setting.{preset_value}
 use Rattle.trail_again.proofs.Touching.{Without, commands_stay, leaders_stay, masks_stay, none_append, on_commands}
 use Rattle.trail_again.proofs.Touching.{on_leaders, on_masks, on_presets, on_users, presets_stay, stays, users_stay}
 use Rattle.trail_again.proofs.Wording.{HasName}
-use Rattle.acl.specs.declared.bits.Bit.TheVariants.{Execute, Read, Write}
-use Rattle.std.specs.Prelude.{◌&&◌}
-use Rattle.trail_setup.specs.Keeping.{IsAfter}
 use Rattle.trail_setup.specs.Keeping as keeping
-use Rattle.trail_setup.specs.Masks.{has_on_all, mask_in}
-use Rattle.acl.specs.History.{may}
-use Rattle.std.specs.List.{list_any}
-use Rattle.trail_again.proofs.Lawful.{Leads as CanLeadOf}
 use Rattle.trail_again.proofs.Staging as staging
-use Rattle.trail_again.proofs.Staging.{Stage, default_off, default_stays, from_members, of_member, on_default}
-use Rattle.trail_again.proofs.Staging.{other_of, rest_off, waits}
-use Rattle.trail_again.proofs.Lawful.{given_leaders}
+use Rattle.trail_again.proofs.Staging.{Stage, default_off, default_stays, from_members, of_member, on_default, other_of}
+use Rattle.trail_again.proofs.Staging.{rest_off, waits}
 use Rattle.trail_again.proofs.Legal.{among_others}
 
 -- the mode of new locks is the one that a setup keeps

@@ -1,38 +1,22 @@
 -- Leaders and bits on commands, user by user.
-use Rattle.std.proofs.Common.{◌≡◌, ◌∙◌, ℕ, ◌≤◌, Bool, true, false, List, [], ◌∷◌, ◌++◌, refl, ap, sym, subst, map}
-use Rattle.std.proofs.Common.{if◌then◌else◌, ◌||◌, ◌&&◌, Option, Some, filter, length, arith, slice_index_or}
-use Rattle.std.specs.List.{AllByRecursion, flat_map}
-use Rattle.std.proofs.lemmas.List.{append-nil}
-use Rattle.acl.specs.command_name.TheConstants.CommandName.{ALL}
-use Rattle.acl.specs.declared.act.Act.{Act}
+use Rattle.trail_again.proofs.Vocabulary.{◌≡◌, ◌∙◌, ℕ, ◌≤◌, Bool, true, false, List, [], ◌∷◌, ◌++◌, refl, ap, sym}
+use Rattle.trail_again.proofs.Vocabulary.{subst, map, if◌then◌else◌, ◌||◌, ◌&&◌, Option, Some, filter, length, arith}
+use Rattle.trail_again.proofs.Vocabulary.{slice_index_or, AllByRecursion, flat_map, append-nil, ALL, Act, Command, Bit}
+use Rattle.trail_again.proofs.Vocabulary.{Execute, Read, Write, CommandName, Edition, UserId, History, among}
+use Rattle.trail_again.proofs.Vocabulary.{followed_by, has, leaders_of, users_of, same_user, followed_by-append}
+use Rattle.trail_again.proofs.Vocabulary.{same_user-sym, same_user-true, bit_in, session_after, Object}
 use Rattle.acl.specs.declared.act.Act.TheVariants as act
-use Rattle.acl.specs.declared.act.Object.TheVariants.{Command}
-use Rattle.acl.specs.declared.bits.Bit.{Bit}
-use Rattle.acl.specs.declared.bits.Bit.TheVariants.{Execute, Read, Write}
-use Rattle.acl.specs.declared.command_name.CommandName.{CommandName}
-use Rattle.acl.specs.declared.leaders.Edition.{Edition}
-use Rattle.acl.specs.declared.user_id.UserId.{UserId}
-use Rattle.acl.specs.History.{History, among, followed_by, has, leaders_of, users_of}
-use Rattle.acl.specs.Same.{same_user}
-use Rattle.acl.proofs.FollowingLemmas.{followed_by-append, same_user-sym}
-use Rattle.acl.proofs.StandsForLemmas.{same_user-true}
 use Rattle.trail_setup.specs.Giving.{all_given, given_line, has_just, leader_line, lines_of, own_bits, same_bits}
-use Rattle.trail_setup.specs.Keeping.{bit_in}
-use Rattle.trail_again.specs.Taking.{session_after}
-use Rattle.trail_again.proofs.Blocks.{group_acts}
+use Rattle.trail_again.proofs.Blocks.{group_acts, grouped_value, sets_without}
 use Rattle.trail_again.proofs.Commands.{all_there, among_commands, among_filtered}
-use Rattle.trail_again.proofs.Lawful.{others_of}
+use Rattle.trail_again.proofs.Lawful.{others_of, given_leaders}
 use Rattle.trail_again.proofs.Leading.{Leads, leads_nothing, leads_same, leads_then}
 use Rattle.trail_again.proofs.Masking.{pick_is}
 use Rattle.trail_again.proofs.Putting.{CanLead, PartsLead, all_acts, given_acts, given_part, just_keeps, leaders_lead}
 use Rattle.trail_again.proofs.Putting.{parts_nothing, parts_then}
 use Rattle.trail_again.proofs.SetupLines.{IsNamedOther, changes_of}
 use Rattle.trail_again.proofs.Setting.{Distinct, keyed, object_among, sets_value}
-use Rattle.trail_again.proofs.Touching.{Without, on_users, stays, users_stay}
-use Rattle.trail_again.proofs.Touching.{none_flat}
-use Rattle.trail_again.proofs.Blocks.{grouped_value, sets_without}
-use Rattle.trail_again.proofs.Lawful.{given_leaders}
-use Rattle.acl.specs.declared.act.Object.{Object}
+use Rattle.trail_again.proofs.Touching.{Without, on_users, stays, users_stay, none_flat}
 
 -- ---- leaders
 

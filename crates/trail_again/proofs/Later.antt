@@ -1,27 +1,17 @@
 -- What is for later: comments, which a session isn't given.
-use Rattle.std.proofs.Common.{◌≡◌, ◌∙◌, ℕ, Bool, true, false, List, [], ◌∷◌, ◌++◌, refl, ap, subst, codes}
-use Rattle.std.proofs.Common.{if◌then◌else◌, ◌||◌, Option, Some, None, append_assoc, arith, slice_index_or}
-use Rattle.std.specs.List.{AllByRecursion, flat_map}
-use Rattle.std.proofs.lemmas.Bool.Decides.{nat_tests}
-use Rattle.acl.specs.declared.leaders.Edition.{Edition}
-use Rattle.acl.specs.declared.user_id.UserId.{UserId}
-use Rattle.acl.specs.History.{History}
-use Rattle.acl.specs.Names.{is_name_byte, name_of}
-use Rattle.program_words.specs.SetupLines.{is_feed}
-use Rattle.session.specs.Tables.{Tables}
-use Rattle.trail_setup.specs.Giving.{Part}
-use Rattle.trail_setup.specs.Lines.{bits_text, given_text, line}
-use Rattle.trail_setup.specs.Masks.{Known, are_any, is_first, is_lent, lent_text, mask_kind, mask_parts, other_head}
-use Rattle.trail_setup.specs.Masks.{other_parts, owner_head, parts_by, said_bits, word_of, words_in, words_of}
-use Rattle.trail_setup.specs.Setup.{later_parts, later_start, mode_text}
+use Rattle.trail_again.proofs.Vocabulary.{◌≡◌, ◌∙◌, ℕ, Bool, true, false, List, [], ◌∷◌, ◌++◌, refl, ap, subst, codes}
+use Rattle.trail_again.proofs.Vocabulary.{if◌then◌else◌, ◌||◌, Option, Some, None, append_assoc, arith, slice_index_or}
+use Rattle.trail_again.proofs.Vocabulary.{AllByRecursion, flat_map, nat_tests, Edition, UserId, History, is_name_byte}
+use Rattle.trail_again.proofs.Vocabulary.{name_of, is_feed, Tables, Part, bits_text, given_text, line, Known, are_any}
+use Rattle.trail_again.proofs.Vocabulary.{is_first, is_lent, lent_text, mask_kind, mask_parts, other_head, other_parts}
+use Rattle.trail_again.proofs.Vocabulary.{owner_head, parts_by, said_bits, word_of, words_in, words_of, later_parts}
+use Rattle.trail_again.proofs.Vocabulary.{later_start, mode_text, session_after, same_user}
 use Rattle.trail_setup.specs.declared.mode.ModeSeen.{ModeSeen}
 use Rattle.trail_setup.specs.declared.mode.ModeSeen.TheVariants.{Multiuser, Single, Unsaid}
-use Rattle.trail_again.specs.Taking.{session_after}
 use Rattle.trail_again.proofs.Leading.{Leads, comments_lead, leads_comment, leads_nothing, leads_then}
 use Rattle.trail_again.proofs.Putting.{PartsLead, lines_part, parts_nothing, parts_then, text_part}
 use Rattle.trail_again.proofs.Reading.{Free, free_append, free_from}
 use Rattle.trail_again.proofs.Wording.{HasName, name_text_is}
-use Rattle.acl.specs.Same.{same_user}
 
 -- bytes without a line feed
 abbrev Whole : List ℕ → Type 0

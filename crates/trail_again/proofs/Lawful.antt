@@ -1,20 +1,11 @@
 -- What users and leaders are like after acts each of which may come after those before it.
-use Rattle.std.proofs.Common.{◌≡◌, ◌∙◌, ◌+◌, ◌<◌, ◌≤◌, Bool, true, false, not, List, [], ◌∷◌, ◌++◌, refl, ap, sym}
-use Rattle.std.proofs.Common.{subst}
-use Rattle.std.proofs.Common.{◌||◌, ◌&&◌, if◌then◌else◌, Option, Some, None, length, filter, arith, cond}
-use Rattle.std.proofs.Common.{length-append, append_assoc}
-use Rattle.std.specs.List.{AllByRecursion}
-use Rattle.std.proofs.lemmas.List.{append-nil}
+use Rattle.trail_again.proofs.Vocabulary.{◌≡◌, ◌∙◌, ◌+◌, ◌<◌, ◌≤◌, Bool, true, false, not, List, [], ◌∷◌, ◌++◌, refl}
+use Rattle.trail_again.proofs.Vocabulary.{ap, sym, subst, ◌||◌, ◌&&◌, if◌then◌else◌, Option, Some, None, length, filter}
+use Rattle.trail_again.proofs.Vocabulary.{arith, cond, length-append, append_assoc, AllByRecursion, append-nil, Edition}
+use Rattle.trail_again.proofs.Vocabulary.{First, Second, UserId, USERS, History, among, leaders_of, leaders_with}
+use Rattle.trail_again.proofs.Vocabulary.{users_of, without_user, same_user, same_user-sym, same_user-true}
 use Rattle.std.proofs.lemmas.List.Folds.{list_any-append}
 use Rattle.acl.specs.declared.act.Act.TheVariants as act
-use Rattle.acl.specs.declared.leaders.Edition.{Edition}
-use Rattle.acl.specs.declared.leaders.Edition.TheVariants.{First, Second}
-use Rattle.acl.specs.declared.user_id.UserId.{UserId}
-use Rattle.acl.specs.slots.TheConstants.{USERS}
-use Rattle.acl.specs.History.{History, among, leaders_of, leaders_with, users_of, without_user}
-use Rattle.acl.specs.Same.{same_user}
-use Rattle.acl.proofs.FollowingLemmas.{same_user-sym}
-use Rattle.acl.proofs.StandsForLemmas.{same_user-true}
 use Rattle.trail_again.proofs.Setting.{Distinct}
 
 -- ---- lists of users

@@ -1,25 +1,15 @@
 -- Lines of a setup, one after another, lead a session from tables to tables.
-use Rattle.std.proofs.Common.{◌≡◌, ◌∙◌, ℕ, ◌+◌, ◌≤◌, Bool, true, false, List, [], ◌∷◌, ◌++◌, refl, ap, sym, map, subst}
-use Rattle.std.proofs.Common.{if◌then◌else◌, Option, Some, None, length, append_assoc, arith, length-append}
-use Rattle.std.specs.Prelude.{nat_lt}
-use Rattle.std.specs.List.{AllByRecursion, flat_map, slice_split}
-use Rattle.std.specs.Option.{option_or}
-use Rattle.std.specs.Str.{is_utf8}
-use Rattle.std.proofs.lemmas.Bool.Decides.{nat_tests}
-use Rattle.std.proofs.lemmas.List.{append-nil}
-use Rattle.acl.specs.declared.act.Act.{Act}
-use Rattle.acl.specs.declared.leaders.Edition.{Edition}
-use Rattle.acl.specs.declared.user_id.UserId.{UserId}
-use Rattle.acl.specs.History.{History, followed_by}
-use Rattle.acl.proofs.FollowingLemmas.{followed_by-append}
-use Rattle.session.specs.Tables.{Tables}
+use Rattle.trail_again.proofs.Vocabulary.{◌≡◌, ◌∙◌, ℕ, ◌+◌, ◌≤◌, Bool, true, false, List, [], ◌∷◌, ◌++◌, refl, ap, sym}
+use Rattle.trail_again.proofs.Vocabulary.{map, subst, if◌then◌else◌, Option, Some, None, length, append_assoc, arith}
+use Rattle.trail_again.proofs.Vocabulary.{length-append, nat_lt, AllByRecursion, flat_map, slice_split, option_or}
+use Rattle.trail_again.proofs.Vocabulary.{is_utf8, nat_tests, append-nil, Act, Edition, UserId, History, followed_by}
+use Rattle.trail_again.proofs.Vocabulary.{followed_by-append, Tables, is_feed, command_of, spoken, Kind, PutsLines}
+use Rattle.trail_again.proofs.Vocabulary.{line, AreTaken, session_after}
 use Rattle.session.specs.Trace.{Command, EventValue}
 use Rattle.program_words.specs.declared.setup.SetupFault.{SetupFault}
 use Rattle.program_words.specs.declared.setup.SetupFault.TheVariants.{NotText, TooLong}
-use Rattle.program_words.specs.SetupLines.{Line, commands_from, fault_of, first_fault, is_feed, is_skipped, numbered}
-use Rattle.session.specs.Setup.{command_of, spoken}
-use Rattle.trail_setup.specs.Lines.{Kind, PutsLines, begun, line, on_lines}
-use Rattle.trail_again.specs.Taking.{AreTaken, session_after}
+use Rattle.program_words.specs.SetupLines.{Line, commands_from, fault_of, first_fault, is_skipped, numbered}
+use Rattle.trail_setup.specs.Lines.{begun, on_lines}
 use Rattle.trail_again.proofs.Doing.{IsTaken}
 use Rattle.trail_again.proofs.Reading.{Free, split_at}
 

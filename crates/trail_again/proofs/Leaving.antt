@@ -1,28 +1,18 @@
 -- What openers leave: closed masks, and otherwise what was there.
-use Rattle.std.proofs.Common.{◌≡◌, ◌∙◌, Bool, true, false, List, [], ◌∷◌, ◌++◌, refl, ap, sym, subst}
-use Rattle.std.proofs.Common.{if◌then◌else◌, ◌||◌, ◌&&◌, None, append_assoc, unwrap_or}
-use Rattle.std.specs.List.{flat_map}
-use Rattle.acl.specs.declared.act.Act.{Act}
+use Rattle.trail_again.proofs.Vocabulary.{◌≡◌, ◌∙◌, Bool, true, false, List, [], ◌∷◌, ◌++◌, refl, ap, sym, subst}
+use Rattle.trail_again.proofs.Vocabulary.{if◌then◌else◌, ◌||◌, ◌&&◌, None, append_assoc, unwrap_or, flat_map, Act}
+use Rattle.trail_again.proofs.Vocabulary.{Object, Command, Bit, Execute, Read, Write, UserId, History, among, decided}
+use Rattle.trail_again.proofs.Vocabulary.{followed_by, has, mask, same_bit, same_object, same_user, followed_by-append}
+use Rattle.trail_again.proofs.Vocabulary.{same_user-true, bit_in, Known, all_bits, are_any, closed_bits, differing}
+use Rattle.trail_again.proofs.Vocabulary.{is_first, said_bits, words_of, First}
 use Rattle.acl.specs.declared.act.Act.TheVariants as act
-use Rattle.acl.specs.declared.act.Object.{Object}
-use Rattle.acl.specs.declared.act.Object.TheVariants.{Command}
-use Rattle.acl.specs.declared.bits.Bit.{Bit}
-use Rattle.acl.specs.declared.bits.Bit.TheVariants.{Execute, Read, Write}
 use Rattle.acl.specs.declared.command_name.CommandName.TheVariants as name
-use Rattle.acl.specs.declared.user_id.UserId.{UserId}
-use Rattle.acl.specs.History.{History, among, decided, followed_by, has, mask}
-use Rattle.acl.specs.Same.{same_bit, same_object, same_user}
-use Rattle.acl.proofs.FollowingLemmas.{followed_by-append}
-use Rattle.acl.proofs.StandsForLemmas.{same_user-true}
-use Rattle.trail_setup.specs.Keeping.{bit_in}
-use Rattle.trail_setup.specs.Masks.{Known, all_bits, are_any, closed_bits, differing, is_first, said_bits, words_of}
 use Rattle.trail_again.proofs.Blocks.{HasNothing}
-use Rattle.trail_again.proofs.Masking.{around, bit_said, lent_bit, masks_off, nothing_said, one_said, opener_acts}
-use Rattle.trail_again.proofs.Masking.{said, said_of}
+use Rattle.trail_again.proofs.Masking.{around, bit_said, lent_bit, masks_off, nothing_said, one_said, opener_acts, said}
+use Rattle.trail_again.proofs.Masking.{said_of}
 use Rattle.trail_again.proofs.Openers.{Said, acts_for}
 use Rattle.trail_again.proofs.Setting.{Distinct, keyed}
 use Rattle.trail_again.proofs.Touching.{Without, commands_stay, none_append, none_flat, on_commands, stays}
-use Rattle.acl.specs.declared.leaders.Edition.TheVariants.{First}
 
 flat_acts : (by : UserId) (xs ys : List Said)
     → flat_map (acts_for by) (xs ++ ys) ≡ flat_map (acts_for by) xs ++ flat_map (acts_for by) ys

@@ -1,24 +1,13 @@
 -- Acts each of which may come after those before it keep users and leaders lawful.
-use Rattle.std.proofs.Common.{◌≡◌, ◌∙◌, ℕ, ◌<◌, ◌≤◌, Bool, true, false, not, List, [], ◌∷◌, refl, ap, sym, subst}
-use Rattle.std.proofs.Common.{◌||◌, ◌&&◌, if◌then◌else◌, Option, Some, None, length, arith}
-use Rattle.std.specs.Prelude.{nat_le, nat_lt, is_none}
-use Rattle.std.specs.Option.{option_or}
-use Rattle.std.proofs.lemmas.Bool.Decides.{nat_tests}
-use Rattle.acl.specs.declared.act.Act.{Act}
+use Rattle.trail_again.proofs.Vocabulary.{◌≡◌, ◌∙◌, ℕ, ◌<◌, ◌≤◌, Bool, true, false, not, List, [], ◌∷◌, refl, ap, sym}
+use Rattle.trail_again.proofs.Vocabulary.{subst, ◌||◌, ◌&&◌, if◌then◌else◌, Option, Some, None, length, arith, nat_le}
+use Rattle.trail_again.proofs.Vocabulary.{nat_lt, is_none, option_or, nat_tests, Act, Edition, First, Second, UserId}
+use Rattle.trail_again.proofs.Vocabulary.{USERS, History, among, followed_by, leaders_of, leaders_with, users_of}
+use Rattle.trail_again.proofs.Vocabulary.{same_user, same_user-sym, AclFault, NoSuchGroup, OwnerKept, TooManyGroups}
+use Rattle.trail_again.proofs.Vocabulary.{TooManyUsers, UnknownUser, known_name_fault, CanFollow, can_follow}
 use Rattle.acl.specs.declared.act.Act.TheVariants as act
-use Rattle.acl.specs.declared.leaders.Edition.{Edition}
-use Rattle.acl.specs.declared.leaders.Edition.TheVariants.{First, Second}
-use Rattle.acl.specs.declared.user_id.UserId.{UserId}
-use Rattle.acl.specs.slots.TheConstants.{USERS}
-use Rattle.acl.specs.History.{History, among, followed_by, leaders_of, leaders_with, users_of}
-use Rattle.acl.specs.Same.{same_user}
-use Rattle.acl.proofs.FollowingLemmas.{same_user-sym}
-use Rattle.acl.specs.declared.entries.AclFault.{AclFault}
-use Rattle.acl.specs.declared.entries.AclFault.TheVariants.{NoSuchGroup, OwnerKept, TooManyGroups, TooManyUsers}
-use Rattle.acl.specs.declared.entries.AclFault.TheVariants.{UnknownUser}
 use Rattle.acl.specs.declared.entries.NewLeader.TheVariants.{Named}
-use Rattle.acl.specs.Commands.{known_name_fault, leader_fault, new_name_fault}
-use Rattle.hub.specs.Judging.{CanFollow, can_follow}
+use Rattle.acl.specs.Commands.{leader_fault, new_name_fault}
 use Rattle.trail_again.proofs.Lawful.{AreLeaders, Fits, Good, IsLawful, one_grouped, one_less, one_more}
 
 -- ---- acts of a legal trail

@@ -1,3 +1,4 @@
+pub mod Vocabulary
 pub mod Touching
 pub mod Setting
 pub mod Lawful

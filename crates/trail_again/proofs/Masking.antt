@@ -1,40 +1,25 @@
 -- The lines by which openers close their masks.
-use Rattle.std.proofs.Common.{◌≡◌, ◌∙◌, ℕ, Bool, true, false, List, [], ◌∷◌, ◌++◌, refl, ap, sym, subst, map, codes}
-use Rattle.std.proofs.Common.{if◌then◌else◌, ◌||◌, ◌&&◌, Option, Some, None, append_assoc, unwrap_or, slice_index_or}
-use Rattle.std.specs.List.{flat_map, list_any}
-use Rattle.std.proofs.lemmas.List.{append-nil}
-use Rattle.acl.specs.declared.act.Act.{Act}
+use Rattle.trail_again.proofs.Vocabulary.{◌≡◌, ◌∙◌, ℕ, Bool, true, false, List, [], ◌∷◌, ◌++◌, refl, ap, sym, subst}
+use Rattle.trail_again.proofs.Vocabulary.{map, codes, if◌then◌else◌, ◌||◌, ◌&&◌, Option, Some, None, append_assoc}
+use Rattle.trail_again.proofs.Vocabulary.{unwrap_or, slice_index_or, flat_map, list_any, append-nil, Act, Command, Bit}
+use Rattle.trail_again.proofs.Vocabulary.{Execute, Read, Write, CommandName, Edition, UserId, History, among}
+use Rattle.trail_again.proofs.Vocabulary.{followed_by, has, is_known, mask, may, users_of, decided, leaders_of, name_of}
+use Rattle.trail_again.proofs.Vocabulary.{same_bit, same_user, same_object, followed_by-append, same_user-sym}
+use Rattle.trail_again.proofs.Vocabulary.{same_user-refl, Part, PutsLines, Known, are_any, is_first, is_lent, lent_text}
+use Rattle.trail_again.proofs.Vocabulary.{mask_kind, other_head, other_parts, owner_head, parts_by, said_bits, word_of}
+use Rattle.trail_again.proofs.Vocabulary.{words_in, words_of, session_after, bit_in}
 use Rattle.acl.specs.declared.act.Act.TheVariants as act
-use Rattle.acl.specs.declared.act.Object.TheVariants.{Command}
-use Rattle.acl.specs.declared.bits.Bit.{Bit}
-use Rattle.acl.specs.declared.bits.Bit.TheVariants.{Execute, Read, Write}
-use Rattle.acl.specs.declared.command_name.CommandName.{CommandName}
 use Rattle.acl.specs.declared.command_name.CommandName.TheVariants as name
-use Rattle.acl.specs.declared.leaders.Edition.{Edition}
-use Rattle.acl.specs.declared.user_id.UserId.{UserId}
-use Rattle.acl.specs.History.{History, among, followed_by, has, is_known, mask, may, users_of}
-use Rattle.acl.specs.Names.{name_of}
-use Rattle.acl.specs.Same.{same_bit, same_user}
-use Rattle.acl.proofs.FollowingLemmas.{followed_by-append, same_user-sym}
-use Rattle.acl.proofs.StandsForLemmas.{same_user-refl}
-use Rattle.trail_setup.specs.Giving.{Part}
-use Rattle.trail_setup.specs.Lines.{PutsLines}
-use Rattle.trail_setup.specs.Masks.{Known, are_any, is_first, is_lent, lent_text, mask_kind, other_head}
-use Rattle.trail_setup.specs.Masks.{other_parts, owner_head, parts_by, said_bits, word_of, words_in, words_of}
-use Rattle.trail_again.specs.Taking.{session_after}
 use Rattle.trail_again.proofs.Blocks.{masks_without}
 use Rattle.trail_again.proofs.Leading.{EachLeads, Leads, lines_lead}
-use Rattle.trail_again.proofs.Openers.{AreOthers, Said, acts_for, lends, lent_act, owner_masks, takes_back}
-use Rattle.trail_again.proofs.Openers.{user_masks, word_for}
+use Rattle.trail_again.proofs.Openers.{AreOthers, Said, acts_for, lends, lent_act, owner_masks, takes_back, user_masks}
+use Rattle.trail_again.proofs.Openers.{word_for}
 use Rattle.trail_again.proofs.Putting.{PartsLead, lines_part, parts_nothing, parts_then, text_part}
 use Rattle.trail_again.proofs.Saying.{said_by}
 use Rattle.trail_again.proofs.SetupLines.{IsNamedOther, changes_of}
 use Rattle.trail_again.proofs.Setting.{mask_value, pick}
 use Rattle.trail_again.proofs.Touching.{Without, known_stays, none_append, on_users, stays, users_stay}
 use Rattle.trail_again.proofs.Wording.{HasName}
-use Rattle.acl.specs.History.{decided, leaders_of}
-use Rattle.acl.specs.Same.{same_object}
-use Rattle.trail_setup.specs.Keeping.{bit_in}
 
 -- ---- who is said what
 

@@ -1,26 +1,17 @@
 -- Users who become known by the entries of a file have names.
-use Rattle.std.proofs.Common.{◌≡◌, ◌∙◌, ℕ, zero, suc, Bool, true, false, List, [], ◌∷◌, ◌++◌, refl, ap, subst}
-use Rattle.std.proofs.Common.{if◌then◌else◌, Option, Some, None, length}
-use Rattle.std.specs.Prelude.{◌==◌, ◌-◌, ◌^◌, option_map, replicate}
-use Rattle.std.specs.List.{AllByRecursion, list_all}
-use Rattle.std.proofs.lemmas.Bool.Decides.{nat_tests}
-use Rattle.std.proofs.Common.{arith}
-use Rattle.std.specs.Str.{bytes_eq}
-use Rattle.acl.proofs.StandsForLemmas.{same_user-refl}
-use Rattle.acl.specs.declared.act.Act.{Act}
+use Rattle.trail_again.proofs.Vocabulary.{◌≡◌, ◌∙◌, ℕ, zero, suc, Bool, true, false, List, [], ◌∷◌, ◌++◌, refl, ap}
+use Rattle.trail_again.proofs.Vocabulary.{subst, if◌then◌else◌, Option, Some, None, length, arith, ◌==◌, ◌-◌, ◌^◌}
+use Rattle.trail_again.proofs.Vocabulary.{option_map, replicate, AllByRecursion, list_all, nat_tests, bytes_eq}
+use Rattle.trail_again.proofs.Vocabulary.{same_user-refl, Act, UserId, History, followed_by, users_after, users_of}
+use Rattle.trail_again.proofs.Vocabulary.{without_user, before_zero, is_name, is_name_byte, name_of, named_by}
+use Rattle.trail_again.proofs.Vocabulary.{same_user, and-parts, blank, colon, entries_in}
 use Rattle.acl.specs.declared.act.Act.TheVariants as act
-use Rattle.acl.specs.declared.user_id.UserId.{UserId}
-use Rattle.acl.specs.History.{History, followed_by, users_after, users_of, without_user}
-use Rattle.acl.specs.Names.{before_zero, is_name, is_name_byte, name_of, named_by}
-use Rattle.acl.specs.Same.{same_user}
-use Rattle.command_lang.proofs.Scalars.{and-parts}
 use Rattle.hub.specs.Trails.{Ending}
-use Rattle.line_fields.specs.Acts.{ActRow, PartKind, Value, part_in, rest_in, row_of}
+use Rattle.line_fields.specs.Acts.{ActRow, PartKind, Value, part_in, rest_in, row_of, verdict_in}
 unfoldable use Rattle.line_fields.specs.Acts.{act_in, kind_in}
 use Rattle.line_fields.specs.Cutting.{◌>>=◌, words}
 unfoldable use Rattle.line_fields.specs.Cutting.{cut}
 use Rattle.line_fields.specs.Numbers.{number_at}
-use Rattle.line_fields.specs.Parts.{blank, colon}
 use Rattle.line_fields.specs.Rows.{Maker, Values, fields_in, made_by, made_in, read_between, read_in, row}
 use Rattle.line_fields.specs.declared.acts.ActKind.{ActKind}
 use Rattle.line_fields.specs.declared.acts.ActKind.TheVariants as kind
@@ -32,8 +23,6 @@ use Rattle.trail_lines.specs.Replies.{reply_in}
 use Rattle.trail_lines.specs.Events.{event_at}
 use Rattle.trail_lines.specs.declared.entries.Remark.{Remark}
 use Rattle.trail_lines.specs.declared.entries.Remark.TheVariants as note
-use Rattle.line_fields.specs.Acts.{verdict_in}
-use Rattle.trail_rights.specs.Marks.{entries_in}
 use Rattle.trail_again.proofs.Trails.{acts_of}
 use Rattle.trail_again.proofs.Wording.{HasName, bytes_of_name}
 

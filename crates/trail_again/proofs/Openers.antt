@@ -1,50 +1,29 @@
 -- Lines by which openers mask users, and by which they are lent x on `aclumask`.
-use Rattle.std.proofs.Common.{◌≡◌, ◌∙◌, ℕ, Bool, true, false, List, [], ◌∷◌, ◌++◌, refl, ap, subst, map, codes}
-use Rattle.std.proofs.Common.{if◌then◌else◌, Some, None, arith}
-use Rattle.std.specs.List.{AllByRecursion, flat_map}
-use Rattle.std.specs.Str.{bytes_eq}
-use Rattle.std.proofs.lemmas.Bool.Decides.{nat_tests}
-use Rattle.std.proofs.lemmas.List.{append-nil}
-use Rattle.acl.specs.declared.act.Act.{Act}
+use Rattle.trail_again.proofs.Vocabulary.{◌≡◌, ◌∙◌, ℕ, Bool, true, false, List, [], ◌∷◌, ◌++◌, refl, ap, subst, map}
+use Rattle.trail_again.proofs.Vocabulary.{codes, if◌then◌else◌, Some, None, arith, cond, not, AllByRecursion, flat_map}
+use Rattle.trail_again.proofs.Vocabulary.{bytes_eq, nat_tests, append-nil, Act, Command, PresetKind, Execute, BitChange}
+use Rattle.trail_again.proofs.Vocabulary.{Edition, MaskEntry, MaskScope, UserId, History, followed_by, is_known, may}
+use Rattle.trail_again.proofs.Vocabulary.{users_of, begins_with_letter, name_of, named_by, Mask, mask_entries}
+use Rattle.trail_again.proofs.Vocabulary.{line_caller, Tables, preset_text, given_text, mask_word, session_after}
 use Rattle.acl.specs.declared.act.Act.TheVariants as act
-use Rattle.acl.specs.declared.act.Object.TheVariants.{Command}
-use Rattle.acl.specs.declared.act.PresetKind.{PresetKind}
 use Rattle.acl.specs.declared.act.PresetKind.TheVariants as preset
-use Rattle.acl.specs.declared.bits.Bit.TheVariants.{Execute}
-use Rattle.acl.specs.declared.bits.BitChange.{BitChange}
 use Rattle.acl.specs.declared.command_name.CommandName.TheVariants as name
-use Rattle.acl.specs.declared.leaders.Edition.{Edition}
-use Rattle.acl.specs.declared.entries.MaskEntry.{MaskEntry}
-use Rattle.acl.specs.declared.entries.MaskScope.{MaskScope}
 use Rattle.acl.specs.declared.entries.MaskScope.TheVariants as scope
-use Rattle.acl.specs.declared.user_id.UserId.{UserId}
 use Rattle.acl.specs.Commands.{mask_acts, mask_fault}
-use Rattle.acl.specs.History.{History, followed_by, is_known, may, users_of}
-use Rattle.acl.specs.Names.{begins_with_letter, name_of, named_by}
 use Rattle.command_lang.specs.declared.command.Command.TheVariants as command
-use Rattle.command_lang.specs.declared.command.Mask.{Mask}
 use Rattle.command_lang.specs.declared.command.Users.TheVariants as users
-use Rattle.session.specs.Commands.{mask_entries}
-use Rattle.session.specs.Lines.{line_caller}
 use Rattle.session.specs.Naming.{entries_of, word_scope}
-use Rattle.session.specs.Tables.{Tables}
-use Rattle.line_fields.specs.Parts.{preset_text}
-use Rattle.trail_setup.specs.Lines.{given_text}
-use Rattle.trail_setup.specs.Masks.{mask_word}
-use Rattle.trail_again.specs.Taking.{session_after}
 use Rattle.trail_again.proofs.Commands.{name_item, named_objects}
 use Rattle.trail_again.proofs.Doing.{acts_append, does_masks, entries_in, fault_append, here, preset_acts_of}
 use Rattle.trail_again.proofs.Doing.{preset_fault_of, user_acts_of, user_fault_of}
 use Rattle.trail_again.proofs.SetupLines.{IsNamedOther, change_leads, changes_of, given_say, known_is_fine}
-use Rattle.trail_again.proofs.SetupLines.{letter_first}
-use Rattle.trail_again.proofs.SetupLines.{name_is_item}
+use Rattle.trail_again.proofs.SetupLines.{letter_first, name_is_item}
 use Rattle.trail_again.proofs.Leading.{Leads}
 use Rattle.trail_again.proofs.Reading.{Says, line_of}
 use Rattle.trail_again.proofs.Saying.{owner_leads, said_by, user_leads}
 use Rattle.trail_again.proofs.Setting.{masks_on, presets_on}
 use Rattle.trail_again.proofs.Wording.{AllMasks, BitsSay, HasName, MaskSays, cut_mask, joined, mask_says, name_no_sign}
 use Rattle.trail_again.proofs.Wording.{name_text_is, says_masks, word_append, word_plain}
-use Rattle.std.proofs.Common.{cond, not}
 use Rattle.command_lang.specs.declared.fault.FaultKind.TheVariants.{BadBits}
 
 -- ---- masks of users

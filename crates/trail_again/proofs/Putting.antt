@@ -1,41 +1,25 @@
 -- The parts of a setup lead a session on, one after another.
-use Rattle.std.proofs.Common.{◌≡◌, ◌∙◌, ℕ, ◌+◌, ◌≤◌, Bool, true, false, List, [], ◌∷◌, ◌++◌, refl, ap, sym, subst}
-use Rattle.std.proofs.Common.{map, codes}
-use Rattle.std.proofs.Common.{if◌then◌else◌, Option, Some, None, append_assoc, arith, length, filter}
-use Rattle.std.specs.List.{AllByRecursion, flat_map, list_all}
-use Rattle.std.proofs.lemmas.List.{append-nil}
-use Rattle.acl.specs.command_name.TheConstants.CommandName.{ALL}
-use Rattle.acl.specs.declared.act.Act.{Act}
+use Rattle.trail_again.proofs.Vocabulary.{◌≡◌, ◌∙◌, ℕ, ◌+◌, ◌≤◌, Bool, true, false, List, [], ◌∷◌, ◌++◌, refl, ap, sym}
+use Rattle.trail_again.proofs.Vocabulary.{subst, map, codes, if◌then◌else◌, Option, Some, None, append_assoc, arith}
+use Rattle.trail_again.proofs.Vocabulary.{length, filter, AllByRecursion, flat_map, list_all, append-nil, ALL, Act}
+use Rattle.trail_again.proofs.Vocabulary.{LockMode, Command, PresetKind, CommandName, Edition, UserId, sets, sets_on}
+use Rattle.trail_again.proofs.Vocabulary.{History, followed_by, leaders_of, leaders_with, users_of, among, name_of}
+use Rattle.trail_again.proofs.Vocabulary.{same_user, name_text, preset_text, every_command, Tables, fresh, Part}
+use Rattle.trail_again.proofs.Vocabulary.{PutsLines, given_text, line, Kind, session_after, BitChange, Object}
+use Rattle.trail_again.proofs.Vocabulary.{same_user-refl}
 use Rattle.acl.specs.declared.act.Act.TheVariants as act
-use Rattle.acl.specs.declared.act.LockMode.{LockMode}
 use Rattle.acl.specs.declared.act.LockMode.TheVariants as lock_mode
-use Rattle.acl.specs.declared.act.Object.TheVariants.{Command}
-use Rattle.acl.specs.declared.act.PresetKind.{PresetKind}
 use Rattle.acl.specs.declared.act.PresetKind.TheVariants as preset
-use Rattle.acl.specs.declared.command_name.CommandName.{CommandName}
 use Rattle.acl.specs.declared.command_name.CommandName.TheVariants as name
-use Rattle.acl.specs.declared.leaders.Edition.{Edition}
-use Rattle.acl.specs.declared.user_id.UserId.{UserId}
-use Rattle.acl.specs.Commands.{sets, sets_on}
-use Rattle.acl.specs.History.{History, followed_by, leaders_of, leaders_with, users_of}
-use Rattle.acl.specs.Names.{name_of}
-use Rattle.acl.specs.Same.{same_user}
-use Rattle.command_lang.specs.Names.{name_text}
 use Rattle.command_lang.specs.declared.command.Command.TheVariants as command
-use Rattle.line_fields.specs.Parts.{preset_text}
-use Rattle.session.specs.Naming.{every_command}
-use Rattle.session.specs.Tables.{Tables, fresh}
 use Rattle.session.specs.Trace.{Command as Commanded}
-use Rattle.trail_setup.specs.Giving.{Part, PutsAll, default_line, first_text, given_kind, given_line, given_words}
-use Rattle.trail_setup.specs.Giving.{has_just, leader_line, preset_line, users_kind}
-use Rattle.trail_setup.specs.Lines.{PutsLines, given_text, line}
-use Rattle.trail_again.specs.Taking.{session_after}
-use Rattle.trail_again.proofs.Blocks.{name_acts, names_users, nothing}
+use Rattle.trail_setup.specs.Giving.{PutsAll, default_line, first_text, given_kind, given_line, given_words, has_just}
+use Rattle.trail_setup.specs.Giving.{leader_line, preset_line, users_kind}
+use Rattle.trail_again.proofs.Blocks.{name_acts, names_users, nothing, sets_without}
 use Rattle.trail_again.proofs.Commands.{all_kept, name_item, named_objects}
 use Rattle.trail_again.proofs.Doing.{IsTaken, here, multiuser_done}
 use Rattle.trail_again.proofs.SetupLines.{IsNamedOther, NewNames, auto_leads, change_leads, changes_of, given_say}
-use Rattle.trail_again.proofs.SetupLines.{group_leads}
-use Rattle.trail_again.proofs.SetupLines.{later_names, mark_item, names_lead, off_bits, on_leads}
+use Rattle.trail_again.proofs.SetupLines.{group_leads, later_names, mark_item, names_lead, off_bits, on_leads}
 use Rattle.trail_again.proofs.Lawful.{room_with}
 use Rattle.trail_again.proofs.Leading.{Brings, EachLeads, Leads, leads_line, leads_nothing, leads_then, lines_lead}
 use Rattle.trail_again.proofs.Openers.{both_presets, preset_leads}
@@ -43,13 +27,7 @@ use Rattle.trail_again.proofs.Reading.{line_of, reads}
 use Rattle.trail_again.proofs.Saying.{not_skipped, of_owner, whole_line}
 use Rattle.trail_again.proofs.Setting.{presets_on}
 use Rattle.trail_again.proofs.Wording.{IsItem, joined, says_multiuser}
-use Rattle.trail_setup.specs.Lines.{Kind}
-use Rattle.acl.specs.History.{among}
-use Rattle.acl.specs.declared.bits.BitChange.{BitChange}
-use Rattle.acl.specs.declared.act.Object.{Object}
 use Rattle.trail_again.proofs.Touching.{on_users, stays, users_stay}
-use Rattle.trail_again.proofs.Blocks.{sets_without}
-use Rattle.acl.proofs.StandsForLemmas.{same_user-refl}
 
 -- ---- bytes, one after another
 

@@ -1,14 +1,14 @@
 -- A line of plain words is read as the command that its words mean.
-use Rattle.std.proofs.Common.{◌≡◌, ◌∙◌, ℕ, ◌≤◌, ◌<◌, Bool, true, false, not, cond, List, [], ◌∷◌, ◌++◌, refl, ap, sym}
-use Rattle.std.proofs.Common.{◌&&◌, if◌then◌else◌, Some, Ok, length, arith, subst}
-use Rattle.std.specs.Option.{option_and_then}
-use Rattle.std.specs.List.{AllByRecursion, flat_map, list_all, onto_first, slice_split}
-use Rattle.std.specs.Str.{IsAscii, chars}
-use Rattle.std.proofs.lemmas.Bool.Decides.{nat_tests}
+use Rattle.trail_again.proofs.Vocabulary.{◌≡◌, ◌∙◌, ℕ, ◌≤◌, ◌<◌, Bool, true, false, not, cond, List, [], ◌∷◌, ◌++◌}
+use Rattle.trail_again.proofs.Vocabulary.{refl, ap, sym, ◌&&◌, if◌then◌else◌, Some, Ok, length, arith, subst}
+use Rattle.trail_again.proofs.Vocabulary.{option_and_then, AllByRecursion, flat_map, list_all, slice_split, IsAscii}
+use Rattle.trail_again.proofs.Vocabulary.{chars, nat_tests, CommandName, command_named, name_text, is_plain}
+use Rattle.trail_again.proofs.Vocabulary.{printed_word, printed_words, quoted, read_line, is_empty_text, Fits}
+use Rattle.trail_again.proofs.Vocabulary.{no_faults, AllText, and-parts}
+use Rattle.std.specs.List.{onto_first}
 use Rattle.std.proofs.lemmas.List.Splits.{slice_split-cons_no, slice_split-cons_yes}
 use Rattle.std.proofs.lemmas.Str.{IsAscii-append, IsUtf8-from_ascii, chars-IsAscii}
 use Rattle.std.proofs.lemmas.Str.Ascii.{IsAscii-cons, IsAscii-nil}
-use Rattle.acl.specs.declared.command_name.CommandName.{CommandName}
 use Rattle.acl.specs.declared.command_name.CommandName.TheVariants as name
 use Rattle.strings.specs.Grammar.{IsCut}
 use Rattle.strings.specs.declared.text.Word.{Word}
@@ -16,18 +16,11 @@ use Rattle.command_lang.specs.declared.command.Command.{Command}
 use Rattle.command_lang.specs.declared.fault.FaultKind.TheVariants as faults
 use Rattle.command_lang.specs.LineFaults.{line_faults, named_faults}
 use Rattle.command_lang.specs.Meaning.{command_of, line_command, texts_of}
-use Rattle.command_lang.specs.Names.{command_named, name_text}
-use Rattle.command_lang.specs.Printing.{is_plain, printed_word, printed_words}
-use Rattle.command_lang.specs.Relation.{read_line}
 use Rattle.command_lang.specs.Rows.{takes}
 use Rattle.command_lang.specs.Table.{at, words_faults}
-use Rattle.command_lang.specs.Values.{is_empty_text}
-use Rattle.command_lang.proofs.Fits.{Fits, no_faults}
 use Rattle.command_lang.proofs.OneReading.{relates-reads}
-use Rattle.command_lang.proofs.Scalars.{AllText, and-parts}
 use Rattle.command_lang.proofs.Spelled.{line-spells}
 use Rattle.command_lang.proofs.Whole.{relates}
-use Rattle.command_lang.specs.Printing.{quoted}
 
 -- ---- words
 

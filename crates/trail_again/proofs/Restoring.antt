@@ -1,43 +1,26 @@
 -- A new session that takes the lines of a setup has what the setup says.
-use Rattle.std.proofs.Common.{◌≡◌, ◌∙◌, ℕ, true, false, List, [], ◌∷◌, ◌++◌, refl, sym, subst, map}
-use Rattle.std.proofs.Common.{if◌then◌else◌}
-use Rattle.std.specs.List.{AllByRecursion, flat_map}
-use Rattle.std.proofs.lemmas.List.{append-nil}
-use Rattle.acl.specs.declared.act.Act.{Act}
-use Rattle.acl.specs.declared.bits.Bit.{Bit}
-use Rattle.acl.specs.declared.leaders.Edition.{Edition}
-use Rattle.acl.specs.declared.user_id.UserId.{UserId}
-use Rattle.acl.specs.History.{History, among, followed_by, mask, users_of}
-use Rattle.acl.specs.Names.{name_of}
-use Rattle.acl.specs.Same.{same_user}
-use Rattle.session.specs.Tables.{fresh}
-use Rattle.trail_again.specs.Restored.{IsRestored, Restores, SetupRestores}
-use Rattle.trail_setup.specs.Giving.{Part, PutsAll, first_text, leader_lines, lines_of}
-use Rattle.trail_setup.specs.Giving.{users_kind}
-use Rattle.trail_setup.specs.Keeping.{IsAfter, bit_in}
-use Rattle.trail_setup.specs.Masks.{Known, closed_bits, mask_parts, said_bits}
-use Rattle.trail_setup.specs.Setup.{later_parts, others_of, parts_for, state_parts}
-use Rattle.trail_setup.specs.declared.state.SetupState.{SetupState}
-use Rattle.trail_again.specs.Taking.{AreTaken, session_after}
-use Rattle.trail_again.proofs.Blocks.{OpenMasks, is_masking}
-use Rattle.trail_again.proofs.Blocks.{open_after}
+use Rattle.trail_again.proofs.Vocabulary.{◌≡◌, ◌∙◌, ℕ, true, false, List, [], ◌∷◌, ◌++◌, refl, sym, subst, map}
+use Rattle.trail_again.proofs.Vocabulary.{if◌then◌else◌, AllByRecursion, flat_map, append-nil, Act, Bit, Edition}
+use Rattle.trail_again.proofs.Vocabulary.{UserId, History, among, followed_by, mask, users_of, name_of, same_user}
+use Rattle.trail_again.proofs.Vocabulary.{fresh, IsRestored, Restores, SetupRestores, Part, IsAfter, bit_in, Known}
+use Rattle.trail_again.proofs.Vocabulary.{closed_bits, mask_parts, said_bits, later_parts, others_of, parts_for}
+use Rattle.trail_again.proofs.Vocabulary.{state_parts, SetupState, AreTaken, session_after, CanFollow, entries_in}
+use Rattle.trail_setup.specs.Giving.{PutsAll, first_text, leader_lines, lines_of, users_kind}
+use Rattle.trail_again.proofs.Blocks.{OpenMasks, is_masking, open_after}
 use Rattle.trail_again.proofs.Lawful.{IsLawful, not_owner}
 use Rattle.trail_again.proofs.Leading.{Brings, IsRead, events}
 use Rattle.trail_again.proofs.Leaving.{closed_left, openers_left}
-use Rattle.hub.specs.Judging.{CanFollow}
-use Rattle.trail_rights.specs.Marks.{entries_in}
 use Rattle.trail_again.proofs.Named.{IfOther, IsNaming, all_named, known_named, others_named}
 use Rattle.trail_again.proofs.Trails.{acts_of, good_follow, marked_acts}
 use Rattle.trail_again.proofs.Legal.{lawful, lawful_first}
 use Rattle.trail_again.proofs.Masking.{bit_said}
-use Rattle.trail_again.proofs.Putting.{brings_text, brings_then}
-use Rattle.trail_again.proofs.Putting.{first_leads, names_part, parts_then}
+use Rattle.trail_again.proofs.Putting.{brings_text, brings_then, first_leads, names_part, parts_then}
 use Rattle.trail_again.proofs.SetupLines.{NewNames}
 use Rattle.trail_again.proofs.Wording.{HasName}
 use Rattle.trail_again.proofs.Ending.{rest_parts, restored}
 use Rattle.trail_again.proofs.Staging as staging
-use Rattle.trail_again.proofs.Staging.{Stage, all_open, first_stage, from_members, masked_stage, named_stage}
-use Rattle.trail_again.proofs.Staging.{names_off, openers_lead, or_true}
+use Rattle.trail_again.proofs.Staging.{Stage, all_open, first_stage, from_members, masked_stage, named_stage, names_off}
+use Rattle.trail_again.proofs.Staging.{openers_lead, or_true}
 
 module _ (edition : Edition) (owner : UserId) (acts from : History) (s : SetupState) (others : List UserId)
     (l : IsLawful edition owner acts others) (named : AllByRecursion HasName others) where

@@ -1,32 +1,15 @@
 -- A line that says a command leads to where the command's acts lead.
-use Rattle.std.proofs.Common.{◌≡◌, ◌∙◌, ℕ, suc, ◌+◌, ◌<◌, Bool, true, false, not, cond, List, [], ◌∷◌, ◌++◌, refl, ap}
-use Rattle.std.proofs.Common.{sym, subst}
-use Rattle.std.proofs.Common.{Some, None, Ok, length, arith, drop, length-append}
-use Rattle.std.specs.Prelude.{nat_lt}
+use Rattle.trail_again.proofs.Vocabulary.{◌≡◌, ◌∙◌, ℕ, suc, ◌+◌, ◌<◌, Bool, true, false, not, cond, List, [], ◌∷◌, ◌++◌}
+use Rattle.trail_again.proofs.Vocabulary.{refl, ap, sym, subst, Some, None, Ok, length, arith, drop, length-append}
+use Rattle.trail_again.proofs.Vocabulary.{nat_lt, take-append_seam, nat_tests, Act, Execute, CommandName, Edition}
+use Rattle.trail_again.proofs.Vocabulary.{UserId, History, followed_by, is_known, may, begins_with_letter, is_name_byte}
+use Rattle.trail_again.proofs.Vocabulary.{name_of, Order, order_name, needs, is_plain, is_feed, checks_by, first_fault}
+use Rattle.trail_again.proofs.Vocabulary.{does, acting, line_caller, if_named, if_spoken, spoken, session_after}
 use Rattle.std.specs.List.{position, position_or_len}
-use Rattle.std.proofs.Math.Seq.{take-append_seam}
-use Rattle.std.proofs.lemmas.Bool.Decides.{nat_tests}
-use Rattle.acl.specs.declared.act.Act.{Act}
 use Rattle.acl.specs.declared.act.Object.TheVariants as object
-use Rattle.acl.specs.declared.bits.Bit.TheVariants.{Execute}
-use Rattle.acl.specs.declared.command_name.CommandName.{CommandName}
 use Rattle.acl.specs.declared.command_name.CommandName.TheVariants as name
-use Rattle.acl.specs.declared.leaders.Edition.{Edition}
-use Rattle.acl.specs.declared.user_id.UserId.{UserId}
-use Rattle.acl.specs.History.{History, followed_by, is_known, may}
-use Rattle.acl.specs.Names.{begins_with_letter, is_name_byte, name_of}
-use Rattle.command_lang.specs.declared.command.Command.{Command as Order}
-use Rattle.command_lang.specs.Names.{name_of as order_name}
-use Rattle.command_lang.specs.Needs.{needs}
-use Rattle.command_lang.specs.Printing.{is_plain}
-use Rattle.program_words.specs.SetupLines.{after_blank, is_colon, is_feed, is_skipped, speech_at}
-use Rattle.session.specs.Checks.{checks_by, first_fault}
-use Rattle.session.specs.Commands.{does}
-use Rattle.session.specs.Deeds.{acting}
-use Rattle.session.specs.Lines.{line_caller}
+use Rattle.program_words.specs.SetupLines.{after_blank, is_colon, is_skipped, speech_at}
 use Rattle.session.specs.Trace.{Command}
-use Rattle.session.specs.Setup.{if_named, if_spoken, spoken}
-use Rattle.trail_again.specs.Taking.{session_after}
 use Rattle.trail_again.proofs.Doing.{IsTaken, acts_done, here, owner_known, owner_may}
 use Rattle.trail_again.proofs.Leading.{Leads, leads_line}
 use Rattle.trail_again.proofs.Reading.{AreWords, Free, Says, free_append, free_from, free_line, line_of, reads}

@@ -1,20 +1,10 @@
 -- The bits that acts leave which set all three bits of one kind.
-use Rattle.std.proofs.Common.{◌≡◌, ◌∙◌, Bool, true, false, not, List, [], ◌∷◌, ◌++◌, refl, ap, map, sym}
-use Rattle.std.proofs.Common.{◌||◌, ◌&&◌, if◌then◌else◌, unwrap_or}
-use Rattle.std.specs.List.{flat_map, list_any}
-use Rattle.acl.specs.declared.act.Act.{Act}
+use Rattle.trail_again.proofs.Vocabulary.{◌≡◌, ◌∙◌, Bool, true, false, not, List, [], ◌∷◌, ◌++◌, refl, ap, map, sym}
+use Rattle.trail_again.proofs.Vocabulary.{◌||◌, ◌&&◌, if◌then◌else◌, unwrap_or, flat_map, list_any, Act, Object}
+use Rattle.trail_again.proofs.Vocabulary.{PresetKind, Bit, Read, Write, Execute, BitChange, UserId, sets, sets_on}
+use Rattle.trail_again.proofs.Vocabulary.{History, among, decided, followed_by, has, mask, preset_of, same_bit}
+use Rattle.trail_again.proofs.Vocabulary.{same_object, same_preset, same_user, followed_by-append, same_user-true}
 use Rattle.acl.specs.declared.act.Act.TheVariants as act
-use Rattle.acl.specs.declared.act.Object.{Object}
-use Rattle.acl.specs.declared.act.PresetKind.{PresetKind}
-use Rattle.acl.specs.declared.bits.Bit.{Bit}
-use Rattle.acl.specs.declared.bits.Bit.TheVariants.{Read, Write, Execute}
-use Rattle.acl.specs.declared.bits.BitChange.{BitChange}
-use Rattle.acl.specs.declared.user_id.UserId.{UserId}
-use Rattle.acl.specs.Commands.{sets, sets_on}
-use Rattle.acl.specs.History.{History, among, decided, followed_by, has, mask, preset_of}
-use Rattle.acl.specs.Same.{same_bit, same_object, same_preset, same_user}
-use Rattle.acl.proofs.FollowingLemmas.{followed_by-append}
-use Rattle.acl.proofs.StandsForLemmas.{same_user-true}
 
 -- ---- three bits
 

@@ -1,50 +1,29 @@
 -- The kinds of a setup's lines: what each leads to.
-use Rattle.std.proofs.Common.{◌≡◌, ◌∙◌, ℕ, ◌+◌, ◌≤◌, ◌<◌, Bool, true, false, not, List, [], ◌∷◌, ◌++◌, refl, ap, sym}
-use Rattle.std.proofs.Common.{subst}
-use Rattle.std.proofs.Common.{if◌then◌else◌, ◌||◌, ◌&&◌, Option, Some, None, length, map, arith, codes, append_assoc}
-use Rattle.std.proofs.Common.{length-append, slice_index_or}
-use Rattle.std.specs.Prelude.{nat_lt, nat_le}
-use Rattle.std.specs.List.{AllByRecursion, flat_map}
-use Rattle.std.specs.Option.{option_or}
-use Rattle.std.specs.Str.{bytes_eq}
-use Rattle.std.proofs.lemmas.Bool.Decides.{nat_tests}
-use Rattle.std.proofs.lemmas.List.{append-nil}
-use Rattle.acl.specs.declared.act.Act.{Act}
+use Rattle.trail_again.proofs.Vocabulary.{◌≡◌, ◌∙◌, ℕ, ◌+◌, ◌≤◌, ◌<◌, Bool, true, false, not, List, [], ◌∷◌, ◌++◌, refl}
+use Rattle.trail_again.proofs.Vocabulary.{ap, sym, subst, if◌then◌else◌, ◌||◌, ◌&&◌, Option, Some, None, length, map}
+use Rattle.trail_again.proofs.Vocabulary.{arith, codes, append_assoc, length-append, slice_index_or, nat_lt, nat_le}
+use Rattle.trail_again.proofs.Vocabulary.{AllByRecursion, flat_map, option_or, bytes_eq, nat_tests, append-nil, Act}
+use Rattle.trail_again.proofs.Vocabulary.{Object, BitChange, Edition, NoSuchGroup, OwnerKept, TooManyGroups}
+use Rattle.trail_again.proofs.Vocabulary.{TooManyUsers, UnknownUser, UserId, USERS, known_name_fault, sets, History}
+use Rattle.trail_again.proofs.Vocabulary.{among, followed_by, leaders_of, leaders_with, users_of, begins_with_letter}
+use Rattle.trail_again.proofs.Vocabulary.{name_of, named_by, is_name, same_user, line_caller, every_command, objects_of}
+use Rattle.trail_again.proofs.Vocabulary.{Tables, bits_text, given_text, session_after, same_user-sym}
 use Rattle.acl.specs.declared.act.Act.TheVariants as act
 use Rattle.acl.specs.declared.act.LockMode.TheVariants as lock_mode
-use Rattle.acl.specs.declared.act.Object.{Object}
-use Rattle.acl.specs.declared.bits.BitChange.{BitChange}
 use Rattle.acl.specs.declared.command_name.CommandName.TheVariants as name
-use Rattle.acl.specs.declared.leaders.Edition.{Edition}
 use Rattle.acl.specs.declared.entries.NewLeader.TheVariants as new_leader
-use Rattle.acl.specs.declared.entries.AclFault.TheVariants.{NoSuchGroup, OwnerKept, TooManyGroups, TooManyUsers}
-use Rattle.acl.specs.declared.entries.AclFault.TheVariants.{UnknownUser}
-use Rattle.acl.specs.declared.user_id.UserId.{UserId}
-use Rattle.acl.specs.slots.TheConstants.{USERS}
-use Rattle.acl.specs.Commands.{change_acts, change_fault, group_fault, known_name_fault, leader_fault}
-use Rattle.acl.specs.Commands.{sets, user_acts, with_name}
-use Rattle.acl.specs.History.{History, among, followed_by, leaders_of, leaders_with, users_of}
-use Rattle.acl.specs.Names.{begins_with_letter, name_of, named_by}
-use Rattle.acl.specs.Same.{same_user}
+use Rattle.acl.specs.Commands.{change_acts, change_fault, group_fault, leader_fault, user_acts, with_name}
 use Rattle.command_lang.specs.declared.command.Command.TheVariants as command
 use Rattle.command_lang.specs.declared.command.Leader.TheVariants as leader
 use Rattle.command_lang.specs.declared.command.Users.TheVariants as users
-use Rattle.session.specs.Lines.{line_caller}
-use Rattle.session.specs.Naming.{every_command, objects_of}
-use Rattle.session.specs.Tables.{Tables}
-use Rattle.trail_setup.specs.Lines.{bits_text, given_text}
-use Rattle.trail_again.specs.Taking.{session_after}
 use Rattle.trail_again.proofs.Blocks.{name_acts, nothing}
 use Rattle.trail_again.proofs.Doing.{does_change, does_group, here}
 use Rattle.trail_again.proofs.Leading.{Leads}
 use Rattle.trail_again.proofs.Reading.{line_of}
 use Rattle.trail_again.proofs.Saying.{owner_leads}
 use Rattle.trail_again.proofs.Setting.{Distinct, set_bits}
-use Rattle.trail_again.proofs.Wording.{BitsSay, HasName, IsItem, NameText, joined, name_no_comma}
-use Rattle.trail_again.proofs.Wording.{is_a_name, name_text_is, says_change, says_group}
-use Rattle.acl.proofs.FollowingLemmas.{same_user-sym}
-use Rattle.acl.specs.Names.{is_name}
-use Rattle.trail_again.proofs.Wording.{says_auto, says_on}
+use Rattle.trail_again.proofs.Wording.{BitsSay, HasName, IsItem, NameText, joined, name_no_comma, is_a_name}
+use Rattle.trail_again.proofs.Wording.{name_text_is, says_change, says_group, says_auto, says_on}
 
 -- ---- bits
 

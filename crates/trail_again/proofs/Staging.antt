@@ -1,39 +1,26 @@
 -- The lines of a setup up to the masks, and what the others leave as it is.
-use Rattle.std.proofs.Common.{◌≡◌, ◌∙◌, Bool, true, false, List, [], ◌∷◌, ◌++◌, refl, ap, sym, subst}
-use Rattle.std.proofs.Common.{if◌then◌else◌, ◌||◌, Option, Some, None}
-use Rattle.std.specs.List.{AllByRecursion, flat_map}
-use Rattle.acl.specs.declared.act.Act.{Act}
+use Rattle.trail_again.proofs.Vocabulary.{◌≡◌, ◌∙◌, Bool, true, false, List, [], ◌∷◌, ◌++◌, refl, ap, sym, subst}
+use Rattle.trail_again.proofs.Vocabulary.{if◌then◌else◌, ◌||◌, Option, Some, None, AllByRecursion, flat_map, Act}
+use Rattle.trail_again.proofs.Vocabulary.{LockMode, Object, PresetKind, Bit, Edition, UserId, History, among}
+use Rattle.trail_again.proofs.Vocabulary.{followed_by, is_known, leaders_of, users_of, same_user, followed_by-append}
+use Rattle.trail_again.proofs.Vocabulary.{same_user-sym, same_user-refl, same_user-true, default_of, Known, parts_by}
+use Rattle.trail_again.proofs.Vocabulary.{said_bits, SetupState, every_command}
 use Rattle.acl.specs.declared.act.Act.TheVariants as act
-use Rattle.acl.specs.declared.act.LockMode.{LockMode}
 use Rattle.acl.specs.declared.act.LockMode.TheVariants as lock_mode
-use Rattle.acl.specs.declared.act.Object.{Object}
-use Rattle.acl.specs.declared.act.PresetKind.{PresetKind}
 use Rattle.acl.specs.declared.act.PresetKind.TheVariants as preset
-use Rattle.acl.specs.declared.bits.Bit.{Bit}
-use Rattle.acl.specs.declared.leaders.Edition.{Edition}
-use Rattle.acl.specs.declared.user_id.UserId.{UserId}
-use Rattle.acl.specs.History.{History, among, followed_by, is_known, leaders_of, users_of}
-use Rattle.acl.specs.Same.{same_user}
-use Rattle.acl.proofs.FollowingLemmas.{followed_by-append, same_user-sym}
-use Rattle.acl.proofs.StandsForLemmas.{same_user-refl, same_user-true}
-use Rattle.writelock.specs.Holding.{default_of}
-use Rattle.trail_setup.specs.Masks.{Known, parts_by, said_bits}
-use Rattle.trail_setup.specs.declared.state.SetupState.{SetupState}
-use Rattle.trail_again.proofs.Blocks.{HasNothing, Lists, OpenMasks, group_acts, name_acts, names_list}
-use Rattle.trail_again.proofs.Blocks.{names_nothing, names_users, nothing, presets_without, sets_without}
+use Rattle.trail_again.proofs.Blocks.{HasNothing, Lists, OpenMasks, group_acts, name_acts, names_list, names_nothing}
+use Rattle.trail_again.proofs.Blocks.{names_users, nothing, presets_without, sets_without}
 use Rattle.trail_again.proofs.Giving.{Waits, all_groups_off, given_off, user_acts}
 use Rattle.trail_again.proofs.Lawful.{IsLawful, Leads as CanLeadOf, not_owner}
 use Rattle.trail_again.proofs.Leaving.{opener_without, openers_nothing, openers_without}
 use Rattle.trail_again.proofs.Masking.{opener_acts, opener_part, said, said_in, said_of}
 use Rattle.trail_again.proofs.Openers.{AreOthers, Said}
-use Rattle.trail_again.proofs.Putting.{CanLead, PartsLead, default_acts, first_acts}
-use Rattle.trail_again.proofs.Putting.{parts_nothing, parts_then}
+use Rattle.trail_again.proofs.Putting.{CanLead, PartsLead, default_acts, first_acts, parts_nothing, parts_then}
 use Rattle.trail_again.proofs.SetupLines.{IsNamedOther, changes_of}
 use Rattle.trail_again.proofs.Setting.{presets_on}
-use Rattle.trail_again.proofs.Touching.{Without, leaders_stay, none_append, none_flat}
-use Rattle.trail_again.proofs.Touching.{on_leaders, on_users, stays, users_stay, known_stays}
+use Rattle.trail_again.proofs.Touching.{Without, leaders_stay, none_append, none_flat, on_leaders, on_users, stays}
+use Rattle.trail_again.proofs.Touching.{users_stay, known_stays}
 use Rattle.trail_again.proofs.Wording.{HasName}
-use Rattle.session.specs.Naming.{every_command}
 
 -- ---- the mode of new locks
 

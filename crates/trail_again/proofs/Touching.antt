@@ -1,15 +1,8 @@
 -- Which acts change users, leaders, rights on commands, masks, presets and the default lock.
-use Rattle.std.proofs.Common.{◌≡◌, ◌∙◌, Bool, true, false, List, [], ◌∷◌, ◌++◌, refl}
-use Rattle.std.specs.List.{AllByRecursion, flat_map}
-use Rattle.acl.specs.declared.act.Act.{Act}
+use Rattle.trail_again.proofs.Vocabulary.{◌≡◌, ◌∙◌, Bool, true, false, List, [], ◌∷◌, ◌++◌, refl, AllByRecursion}
+use Rattle.trail_again.proofs.Vocabulary.{flat_map, Act, Command, PresetKind, Bit, CommandName, Edition, UserId}
+use Rattle.trail_again.proofs.Vocabulary.{History, followed_by, has, is_known, leaders_of, mask, preset_of, users_of}
 use Rattle.acl.specs.declared.act.Act.TheVariants as act
-use Rattle.acl.specs.declared.act.Object.TheVariants.{Command}
-use Rattle.acl.specs.declared.act.PresetKind.{PresetKind}
-use Rattle.acl.specs.declared.bits.Bit.{Bit}
-use Rattle.acl.specs.declared.command_name.CommandName.{CommandName}
-use Rattle.acl.specs.declared.leaders.Edition.{Edition}
-use Rattle.acl.specs.declared.user_id.UserId.{UserId}
-use Rattle.acl.specs.History.{History, followed_by, has, is_known, leaders_of, mask, preset_of, users_of}
 
 abbrev pub on_users : Act → Bool
 on_users (act.Known u) = true

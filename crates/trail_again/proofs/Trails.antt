@@ -1,15 +1,9 @@
 -- The acts of a trail's entries may come one after another.
-use Rattle.std.proofs.Common.{◌≡◌, ◌∙◌, List, [], ◌∷◌, ◌++◌, refl, ap, sym}
-use Rattle.std.specs.List.{flat_map}
-use Rattle.acl.specs.declared.act.Act.{Act}
-use Rattle.acl.specs.declared.leaders.Edition.{Edition}
-use Rattle.acl.specs.declared.user_id.UserId.{UserId}
-use Rattle.acl.specs.History.{History, followed_by}
-use Rattle.acl.proofs.FollowingLemmas.{followed_by-append}
-use Rattle.hub.specs.Judging.{AreGood, CanFollow}
+use Rattle.trail_again.proofs.Vocabulary.{◌≡◌, ◌∙◌, List, [], ◌∷◌, ◌++◌, refl, ap, sym, flat_map, Act, Edition, UserId}
+use Rattle.trail_again.proofs.Vocabulary.{History, followed_by, followed_by-append, AreGood, CanFollow, entries_in}
 use Rattle.hub.specs.Trails.{Entry}
 use Rattle.trail_lines.specs.Entries.{Said}
-use Rattle.trail_rights.specs.Marks.{Marked, acts_in, entries_in, marked_after, marked_by, marked_with}
+use Rattle.trail_rights.specs.Marks.{Marked, acts_in, marked_after, marked_by, marked_with}
 use Rattle.trail_rights.specs.declared.acts.Mark.{Mark}
 
 can_append : (edition : Edition) (owner : UserId) (h : History) (xs ys : List Act) → CanFollow edition owner h xs

@@ -1,30 +1,21 @@
 -- The words of a setup's lines, and what they mean.
-use Rattle.std.proofs.Common.{◌≡◌, ◌∙◌, ℕ, suc, ◌+◌, Bool, true, false, not, cond, List, [], ◌∷◌, ◌++◌, refl, ap, sym}
-use Rattle.std.proofs.Common.{◌||◌, ◌&&◌, if◌then◌else◌, Some, None, length, map, arith, take, drop, codes}
-use Rattle.std.specs.Prelude.{◌==◌}
-use Rattle.std.specs.List.{AllByRecursion, flat_map, list_all, list_any, slice_split}
-use Rattle.std.specs.Str.{bytes_eq}
-use Rattle.std.proofs.Math.Seq.{take-append_seam, drop-append_seam}
-use Rattle.std.proofs.lemmas.Bool.Decides.{nat_tests}
-use Rattle.std.proofs.lemmas.List.{append-nil}
+use Rattle.trail_again.proofs.Vocabulary.{◌≡◌, ◌∙◌, ℕ, suc, ◌+◌, Bool, true, false, not, cond, List, [], ◌∷◌, ◌++◌}
+use Rattle.trail_again.proofs.Vocabulary.{refl, ap, sym, ◌||◌, ◌&&◌, if◌then◌else◌, Some, None, length, map, arith}
+use Rattle.trail_again.proofs.Vocabulary.{take, drop, codes, ◌==◌, AllByRecursion, flat_map, list_all, list_any}
+use Rattle.trail_again.proofs.Vocabulary.{slice_split, bytes_eq, take-append_seam, drop-append_seam, nat_tests}
+use Rattle.trail_again.proofs.Vocabulary.{append-nil, BitChange, UserId, begins_with_letter, is_name, is_name_byte}
+use Rattle.trail_again.proofs.Vocabulary.{name_of, named_by, Mask, is_plain, is_empty_text, AllFit, and-both, and-parts}
 use Rattle.acl.specs.declared.act.LockMode.TheVariants as lock_mode
-use Rattle.acl.specs.declared.bits.BitChange.{BitChange}
 use Rattle.acl.specs.declared.command_name.CommandName.TheVariants as name
-use Rattle.acl.specs.declared.user_id.UserId.{UserId}
-use Rattle.acl.specs.Names.{begins_with_letter, is_name, is_name_byte, name_of, named_by}
 use Rattle.command_lang.specs.declared.command.Command.TheVariants as command
 use Rattle.command_lang.specs.declared.command.Leader.TheVariants as leader
-use Rattle.command_lang.specs.declared.command.Mask.{Mask}
 use Rattle.command_lang.specs.declared.command.Users.TheVariants as users
 use Rattle.command_lang.specs.declared.fault.FaultKind.TheVariants as faults
 use Rattle.command_lang.specs.MaskFaults.{mask_fault, unless}
-use Rattle.command_lang.specs.Printing.{is_plain}
-use Rattle.command_lang.specs.Values.{bits_of, has_empty_item, is_bits, is_empty_text, is_sign, items_of, mask_of}
-use Rattle.command_lang.specs.Values.{mask_users, sign_place, users_of}
+use Rattle.command_lang.specs.Values.{bits_of, has_empty_item, is_bits, is_sign, items_of, mask_of, mask_users}
+use Rattle.command_lang.specs.Values.{sign_place, users_of}
 use Rattle.command_lang.specs.declared.rows.Kind.TheVariants as kind
 use Rattle.command_lang.proofs.Canonical.{HeadSign}
-use Rattle.command_lang.proofs.Fits.{AllFit}
-use Rattle.command_lang.proofs.Scalars.{and-both, and-parts}
 use Rattle.trail_again.proofs.Reading.{AreWords, Free, IsWord, Says, free_from, split_at, split_none}
 
 -- ---- bytes of words

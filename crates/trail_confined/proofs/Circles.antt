@@ -1,11 +1,6 @@
 -- What confinement rests on for users and their leaders.
-use Rattle.std.proofs.Common.{◌≡◌, ◌∙◌, List, ◌++◌, ap}
-use Rattle.std.specs.List.{flat_map}
-use Rattle.acl.specs.declared.leaders.Edition.{Edition}
-use Rattle.acl.specs.declared.user_id.UserId.{UserId}
-use Rattle.acl.specs.History.{History}
-use Rattle.trail_confined.specs.Confining.{circles_of, openers_of, masks_of, powers_of, standing_of}
-use Rattle.trail_confined.specs.Confining.{premises_of}
+use Rattle.trail_confined.proofs.Vocabulary.{◌≡◌, ◌∙◌, List, ◌++◌, ap, flat_map, Edition, UserId, History, circles_of}
+use Rattle.trail_confined.proofs.Vocabulary.{openers_of, masks_of, powers_of, standing_of, premises_of}
 
 pub premises_made : (edition : Edition) (owner : UserId) (h : History) (users openers circles os cs : List UserId)
     → os ≡ openers → cs ≡ circles → openers ≡ openers_of edition owner h → circles ≡ circles_of edition h users

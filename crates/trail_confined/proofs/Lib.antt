@@ -1,3 +1,4 @@
+pub mod Vocabulary
 pub mod Circles
 pub mod ShutOut
 mod Texts

@@ -1,22 +1,19 @@
 -- Users are confined exactly if each premise holds.
-use Rattle.std.proofs.Common.{◌≡◌, ◌∙◌, Bool, true, false, not, ◌&&◌, ◌||◌, List, [], ◌∷◌, ◌++◌, refl, ap, sym, subst}
-use Rattle.std.specs.Prelude.{◌↔◌, cond, filter}
-use Rattle.std.specs.List.{AllByRecursion, flat_map, list_any}
+use Rattle.trail_confined.proofs.Vocabulary.{◌≡◌, ◌∙◌, Bool, true, false, not, ◌&&◌, ◌||◌, List, [], ◌∷◌, ◌++◌, refl}
+use Rattle.trail_confined.proofs.Vocabulary.{ap, sym, subst, ◌↔◌, cond, filter, AllByRecursion, flat_map, list_any}
+use Rattle.trail_confined.proofs.Vocabulary.{Edition, UserId, History, among, is_known, mask, may, users_of, may_open}
+use Rattle.trail_confined.proofs.Vocabulary.{circle, holds, concerns, powers_of, standing_of, masks_by, masks_of}
+use Rattle.trail_confined.proofs.Vocabulary.{openers_of, circles_of, premises_of}
 use Rattle.std.proofs.lemmas.Bool.{false≢true}
 use Rattle.acl.specs.declared.bits.Bit.{Bit}
 use Rattle.acl.specs.declared.bits.Bit.TheVariants.{Read, Write, Execute}
 use Rattle.acl.specs.declared.command_name.CommandName.{CommandName}
 use Rattle.acl.specs.declared.command_name.CommandName.TheVariants as name
 use Rattle.acl.specs.declared.act.Object.TheVariants as object
-use Rattle.acl.specs.declared.leaders.Edition.{Edition}
-use Rattle.acl.specs.declared.user_id.UserId.{UserId}
-use Rattle.acl.specs.History.{History, among, is_known, mask, may, users_of}
 use Rattle.acl.specs.Same.{same_user, same_bit}
 use Rattle.acl.proofs.StandsForLemmas.{same_user-true, same_user-refl}
 use Rattle.trail_confined.specs.declared.premises.Premise.{Premise}
-use Rattle.trail_confined.specs.Confining.{changes_rights, may_open, circle, AreConfined, holds, concerns, powers_of}
-use Rattle.trail_confined.specs.Confining.{standing_of, masks_by, masks_of, openers_of, circles_of, premises_of}
-use Rattle.trail_confined.specs.Confining.{failing_of}
+use Rattle.trail_confined.specs.Confining.{changes_rights, AreConfined, failing_of}
 
 -- ---- lists
 

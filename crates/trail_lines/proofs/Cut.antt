@@ -1,17 +1,12 @@
 -- A file that is cut reads as the entries whose line is whole.
-use Rattle.std.proofs.Common.{◌≡◌, ◌∙◌, ℕ, zero, suc, ◌+◌, ◌≤◌, List, [], ◌∷◌, ◌++◌, Some, take}
-use Rattle.std.proofs.Common.{length, refl, ap, sym, arith, append_assoc, append-nil, length-append}
-use Rattle.std.proofs.Common.{⊎_elim, inl, inr}
-use Rattle.std.specs.Prelude.{Bool, true, false, cond, not, ◌==◌, ◌&&◌, ◌⊎◌}
-use Rattle.std.specs.List.{list_all}
+use Rattle.trail_lines.proofs.Vocabulary.{◌≡◌, ◌∙◌, ℕ, suc, ◌+◌, ◌≤◌, List, [], ◌∷◌, ◌++◌, Some, take, length, refl, ap}
+use Rattle.trail_lines.proofs.Vocabulary.{sym, arith, append_assoc, append-nil, length-append, Bool, true, false, cond}
+use Rattle.trail_lines.proofs.Vocabulary.{not, ◌==◌, ◌&&◌, ◌⊎◌, list_all, ◌>>=◌, is_other, Said, line_of, feed}
+use Rattle.std.proofs.Common.{zero, ⊎_elim, inl, inr}
 use Rattle.std.proofs.lemmas.Bool.{and_parts}
-use Rattle.line_fields.specs.Cutting.{◌>>=◌}
-use Rattle.line_fields.proofs.Words.{is_other}
-use Rattle.trail_lines.specs.Entries.{Said, line_of}
 use Rattle.trail_lines.proofs.Told.{reads_printed}
-use Rattle.trail_lines.specs.Lines.{feed}
-use Rattle.trail_lines.specs.Files.{ended_line, text_of, lines_from, read_lines, read_file}
-use Rattle.trail_lines.specs.Files.{CutFilesAreRead, ReadIsTheFile}
+use Rattle.trail_lines.specs.Files.{ended_line, text_of, lines_from, read_lines, read_file, CutFilesAreRead}
+use Rattle.trail_lines.specs.Files.{ReadIsTheFile}
 use Rattle.trail_lines.proofs.Unbroken.{line_free}
 
 is_not : (b : Bool) → not b ≡ true → b ≡ false

@@ -1,37 +1,21 @@
 -- Words, texts and fields don't have a byte below 0x21: a blank, which ends words, or a line feed.
-use Rattle.std.proofs.Common.{◌≡◌, ℕ, ◌<◌, ◌≤◌, ◌^◌, ◌/◌, ◌%◌, List, [], ◌∷◌, ◌++◌, refl, arith}
-use Rattle.std.specs.Prelude.{Bool, true, false, cond, not, ◌&&◌, Option, Some, None, Ok, Err, codes, decimal}
-use Rattle.std.specs.Prelude.{map}
-use Rattle.std.specs.List.{flat_map, list_all}
+use Rattle.trail_lines.proofs.Vocabulary.{◌≡◌, ℕ, ◌<◌, ◌≤◌, ◌^◌, List, [], ◌∷◌, ◌++◌, refl, arith, Bool, true, false}
+use Rattle.trail_lines.proofs.Vocabulary.{cond, not, ◌&&◌, Option, Some, None, Ok, Err, codes, decimal, map, flat_map}
+use Rattle.trail_lines.proofs.Vocabulary.{list_all, nat_tests, UserId, name_of, name_text, Denied, Refusal, behind}
+use Rattle.trail_lines.proofs.Vocabulary.{Kept, Ending, is_byte, Field, User, Number, Serial, Window, Bytes, Text}
+use Rattle.trail_lines.proofs.Vocabulary.{Title, Value, row_of, word_of, Parts, colon, blank, field, nobody, mark}
+use Rattle.trail_lines.proofs.Vocabulary.{fields_in, all_then, IsNamed, IsSerial, EventKind, word_part, all_free}
+use Rattle.trail_lines.proofs.Vocabulary.{IsFree, is_other, free_append, text_field, window_text, field_then}
+use Rattle.trail_lines.proofs.Vocabulary.{leaders_text, denied_then, why_text, reply_text, IsDenied, IsRefusal, IsReply}
+use Rattle.trail_lines.proofs.Vocabulary.{IsNumberIfAny, IsField, AreFields}
+use Rattle.std.proofs.Common.{◌/◌, ◌%◌}
 use Rattle.std.specs.Fmt.{digit_glyph}
-use Rattle.std.proofs.lemmas.Bool.Decides.{nat_tests}
-use Rattle.acl.specs.declared.user_id.UserId.{UserId}
-use Rattle.acl.specs.Names.{name_of}
-use Rattle.command_lang.specs.Names.{name_text}
-use Rattle.session.specs.refusal.Denied.{Denied}
 use Rattle.session.specs.refusal.Denied.TheVariants as denied
-use Rattle.session.specs.refusal.Refusal.{Refusal}
 use Rattle.session.specs.refusal.Refusal.TheVariants as refusal
-use Rattle.session.specs.Texts.{behind}
-use Rattle.hub.specs.kept.Kept.{Kept}
 use Rattle.hub.specs.kept.Kept.TheVariants as kept
-use Rattle.hub.specs.Trails.{Ending}
-use Rattle.line_fields.specs.Cutting.{is_byte}
-use Rattle.line_fields.specs.Events.{Field, User, Number, Serial, Window, Bytes, Text, Title, Value}
-use Rattle.line_fields.specs.Events.{row_of, word_of, Parts}
-use Rattle.line_fields.specs.Parts.{colon, blank, field, nobody, mark}
-use Rattle.line_fields.specs.Rows.{fields_in, all_then}
-use Rattle.line_fields.specs.Sayable.{IsNamed, IsSerial}
 use Rattle.line_fields.specs.Texts.{coded, is_plain, escape, escaped}
-use Rattle.line_fields.specs.declared.events.EventKind.{EventKind}
-use Rattle.line_fields.proofs.Again.{IsPart, IsApart, part_byte, free, name_part, number_part, wide, most32}
-use Rattle.line_fields.proofs.Again.{most16, most8, command_part}
-use Rattle.line_fields.proofs.EventParts.{word_part}
-use Rattle.line_fields.proofs.Rows.{all_free}
-use Rattle.line_fields.proofs.Words.{IsFree, is_other, free_append}
-use Rattle.trail_lines.specs.Events.{text_field, window_text, field_then}
-use Rattle.trail_lines.specs.Replies.{leaders_text, denied_then, why_text, reply_text}
-use Rattle.trail_lines.specs.Sayable.{IsDenied, IsRefusal, IsReply, IsNumberIfAny, IsField, AreFields}
+use Rattle.line_fields.proofs.Again.{IsPart, IsApart, part_byte, free, name_part, number_part, wide, most32, most16}
+use Rattle.line_fields.proofs.Again.{most8, command_part}
 use Rattle.trail_lines.proofs.Replied.{mark_part, named_all, all_named, acl_small, windows_small, regions_small}
 use Rattle.trail_lines.proofs.Replied.{line_small}
 

@@ -1,19 +1,11 @@
 -- The lines of entries that were read, one after another.
-use Rattle.std.proofs.Common.{◌≡◌, ℕ, suc, ◌+◌, List, [], ◌∷◌, ◌++◌, Option, Some, None, length, refl, ap, ◌∙◌, subst}
-use Rattle.std.specs.Prelude.{false}
-use Rattle.acl.specs.declared.leaders.Edition.{Edition}
-use Rattle.acl.specs.declared.user_id.UserId.{UserId}
-use Rattle.trail_lines.specs.Entries.{Said, read_line}
-use Rattle.trail_lines.specs.declared.audit.Audit.{Audit}
+use Rattle.trail_lines.proofs.Vocabulary.{◌≡◌, ℕ, suc, ◌+◌, List, [], ◌∷◌, ◌++◌, Option, Some, None, length, refl, ap}
+use Rattle.trail_lines.proofs.Vocabulary.{◌∙◌, subst, false, Edition, UserId, Said, read_line, Audit, Halt, Times}
+use Rattle.trail_lines.proofs.Vocabulary.{ComesAs, OfKnown, time_after, times_after, HasRead, entry_in, entries_in}
+use Rattle.trail_lines.proofs.Vocabulary.{is_last, AreRead, Halts, NextIs, IsReadTo}
 use Rattle.trail_lines.specs.declared.audit.Wrong.{Wrong}
-use Rattle.trail_lines.specs.declared.halt.Halt.{Halt}
 use Rattle.trail_lines.specs.declared.halt.Halt.TheVariants as halt
 use Rattle.trail_lines.specs.declared.halt.NextLine.TheVariants as came
-use Rattle.trail_lines.specs.declared.audit.Times.{Times}
-use Rattle.trail_lines.specs.Lines.{ComesAs, OfKnown}
-use Rattle.trail_lines.specs.Times.{time_after, times_after}
-use Rattle.trail_lines.specs.Reading.{HasRead, entry_in, entries_in}
-use Rattle.trail_lines.specs.Halting.{is_last, AreRead, Halts, NextIs, IsReadTo}
 
 -- ---- their entries
 

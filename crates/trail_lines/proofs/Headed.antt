@@ -1,16 +1,9 @@
 -- First and last lines that were printed are read.
-use Rattle.std.proofs.Common.{◌≡◌, ℕ, ◌<◌, ◌≤◌, ◌^◌, List, ◌∷◌, ◌++◌, ap, refl, sym, ◌∙◌, arith}
-use Rattle.std.specs.Prelude.{Bool, true, false, cond, Option, Some, None, codes, decimal}
-use Rattle.std.specs.List.{list_all}
-use Rattle.std.specs.Str.{bytes_eq}
-use Rattle.std.proofs.lemmas.Slice.Eq.{bytes_eq-Decides}
-use Rattle.acl.specs.declared.leaders.Edition.{Edition}
+use Rattle.trail_lines.proofs.Vocabulary.{◌≡◌, ℕ, ◌<◌, ◌≤◌, ◌^◌, List, ◌∷◌, ◌++◌, ap, refl, sym, ◌∙◌, arith, Bool, true}
+use Rattle.trail_lines.proofs.Vocabulary.{false, cond, Option, Some, None, codes, decimal, list_all, bytes_eq}
+use Rattle.trail_lines.proofs.Vocabulary.{bytes_eq-Decides, Edition, name_of, ◌>>=◌, cut, IsFree, first_field}
+use Rattle.trail_lines.proofs.Vocabulary.{number_again, blank, field}
 use Rattle.acl.specs.declared.leaders.Edition.TheVariants as edition
-use Rattle.acl.specs.Names.{name_of}
-use Rattle.line_fields.specs.Cutting.{◌>>=◌, cut}
-use Rattle.line_fields.proofs.Words.{IsFree, first_field}
-use Rattle.line_fields.proofs.Digits.{number_again}
-use Rattle.line_fields.specs.Parts.{blank, field}
 use Rattle.line_fields.proofs.Again.{apart_blank, most64, number_at_again, user_at_again}
 use Rattle.trail_lines.specs.declared.header.Header.{Header}
 use Rattle.trail_lines.specs.declared.ending.Cause.{Cause}

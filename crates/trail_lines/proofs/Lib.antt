@@ -1,3 +1,4 @@
+pub mod Vocabulary
 pub mod Printing
 pub mod Reading
 pub mod Replied

@@ -1,18 +1,12 @@
 -- What loops print, from its end; titles.
-use Rattle.std.proofs.Common.{◌≡◌, ℕ, List, [], ◌∷◌, ◌++◌, ap, refl, sym, ◌∙◌, append_assoc, append-nil, rules}
-use Rattle.std.specs.Prelude.{Bool, true, false, cond, Option, Some, None, option_copied, Result, Ok, Err, MatchResult}
+use Rattle.trail_lines.proofs.Vocabulary.{◌≡◌, ℕ, List, [], ◌∷◌, ◌++◌, ap, refl, sym, ◌∙◌, append_assoc, append-nil}
+use Rattle.trail_lines.proofs.Vocabulary.{rules, Bool, true, false, cond, Option, Some, None, option_copied, Result, Ok}
+use Rattle.trail_lines.proofs.Vocabulary.{Err, MatchResult, codes, map, IsUtf8, is_utf8, flat_map, map_push, UserId}
+use Rattle.trail_lines.proofs.Vocabulary.{name_of, behind, title_of}
 use Rattle.std.specs.Borrow.{Bor}
 use Rattle.std.specs.Result.{result_ok}
-use Rattle.std.specs.Str.{IsUtf8, is_utf8}
 use Rattle.std.proofs.lemmas.Str.{IsUtf8-from_is_utf8, is_utf8-from_IsUtf8}
-use Rattle.std.specs.Prelude.{codes, map}
-use Rattle.std.specs.List.{flat_map}
-use Rattle.std.proofs.lemmas.List.{map_push}
 use Rattle.std.proofs.lemmas.List.Concat.{flat_map-append}
-use Rattle.acl.specs.declared.user_id.UserId.{UserId}
-use Rattle.acl.specs.Names.{name_of}
-use Rattle.session.specs.Texts.{behind}
-use Rattle.trail_lines.specs.Events.{title_of}
 
 pub behind_push : (separator : List ℕ) (items : List (List ℕ)) (item : List ℕ)
     → behind separator (items ++ item ∷ []) ≡ behind separator items ++ (separator ++ item)

@@ -1,13 +1,8 @@
 -- What loops read, from its front.
-use Rattle.std.proofs.Common.{◌≡◌, ℕ, List, [], ◌∷◌, ap, refl, sym, ◌∙◌, length, ◌<◌, arith}
-use Rattle.std.specs.Prelude.{Option, Some, None}
-use Rattle.acl.specs.declared.user_id.UserId.{UserId}
-use Rattle.acl.specs.Names.{named_by}
-use Rattle.line_fields.specs.Cutting.{◌>>=◌, words, words_behind}
-use Rattle.line_fields.specs.Parts.{comma}
-use Rattle.trail_lines.specs.Replies.{leaders_of, with_leader}
+use Rattle.trail_lines.proofs.Vocabulary.{◌≡◌, ℕ, List, [], ◌∷◌, ap, refl, sym, ◌∙◌, length, ◌<◌, arith, Option, Some}
+use Rattle.trail_lines.proofs.Vocabulary.{None, UserId, named_by, ◌>>=◌, words, words_behind, comma, leaders_of}
+use Rattle.trail_lines.proofs.Vocabulary.{with_leader, Noted, note_in, noting, notes_of}
 use Rattle.trail_lines.specs.declared.entries.Remark.{Remark}
-use Rattle.trail_lines.specs.Entries.{Noted, note_in, noting, notes_of}
 
 abbrev leaders_with : Option UserId → List (List ℕ) → List UserId → Option (List UserId)
 leaders_with user ws before = user >>= λ u. with_leader before u >>= λ now. leaders_of ws now

@@ -1,47 +1,34 @@
 -- Replies that were printed are read again.
-use Rattle.std.proofs.Common.{◌≡◌, ℕ, ◌<◌, ◌≤◌, ◌^◌, ◌+◌, List, [], ◌∷◌, ◌++◌, length, ap, refl, sym, ◌∙◌, arith}
-use Rattle.std.proofs.Common.{append-nil, append_assoc, length-append}
-use Rattle.std.specs.Prelude.{Bool, true, false, cond, nat_le, Option, Some, None, option_map, Ok, Err, codes, decimal}
-use Rattle.std.specs.Prelude.{map}
-use Rattle.std.specs.List.{AllByRecursion}
-use Rattle.std.specs.Str.{bytes_eq}
-use Rattle.std.proofs.lemmas.Bool.Decides.{nat_tests}
+use Rattle.trail_lines.proofs.Vocabulary.{◌≡◌, ℕ, ◌<◌, ◌≤◌, ◌^◌, ◌+◌, List, [], ◌∷◌, ◌++◌, length, ap, refl, sym, ◌∙◌}
+use Rattle.trail_lines.proofs.Vocabulary.{arith, append-nil, append_assoc, length-append, Bool, true, false, cond}
+use Rattle.trail_lines.proofs.Vocabulary.{nat_le, Option, Some, None, option_map, Ok, Err, codes, decimal, map}
+use Rattle.trail_lines.proofs.Vocabulary.{AllByRecursion, bytes_eq, nat_tests, UserId, name_of, named_by, name_text}
+use Rattle.trail_lines.proofs.Vocabulary.{Denied, Refusal, behind, separated, windows_number, Ending, ◌>>=◌, cut, words}
+use Rattle.trail_lines.proofs.Vocabulary.{IsFree, first_field, one_word, first_word, number_again, colon, comma, field}
+use Rattle.trail_lines.proofs.Vocabulary.{user_at, nobody, mark, bit_in, leaders_text, with_leader, leaders_of}
+use Rattle.trail_lines.proofs.Vocabulary.{denied_then, why_text, reply_text, IsNamed, IsSerial, AreLeaders, IsDenied}
+use Rattle.trail_lines.proofs.Vocabulary.{IsRefusal, IsReply}
 use Rattle.acl.specs.declared.act.Object.TheVariants as object
 use Rattle.acl.specs.declared.bits.Bit.{Bit}
 use Rattle.acl.specs.declared.bits.Bit.TheVariants as bit
 use Rattle.acl.specs.declared.entries.AclFault.{AclFault}
 use Rattle.acl.specs.declared.entries.AclFault.TheVariants as acl
-use Rattle.acl.specs.declared.user_id.UserId.{UserId}
 use Rattle.acl.specs.Commands.{number_of_fault}
 use Rattle.acl.specs.History.{among}
-use Rattle.acl.specs.Names.{name_of, named_by}
 use Rattle.command_lang.specs.declared.fault.FaultKind.{FaultKind}
 use Rattle.command_lang.specs.declared.fault.FaultKind.TheVariants as line
 use Rattle.command_lang.specs.FaultNumbers.{number_of}
-use Rattle.command_lang.specs.Names.{name_text}
 use Rattle.regions.specs.declared.layout.RegionFault.{RegionFault}
 use Rattle.regions.specs.declared.layout.RegionFault.TheVariants as region
 use Rattle.regions.specs.Faults as regions
-use Rattle.session.specs.refusal.Denied.{Denied}
 use Rattle.session.specs.refusal.Denied.TheVariants as denied
-use Rattle.session.specs.refusal.Refusal.{Refusal}
 use Rattle.session.specs.refusal.Refusal.TheVariants as refusal
 use Rattle.session.specs.rows.WindowsFault.{WindowsFault}
 use Rattle.session.specs.rows.WindowsFault.TheVariants as windows
-use Rattle.session.specs.Texts.{behind, separated, windows_number}
-use Rattle.hub.specs.Trails.{Ending}
-use Rattle.line_fields.specs.Cutting.{◌>>=◌, cut, words}
-use Rattle.line_fields.specs.Numbers.{number_below}
-use Rattle.line_fields.proofs.Words.{IsFree, first_field, one_word, first_word}
-use Rattle.line_fields.proofs.Digits.{number_again}
-use Rattle.line_fields.specs.Parts.{colon, comma, field, user_at, nobody, mark, bit_in}
-use Rattle.line_fields.specs.Numbers.{number_at}
-use Rattle.trail_lines.specs.Replies.{leaders_text, few, with_leader, leaders_of, leaders_in, denied_then, denied_of}
-use Rattle.trail_lines.specs.Replies.{denied_at, entry_in, acl_fault, windows_fault, regions_fault, line_fault}
-use Rattle.trail_lines.specs.Replies.{small_in, why_text, plain_in, caused_in, or_caused, why_in, reply_text}
+use Rattle.line_fields.specs.Numbers.{number_below, number_at}
+use Rattle.trail_lines.specs.Replies.{few, leaders_in, denied_of, denied_at, entry_in, acl_fault, windows_fault}
+use Rattle.trail_lines.specs.Replies.{regions_fault, line_fault, small_in, plain_in, caused_in, or_caused, why_in}
 use Rattle.trail_lines.specs.Replies.{finished_in, done, refused, reply_by, reply_in}
-use Rattle.line_fields.specs.Sayable.{IsNamed, IsSerial}
-use Rattle.trail_lines.specs.Sayable.{AreLeaders, IsDenied, IsRefusal, IsReply}
 use Rattle.line_fields.proofs.Again.{IsPart, free, apart_colon, apart_comma, name_part, number_part, wide, most64}
 use Rattle.line_fields.proofs.Again.{most32, most8, number_at_again, user_at_again, no_dash_name, object_again}
 use Rattle.line_fields.proofs.Again.{command_part}

@@ -1,40 +1,25 @@
 -- Entries that were printed are read again.
-use Rattle.std.proofs.Common.{◌≡◌, ℕ, ◌<◌, ◌^◌, List, [], ◌∷◌, ◌++◌, ap, refl, sym, ◌∙◌, arith}
-use Rattle.std.proofs.Common.{append-nil, append_assoc}
-use Rattle.std.specs.Prelude.{Bool, true, false, cond, Option, Some, None, codes, decimal, map}
-use Rattle.std.specs.List.{AllByRecursion, flat_map}
-use Rattle.std.specs.Str.{bytes_eq, is_utf8}
-use Rattle.std.proofs.lemmas.Bool.Decides.{nat_tests}
+use Rattle.trail_lines.proofs.Vocabulary.{◌≡◌, ℕ, ◌<◌, ◌^◌, List, [], ◌∷◌, ◌++◌, ap, refl, sym, ◌∙◌, arith, append-nil}
+use Rattle.trail_lines.proofs.Vocabulary.{append_assoc, Bool, true, false, cond, Option, Some, None, codes, decimal}
+use Rattle.trail_lines.proofs.Vocabulary.{map, AllByRecursion, flat_map, bytes_eq, is_utf8, nat_tests, bytes_eq-Decides}
+use Rattle.trail_lines.proofs.Vocabulary.{Act, Verdict, Kept, Entry, act_text, verdict_text, ◌>>=◌, words, Field, User}
+use Rattle.trail_lines.proofs.Vocabulary.{Number, Serial, Window, Bytes, Text, Title, Value, row_of, word_of, Parts}
+use Rattle.trail_lines.proofs.Vocabulary.{blank, field, nobody, fields_in, made_in, all_then, IsAct, IsVerdict}
+use Rattle.trail_lines.proofs.Vocabulary.{EventKind, number_again, word_part, IsFree, first_field, one_word, first_word}
+use Rattle.trail_lines.proofs.Vocabulary.{checked_text, done_text, tail_text, Said, line_of, Noted, notes_of, tail_of}
+use Rattle.trail_lines.proofs.Vocabulary.{tail_in, said_in, if_spelled, read_line, text_field, title_of, window_text}
+use Rattle.trail_lines.proofs.Vocabulary.{field_then, parts_then, event_then, reply_text, AreBytes, IsNumberIfAny}
+use Rattle.trail_lines.proofs.Vocabulary.{IsField, AreFields, IsEvent, IsEntry, IsSayable, ReadsPrinted, IsSpelledSo}
 use Rattle.std.proofs.lemmas.Option.{same_Some}
-use Rattle.std.proofs.lemmas.Slice.Eq.{bytes_eq-Decides}
-use Rattle.acl.specs.declared.act.Act.{Act}
-use Rattle.session.specs.refusal.Verdict.{Verdict}
-use Rattle.hub.specs.kept.Kept.{Kept}
 use Rattle.hub.specs.kept.Kept.TheVariants as kept
-use Rattle.hub.specs.Trails.{Entry}
-use Rattle.line_fields.specs.Acts.{act_text, verdict_text}
-use Rattle.line_fields.specs.Cutting.{◌>>=◌, words}
-use Rattle.line_fields.specs.Events.{Field, User, Number, Serial, Window, Bytes, Text, Title, Value}
-use Rattle.line_fields.specs.Events.{row_of, word_of, Parts}
-use Rattle.line_fields.specs.Parts.{blank, field, nobody}
-use Rattle.line_fields.specs.Rows.{fields_in, made_in, all_then}
-use Rattle.line_fields.specs.Sayable.{IsAct, IsVerdict}
-use Rattle.line_fields.specs.declared.events.EventKind.{EventKind}
 use Rattle.line_fields.specs.declared.events.EventKind.TheVariants as kind
 use Rattle.line_fields.proofs.Again.{apart_blank, wide, most64, most32, most16, most8, number_at_again, user_at_again}
 use Rattle.line_fields.proofs.Again.{act_again, act_free, verdict_again, verdict_free}
-use Rattle.line_fields.proofs.Digits.{AreDigits, digits, number_again}
-use Rattle.line_fields.proofs.EventParts.{kind_again, word_part}
+use Rattle.line_fields.proofs.Digits.{AreDigits, digits}
+use Rattle.line_fields.proofs.EventParts.{kind_again}
 use Rattle.line_fields.proofs.ReadBack.{read_back}
 use Rattle.line_fields.proofs.Rows.{row_all_again}
-use Rattle.line_fields.proofs.Words.{IsFree, first_field, one_word, first_word}
-use Rattle.trail_lines.specs.Entries.{checked_text, done_text, tail_text, Said, line_of, Noted, notes_of, tail_of}
-use Rattle.trail_lines.specs.Entries.{tail_in, said_in, if_spelled, read_line}
-use Rattle.trail_lines.specs.Events.{text_field, text_in, title_of, title_in, window_text, window_in, field_then}
-use Rattle.trail_lines.specs.Events.{field_at, parts_then, event_then, is_kept, kept_with, event_at}
-use Rattle.trail_lines.specs.Replies.{reply_text}
-use Rattle.trail_lines.specs.Sayable.{AreBytes, IsNumberIfAny, IsField, AreFields, IsEvent, IsEntry, IsSayable}
-use Rattle.trail_lines.specs.Sayable.{ReadsPrinted, IsSpelledSo}
+use Rattle.trail_lines.specs.Events.{text_in, title_in, window_in, field_at, is_kept, kept_with, event_at}
 use Rattle.trail_lines.proofs.Free.{free_part, text_free, window_free, reply_free}
 use Rattle.trail_lines.proofs.Replied.{reply_again}
 

@@ -1,30 +1,14 @@
 -- The line of an entry has no line feed.
-use Rattle.std.proofs.Common.{◌≡◌, ℕ, ◌<◌, ◌^◌, List, [], ◌∷◌, ◌++◌, refl, arith}
-use Rattle.std.specs.Prelude.{codes, decimal}
-use Rattle.std.specs.List.{AllByRecursion, flat_map}
-use Rattle.acl.specs.declared.act.Act.{Act}
-use Rattle.acl.specs.Names.{name_of}
-use Rattle.session.specs.refusal.Verdict.{Verdict}
-use Rattle.hub.specs.kept.Kept.{Kept}
+use Rattle.trail_lines.proofs.Vocabulary.{◌≡◌, ℕ, ◌<◌, ◌^◌, List, [], ◌∷◌, ◌++◌, refl, arith, codes, decimal}
+use Rattle.trail_lines.proofs.Vocabulary.{AllByRecursion, flat_map, Act, name_of, Verdict, Kept, Entry, act_text}
+use Rattle.trail_lines.proofs.Vocabulary.{verdict_text, Field, User, Number, Serial, Window, Bytes, Text, Title, Value}
+use Rattle.trail_lines.proofs.Vocabulary.{row_of, word_of, Parts, blank, field, fields_in, IsAct, IsVerdict, EventKind}
+use Rattle.trail_lines.proofs.Vocabulary.{word_part, all_free, IsFree, free_append, checked_text, done_text, tail_text}
+use Rattle.trail_lines.proofs.Vocabulary.{Said, line_of, text_field, window_text, field_then, parts_then, event_then}
+use Rattle.trail_lines.proofs.Vocabulary.{feed, reply_text, IsField, AreFields, IsEvent, IsEntry, IsSayable}
 use Rattle.hub.specs.kept.Kept.TheVariants as kept
-use Rattle.hub.specs.Trails.{Entry}
-use Rattle.line_fields.specs.Acts.{act_text, verdict_text}
-use Rattle.line_fields.specs.Events.{Field, User, Number, Serial, Window, Bytes, Text, Title, Value}
-use Rattle.line_fields.specs.Events.{row_of, word_of, Parts}
-use Rattle.line_fields.specs.Parts.{blank, field}
-use Rattle.line_fields.specs.Rows.{fields_in}
-use Rattle.line_fields.specs.Sayable.{IsAct, IsVerdict}
-use Rattle.line_fields.specs.declared.events.EventKind.{EventKind}
 use Rattle.line_fields.specs.declared.events.EventKind.TheVariants as kind
 use Rattle.line_fields.proofs.Again.{IsApart, number_part, act_free, verdict_free}
-use Rattle.line_fields.proofs.EventParts.{word_part}
-use Rattle.line_fields.proofs.Rows.{all_free}
-use Rattle.line_fields.proofs.Words.{IsFree, free_append}
-use Rattle.trail_lines.specs.Entries.{checked_text, done_text, tail_text, Said, line_of}
-use Rattle.trail_lines.specs.Events.{text_field, window_text, field_then, parts_then, event_then}
-use Rattle.trail_lines.specs.Lines.{feed}
-use Rattle.trail_lines.specs.Replies.{reply_text}
-use Rattle.trail_lines.specs.Sayable.{IsField, AreFields, IsEvent, IsEntry, IsSayable}
 use Rattle.trail_lines.proofs.Free.{low_apart, free_part, name_free, serial_free, half_free, text_free, window_free}
 use Rattle.trail_lines.proofs.Free.{reply_free}
 

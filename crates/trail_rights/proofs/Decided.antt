@@ -1,21 +1,11 @@
 -- A decider looks for the latest act that decides.
-use Rattle.std.proofs.Common.{◌≡◌, ◌∙◌, Bool, true, false, ◌&&◌, ◌||◌, [], ◌∷◌, Option, Some, None, refl, ap, sym}
-use Rattle.std.proofs.Common.{subst}
-use Rattle.std.specs.Prelude.{cond, is_some, unwrap_or}
-use Rattle.acl.specs.declared.act.Act.{Act}
+use Rattle.trail_rights.proofs.Vocabulary.{◌≡◌, ◌∙◌, Bool, true, false, ◌&&◌, ◌||◌, [], ◌∷◌, Option, Some, None, refl}
+use Rattle.trail_rights.proofs.Vocabulary.{ap, sym, subst, cond, is_some, unwrap_or, Act, Object, Window, Command, Bit}
+use Rattle.trail_rights.proofs.Vocabulary.{UserId, History, decided, decision, greeting, has, there, is_open, is_known}
+use Rattle.trail_rights.proofs.Vocabulary.{mask, decides_open, decides_known, Mark, Decider, Marked, acts_in, deciding}
+use Rattle.trail_rights.proofs.Vocabulary.{decides, there_after, decider_after, HasDecided, IsDecided, DecidingIsLatest}
 use Rattle.acl.specs.declared.act.Act.TheVariants as act
-use Rattle.acl.specs.declared.act.Object.{Object}
-use Rattle.acl.specs.declared.act.Object.TheVariants.{Window, Command}
-use Rattle.acl.specs.declared.bits.Bit.{Bit}
-use Rattle.acl.specs.declared.user_id.UserId.{UserId}
-use Rattle.acl.specs.History.{History, decided, decision, greeting, has, there, is_open, is_known, mask, decides_open}
-use Rattle.acl.specs.History.{decides_known}
 use Rattle.acl.specs.Same.{same_user, same_bit, same_object}
-use Rattle.trail_rights.specs.declared.acts.Mark.{Mark}
-use Rattle.trail_rights.specs.declared.decider.Decider.{Decider}
-use Rattle.trail_rights.specs.Marks.{Marked, acts_in}
-use Rattle.trail_rights.specs.Deciding.{deciding, decides, there_after, decider_after, HasDecided, IsDecided}
-use Rattle.trail_rights.specs.Deciding.{DecidingIsLatest}
 
 decided_some : (b x : Bool) → is_some (decided b x) ≡ b
 decided_some true x = refl

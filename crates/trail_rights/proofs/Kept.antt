@@ -1,31 +1,18 @@
 -- What is seen of the acts that tell something is seen of all acts.
-use Rattle.std.proofs.Common.{◌≡◌, ◌∙◌, ℕ, Bool, true, false, ◌&&◌, List, [], ◌∷◌, ◌++◌, Some, None, refl, ap}
-use Rattle.std.proofs.Common.{sym, subst, append-nil, map}
-use Rattle.std.specs.Prelude.{cond, ◌==◌, is_some, unwrap_or}
-use Rattle.std.specs.List.{AllByRecursion, list_all}
-use Rattle.std.proofs.lemmas.Bool.{and_parts, eqb-true, false≢true}
-use Rattle.acl.specs.declared.act.Act.{Act}
+use Rattle.trail_rights.proofs.Vocabulary.{◌≡◌, ◌∙◌, ℕ, Bool, true, false, ◌&&◌, List, [], ◌∷◌, ◌++◌, Some, None, refl}
+use Rattle.trail_rights.proofs.Vocabulary.{ap, sym, subst, append-nil, map, cond, ◌==◌, is_some, unwrap_or}
+use Rattle.trail_rights.proofs.Vocabulary.{AllByRecursion, list_all, and_parts, eqb-true, false≢true, Act, Object}
+use Rattle.trail_rights.proofs.Vocabulary.{Window, Command, Bit, UserId, decides_known, latest, there, Decider, Mark}
+use Rattle.trail_rights.proofs.Vocabulary.{RightsSetting, Settler, Marked, acts_in, marked_on, HasDecided}
+use Rattle.trail_rights.proofs.Vocabulary.{decider_after, decides, deciding, sought_by, there_after, asks, is_asked}
+use Rattle.trail_rights.proofs.Vocabulary.{tells, told, HasSettled, settles, settling, value_of, HasSeen, windows_after}
+use Rattle.trail_rights.proofs.Vocabulary.{windows_of}
 use Rattle.acl.specs.declared.act.Act.TheVariants as act
-use Rattle.acl.specs.declared.act.Object.{Object}
-use Rattle.acl.specs.declared.act.Object.TheVariants.{Window, Command}
-use Rattle.acl.specs.declared.bits.Bit.{Bit}
-use Rattle.acl.specs.declared.user_id.UserId.{UserId}
-use Rattle.acl.specs.History.{decides_known, latest, there}
 use Rattle.acl.specs.Same.{same_bit, same_object, same_user, index_of_command, place_of_bit}
 use Rattle.trail_rights.specs.declared.acts.AskedBits.{AskedBits}
 use Rattle.trail_rights.specs.declared.acts.AskedBits.TheVariants as asked
-use Rattle.trail_rights.specs.declared.decider.Decider.{Decider}
-use Rattle.trail_rights.specs.declared.acts.Mark.{Mark}
-use Rattle.trail_rights.specs.declared.settler.RightsSetting.{RightsSetting}
 use Rattle.trail_rights.specs.declared.settler.RightsSetting.TheVariants as setting
-use Rattle.trail_rights.specs.declared.settler.Settler.{Settler}
 use Rattle.trail_rights.specs.declared.sight.Sight.{Sight}
-use Rattle.trail_rights.specs.Marks.{Marked, acts_in, marked_on}
-use Rattle.trail_rights.specs.Deciding.{HasDecided, decider_after, decides, deciding, sought_by, there_after}
-use Rattle.trail_rights.specs.Keeping.{asks, is_asked, tells, told}
-use Rattle.trail_rights.specs.Settling.{HasSettled, settles, settling, value_of}
-use Rattle.trail_rights.specs.Seeing.{HasSeen}
-use Rattle.trail_rights.specs.Windows.{windows_after, windows_of}
 use Rattle.trail_rights.proofs.Decided.{decided_next}
 use Rattle.trail_rights.proofs.Seen.{marked_one_more}
 

@@ -1,3 +1,4 @@
+pub mod Vocabulary
 pub mod Decided
 pub mod Opened
 pub mod Seen

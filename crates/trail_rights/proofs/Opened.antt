@@ -1,11 +1,8 @@
 -- The windows that are listed are those that are open.
-use Rattle.std.proofs.Common.{◌≡◌, ◌∙◌, ℕ, Bool, true, false, not, ◌&&◌, ◌||◌, List, [], ◌∷◌, ◌++◌, refl, ap, sym}
-use Rattle.std.specs.Prelude.{cond, ◌==◌, unwrap_or}
-use Rattle.std.specs.List.{list_any}
-use Rattle.std.proofs.lemmas.Bool.{eqb-true, false≢true}
+use Rattle.trail_rights.proofs.Vocabulary.{◌≡◌, ◌∙◌, ℕ, Bool, true, false, not, ◌&&◌, ◌||◌, List, [], ◌∷◌, ◌++◌, refl}
+use Rattle.trail_rights.proofs.Vocabulary.{ap, sym, cond, ◌==◌, unwrap_or, list_any, eqb-true, false≢true, decided}
+use Rattle.trail_rights.proofs.Vocabulary.{is_open, without_window, windows_of, OpenAreListed}
 use Rattle.acl.specs.declared.act.Act.TheVariants as act
-use Rattle.acl.specs.History.{decided, is_open}
-use Rattle.trail_rights.specs.Windows.{without_window, windows_of, OpenAreListed}
 
 abbrev lists : ℕ → List ℕ → Bool
 lists w windows = list_any (λ x. x == w) windows

@@ -1,20 +1,10 @@
 -- What is seen of one act more, and of one entry more.
-use Rattle.std.proofs.Common.{◌≡◌, ◌∙◌, List, [], ◌∷◌, ◌++◌, refl, ap, sym, subst}
-use Rattle.std.specs.Prelude.{map}
-use Rattle.std.specs.List.{AllByRecursion, FoldsTo}
-use Rattle.acl.specs.declared.act.Act.{Act}
-use Rattle.acl.specs.declared.user_id.UserId.{UserId}
-use Rattle.acl.specs.History.{followed_by}
-use Rattle.writelock.specs.Holding.{clients_of}
+use Rattle.trail_rights.proofs.Vocabulary.{◌≡◌, ◌∙◌, List, [], ◌∷◌, ◌++◌, refl, ap, sym, subst, map, AllByRecursion}
+use Rattle.trail_rights.proofs.Vocabulary.{FoldsTo, Act, UserId, followed_by, clients_of, Said, Mark, Decider, Marked}
+use Rattle.trail_rights.proofs.Vocabulary.{acts_in, mark_among, marked_after, marked_by, marked_on, entries_in, Settler}
+use Rattle.trail_rights.proofs.Vocabulary.{HasDecided, decider_after, sought_by, setting_by, settler_after}
 use Rattle.hub.specs.Legal.{acts_after}
-use Rattle.trail_lines.specs.Entries.{Said}
-use Rattle.trail_rights.specs.declared.acts.Mark.{Mark}
-use Rattle.trail_rights.specs.declared.decider.Decider.{Decider}
-use Rattle.trail_rights.specs.Marks.{Marked, acts_in, mark_among, marked_after, marked_by, marked_on, marked_with}
-use Rattle.trail_rights.specs.Marks.{entries_in, entry_in}
-use Rattle.trail_rights.specs.declared.settler.Settler.{Settler}
-use Rattle.trail_rights.specs.Deciding.{HasDecided, decider_after, sought_by}
-use Rattle.trail_rights.specs.Settling.{setting_by, settler_after}
+use Rattle.trail_rights.specs.Marks.{marked_with, entry_in}
 use Rattle.trail_rights.proofs.Decided.{decided_next}
 
 pub all_decided : (owner : UserId) (marked : Marked) (m : Mark) (a : Act) (deciders : List Decider)

@@ -1,22 +1,15 @@
 -- A settler looks for the latest act that gives a setting its value.
-use Rattle.std.proofs.Common.{◌≡◌, ◌∙◌, Bool, true, false, ◌&&◌, List, [], ◌∷◌, Option, Some, None, refl, ap, sym, map}
-use Rattle.std.specs.Prelude.{cond, is_some, unwrap_or, IfSome}
-use Rattle.std.specs.List.{AllByRecursion}
-use Rattle.std.proofs.lemmas.Bool.{and_parts, false≢true}
-use Rattle.acl.specs.declared.act.Act.{Act}
+use Rattle.trail_rights.proofs.Vocabulary.{◌≡◌, ◌∙◌, Bool, true, false, ◌&&◌, List, [], ◌∷◌, Option, Some, None, refl}
+use Rattle.trail_rights.proofs.Vocabulary.{ap, sym, map, cond, is_some, unwrap_or, IfSome, AllByRecursion, and_parts}
+use Rattle.trail_rights.proofs.Vocabulary.{false≢true, Act, Bit, Read, Mark, RightsSetting, Settler, Marked, acts_in}
+use Rattle.trail_rights.proofs.Vocabulary.{settles, value_of, settling, settler_after, HasSettled, settler_in}
 use Rattle.acl.specs.declared.act.PresetKind.{PresetKind}
 use Rattle.acl.specs.declared.act.PresetKind.TheVariants as preset
-use Rattle.acl.specs.declared.bits.Bit.{Bit}
-use Rattle.acl.specs.declared.bits.Bit.TheVariants.{Read, Write, Execute}
+use Rattle.acl.specs.declared.bits.Bit.TheVariants.{Write, Execute}
 use Rattle.acl.specs.Same.{same_user, same_bit, same_preset}
 use Rattle.acl.proofs.StandsForLemmas.{same_user-true}
-use Rattle.trail_rights.specs.declared.acts.Mark.{Mark}
-use Rattle.trail_rights.specs.declared.settler.RightsSetting.{RightsSetting}
 use Rattle.trail_rights.specs.declared.settler.RightsSetting.TheVariants as setting
-use Rattle.trail_rights.specs.declared.settler.Settler.{Settler}
-use Rattle.trail_rights.specs.Marks.{Marked, acts_in}
-use Rattle.trail_rights.specs.Settling.{settles, value_of, settling, IsSet, SettlingIsLatest, same_setting}
-use Rattle.trail_rights.specs.Settling.{settler_after, HasSettled, settler_in}
+use Rattle.trail_rights.specs.Settling.{IsSet, SettlingIsLatest, same_setting}
 
 pub settled_next : (marked : Marked) (s : Settler) (m : Mark) (a : Act) → HasSettled marked s
     → HasSettled ((m, a) ∷ marked) (settler_after m a s)

@@ -1,11 +1,10 @@
 -- Loops over lists, one element more.
-use Rattle.std.proofs.Common.{◌≡◌, ◌∙◌, ℕ, zero, suc, ◌+◌, ◌<◌, ◌≤◌, arith, Bool, true, false, ◌&&◌, List, [], ◌∷◌}
-use Rattle.std.proofs.Common.{◌++◌, Some, refl, ap, sym, append-nil, length, take, drop, slice_index_or, add-one}
-use Rattle.std.specs.Prelude.{cond, filter, option_to_list, slice_get}
-use Rattle.std.specs.List.{flat_map, list_all}
+use Rattle.trail_rights.proofs.Vocabulary.{◌≡◌, ◌∙◌, ℕ, zero, suc, ◌+◌, ◌<◌, ◌≤◌, arith, Bool, true, false, ◌&&◌, List}
+use Rattle.trail_rights.proofs.Vocabulary.{[], ◌∷◌, ◌++◌, Some, refl, ap, sym, append-nil, length, take, drop}
+use Rattle.trail_rights.proofs.Vocabulary.{slice_index_or, add-one, cond, option_to_list, flat_map, list_all, drop-next}
+use Rattle.std.specs.Prelude.{filter, slice_get}
 use Rattle.std.proofs.lemmas.List.{take_more, flat_map_more}
 use Rattle.std.proofs.lemmas.Option.{slice_get_within, get_or_from_slice_get}
-use Rattle.acl.proofs.InPlace.{drop-next}
 
 -- what holds of all that are left holds of the next, and of all after it
 pub all_next : {X : Type 0} (p : X → Bool) (xs : List X) (i : ℕ) (d : X) → i < length xs

@@ -1,26 +1,15 @@
 -- A history without leaders, clients and locks gives the same users, windows, masks, presets and entries.
-use Rattle.std.proofs.Common.{◌≡◌, ◌∙◌, ◌∷◌, ◌+◌, ◌-◌, ◌||◌, ◌&&◌, [], ℕ, List, Bool}
-use Rattle.std.proofs.Common.{true, false, not, Option, Some, None, refl}
-use Rattle.std.proofs.Common.{ap, sym, filter, unwrap_or, is_none, nat_lt, if◌then◌else◌}
-use Rattle.std.specs.List.{list_any}
-use Rattle.std.proofs.lemmas.Bool.{false≢true}
-use Rattle.acl.specs.declared.act.Act.{Act}
+use Rattle.trail_setup.proofs.Vocabulary.{◌≡◌, ◌∙◌, ◌∷◌, ◌+◌, ◌-◌, ◌||◌, ◌&&◌, [], ℕ, List, Bool, true, false, not}
+use Rattle.trail_setup.proofs.Vocabulary.{Option, Some, None, refl, ap, sym, filter, unwrap_or, is_none, nat_lt}
+use Rattle.trail_setup.proofs.Vocabulary.{if◌then◌else◌, list_any, false≢true, Act, Window, Command, PresetKind, Bit}
+use Rattle.trail_setup.proofs.Vocabulary.{Edition, UserId, History, decided, has, is_known, is_open, mask, preset_of}
+use Rattle.trail_setup.proofs.Vocabulary.{users_of, same_object, same_user, can_follow, alone, is_of_entries}
 use Rattle.acl.specs.declared.act.Act.TheVariants as act
 use Rattle.acl.specs.declared.act.Object.{Object}
-use Rattle.acl.specs.declared.act.Object.TheVariants.{Window, Command}
-use Rattle.acl.specs.declared.act.PresetKind.{PresetKind}
 use Rattle.acl.specs.declared.act.PresetKind.TheVariants as preset
-use Rattle.acl.specs.declared.bits.Bit.{Bit}
-use Rattle.acl.specs.declared.leaders.Edition.{Edition}
-use Rattle.acl.specs.declared.user_id.UserId.{UserId}
 use Rattle.acl.specs.Commands.{new_name_fault, known_name_fault}
-use Rattle.acl.specs.History.{History, among, decided, decides_known, decides_mask, decides_open, decides_preset}
-use Rattle.acl.specs.History.{decision, has, is_known, is_open, latest, leaders_after, leaders_of, mask}
-use Rattle.acl.specs.History.{may, open_count}
-use Rattle.acl.specs.History.{preset_of, there, users_after, users_of}
-use Rattle.acl.specs.Same.{same_object, same_user}
-use Rattle.hub.specs.Judging.{can_follow}
-use Rattle.trail_setup.specs.Alone.{alone, is_of_entries}
+use Rattle.acl.specs.History.{among, decides_known, decides_mask, decides_open, decides_preset, decision, latest}
+use Rattle.acl.specs.History.{leaders_after, leaders_of, may, open_count, there, users_after}
 
 -- ---- what the newest act decides
 

@@ -1,12 +1,7 @@
 -- What a user gets on a window that is opened under closed masks.
-use Rattle.std.proofs.Common.{◌≡◌, ◌∙◌, ◌&&◌, ℕ, Bool, true, false, Some, None, ap, sym}
-use Rattle.std.proofs.Common.{unwrap_or, if◌then◌else◌, rules}
-use Rattle.std.specs.Prelude.{◌==◌}
-use Rattle.std.specs.List.{list_all}
-use Rattle.std.proofs.lemmas.Bool.{false≢true}
-use Rattle.acl.specs.declared.act.Object.TheVariants.{Window}
-use Rattle.acl.specs.History.{decided, has, is_known, mask}
-use Rattle.acl.specs.Same.{same_user}
+use Rattle.trail_setup.proofs.Vocabulary.{◌≡◌, ◌∙◌, ◌&&◌, ℕ, Bool, true, false, Some, None, ap, sym, unwrap_or}
+use Rattle.trail_setup.proofs.Vocabulary.{if◌then◌else◌, rules, ◌==◌, list_all, false≢true, Window, decided, has}
+use Rattle.trail_setup.proofs.Vocabulary.{is_known, mask, same_user}
 use Rattle.hub.proofs.Folding.{all_holds}
 use Rattle.trail_setup.specs.Closing.{BornClosed}
 

@@ -1,8 +1,8 @@
 -- Words that are put on lines.
-use Rattle.std.proofs.Common.{◌≡◌, ◌∙◌, ℕ, List, [], ◌∷◌, ◌++◌, Result, Ok, Err, OnOk, refl, sym, ap, append_assoc, append-nil}
-use Rattle.std.specs.List.{flat_map}
+use Rattle.trail_setup.proofs.Vocabulary.{◌≡◌, ◌∙◌, ℕ, List, [], ◌∷◌, ◌++◌, Result, Ok, Err, OnOk, refl, sym, ap}
+use Rattle.trail_setup.proofs.Vocabulary.{append_assoc, append-nil, flat_map, Kind, HoldWords, PutsLines, begun, line}
+use Rattle.trail_setup.proofs.Vocabulary.{on_lines}
 use Rattle.std.proofs.lemmas.Grind.{flat_map-append}
-use Rattle.trail_setup.specs.Lines.{Kind, HoldWords, PutsLines, begun, line, on_lines}
 
 -- three texts that came after one another
 pub three : (a b c d l t n : List ℕ) → b ≡ a ++ l → c ≡ b ++ t → d ≡ c ++ n → d ≡ a ++ (l ++ (t ++ n))

@@ -1,17 +1,10 @@
 -- What a setup keeps, act after act, and masks that are set.
-use Rattle.std.proofs.Common.{◌≡◌, ◌∙◌, ◌∷◌, ◌++◌, ◌+◌, ◌<◌, ◌≤◌, ◌&&◌, [], ℕ, List, Bool, true, false, refl, sym, ap}
-use Rattle.std.proofs.Common.{subst, take, drop, set, length, if◌then◌else◌, slice_index_or, append_assoc, add-one}
-use Rattle.std.proofs.lemmas.List.{set_split, take_more}
-use Rattle.acl.specs.declared.act.Act.{Act}
-use Rattle.acl.specs.declared.bits.Bit.{Bit}
-use Rattle.acl.specs.declared.user_id.UserId.{UserId}
-use Rattle.acl.specs.Same.{same_user}
+use Rattle.trail_setup.proofs.Vocabulary.{◌≡◌, ◌∙◌, ◌∷◌, ◌++◌, ◌+◌, ◌<◌, ◌≤◌, ◌&&◌, [], ℕ, List, Bool, true, false}
+use Rattle.trail_setup.proofs.Vocabulary.{refl, sym, ap, subst, take, drop, set, length, if◌then◌else◌, slice_index_or}
+use Rattle.trail_setup.proofs.Vocabulary.{append_assoc, add-one, set_split, take_more, Act, Bit, UserId, same_user}
+use Rattle.trail_setup.proofs.Vocabulary.{take_past, SetMask, SetupState, FollowsAct, FollowsEach, masked_in, with_bit}
+use Rattle.trail_setup.proofs.Vocabulary.{all_bits}
 use Rattle.acl.proofs.InPlace.{drop-next, drop-past}
-use Rattle.trail_rights.proofs.Stepping.{take_past}
-use Rattle.trail_setup.specs.declared.state.SetMask.{SetMask}
-use Rattle.trail_setup.specs.declared.state.SetupState.{SetupState}
-use Rattle.trail_setup.specs.Keeping.{FollowsAct, FollowsEach, masked_in, with_bit}
-use Rattle.trail_setup.specs.Masks.{all_bits}
 
 pub each_more : (acts : List Act) (a : Act) (x y z : SetupState) → FollowsEach acts x y → FollowsAct a y z
     → FollowsEach (acts ++ a ∷ []) x z

@@ -1,3 +1,4 @@
+pub mod Vocabulary
 pub mod Alike
 pub mod Born
 pub mod Filling

@@ -1,14 +1,7 @@
 -- The parts of a setup, put out one after another.
-use Rattle.std.proofs.Common.{◌≡◌, ◌++◌, List, [], ◌∷◌, ℕ, Result, Ok, Err, refl, map, false}
-use Rattle.std.specs.Prelude.{OnOk}
-use Rattle.std.specs.List.{flat_map}
-use Rattle.acl.specs.declared.leaders.Edition.{Edition}
-use Rattle.acl.specs.declared.user_id.UserId.{UserId}
-use Rattle.acl.specs.History.{History}
-use Rattle.acl.specs.Names.{name_of}
-use Rattle.trail_setup.specs.Giving.{Part, PutsAll, first_text, leader_lines, lines_of, users_kind}
-use Rattle.trail_setup.specs.Lines.{PutsLines}
-use Rattle.trail_setup.specs.Masks.{Known, mask_parts}
+use Rattle.trail_setup.proofs.Vocabulary.{◌≡◌, ◌++◌, List, [], ◌∷◌, ℕ, Result, Ok, Err, refl, map, false, OnOk}
+use Rattle.trail_setup.proofs.Vocabulary.{flat_map, Edition, UserId, History, name_of, Part, PutsAll, first_text}
+use Rattle.trail_setup.proofs.Vocabulary.{leader_lines, lines_of, users_kind, PutsLines, Known, mask_parts}
 use Rattle.trail_setup.specs.Setup.{later_parts, parts_for, state_parts, users_parts}
 use Rattle.trail_setup.proofs.Putting.{puts_append}
 

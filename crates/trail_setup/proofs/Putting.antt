@@ -1,16 +1,11 @@
 -- Lines of several kinds that are put out one after another.
-use Rattle.std.proofs.Common.{◌≡◌, ◌∙◌, ◌+◌, ◌<◌, ◌≤◌, ℕ, zero, suc, Bool, true, false, List, [], ◌∷◌, ◌++◌, refl, sym}
-use Rattle.std.proofs.Common.{subst, ap, map, take, drop, length, arith, slice_index_or}
-use Rattle.std.proofs.Common.{length-append, Result, Ok, Err, ◌==◌, not}
-use Rattle.std.specs.Prelude.{OnOk, filter}
-use Rattle.std.proofs.lemmas.Bool.Decides.{nat_tests}
-use Rattle.trail_setup.specs.Masks.{are_any}
-use Rattle.std.specs.List.{AllByRecursion, flat_map, list_all}
-use Rattle.std.proofs.lemmas.List.{flat_map_more}
-use Rattle.trail_rights.proofs.Stepping.{keeps_next, leaves_next, take_past}
+use Rattle.trail_setup.proofs.Vocabulary.{◌≡◌, ◌∙◌, ◌+◌, ◌<◌, ◌≤◌, ℕ, zero, suc, Bool, true, false, List, [], ◌∷◌, ◌++◌}
+use Rattle.trail_setup.proofs.Vocabulary.{refl, sym, subst, ap, map, take, drop, length, arith, slice_index_or}
+use Rattle.trail_setup.proofs.Vocabulary.{length-append, Result, Ok, Err, ◌==◌, not, OnOk, filter, nat_tests, are_any}
+use Rattle.trail_setup.proofs.Vocabulary.{AllByRecursion, flat_map, list_all, flat_map_more, take_past, Part, PutsAll}
+use Rattle.trail_setup.proofs.Vocabulary.{PutsPart, HoldWords, Kind, PutsLines, begun, kind_of, line, on_lines}
+use Rattle.trail_rights.proofs.Stepping.{keeps_next, leaves_next}
 use Rattle.trail_setup.specs.declared.lines.LineForm.{LineForm}
-use Rattle.trail_setup.specs.Giving.{Part, PutsAll, PutsPart}
-use Rattle.trail_setup.specs.Lines.{HoldWords, Kind, PutsLines, begun, kind_of, line, on_lines}
 
 pub puts_append : (ps qs : List Part) (a b c : List ℕ) → PutsAll ps a b → PutsAll qs b c → PutsAll (ps ++ qs) a c
 puts_append [] qs a b c e more = subst (λ (x : List ℕ). PutsAll qs x c) e more

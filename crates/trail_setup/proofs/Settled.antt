@@ -1,25 +1,17 @@
 -- Masks, presets and the default lock that a state keeps are those of the history of the acts that it follows.
-use Rattle.std.proofs.Common.{◌≡◌, ◌∙◌, ◌∷◌, ◌&&◌, ◌||◌, [], ℕ, List, Bool, true, false, not, refl, sym, ap, subst, arith}
-use Rattle.std.proofs.Common.{Some, None, if◌then◌else◌, unwrap_or, length}
-use Rattle.std.specs.Prelude.{cond, filter}
-use Rattle.std.specs.List.{AllByRecursion}
-use Rattle.acl.specs.declared.act.Act.{Act}
+use Rattle.trail_setup.proofs.Vocabulary.{◌≡◌, ◌∙◌, ◌∷◌, ◌&&◌, ◌||◌, [], ℕ, List, Bool, true, false, not, refl, sym, ap}
+use Rattle.trail_setup.proofs.Vocabulary.{subst, arith, Some, None, if◌then◌else◌, unwrap_or, length, cond, filter}
+use Rattle.trail_setup.proofs.Vocabulary.{AllByRecursion, Act, PresetKind, Bit, UserId, History, followed_by, mask}
+use Rattle.trail_setup.proofs.Vocabulary.{preset_of, same_bit, same_preset, same_user, SetMask, SetupState, FollowsAct}
+use Rattle.trail_setup.proofs.Vocabulary.{FollowsEach, masked_in, with_bit, all_bits, mask_in, preset_in}
 use Rattle.acl.specs.declared.act.Act.TheVariants as act
 use Rattle.acl.specs.declared.act.LockMode.{LockMode}
-use Rattle.acl.specs.declared.act.PresetKind.{PresetKind}
 use Rattle.acl.specs.declared.act.PresetKind.TheVariants as preset
-use Rattle.acl.specs.declared.bits.Bit.{Bit}
 use Rattle.acl.specs.declared.bits.Bit.TheVariants.{Read, Write, Execute}
-use Rattle.acl.specs.declared.user_id.UserId.{UserId}
-use Rattle.acl.specs.History.{History, followed_by, mask, preset_of}
-use Rattle.acl.specs.Same.{same_bit, same_preset, same_user}
 use Rattle.acl.proofs.StandsForLemmas.{same_user-true}
 use Rattle.acl.proofs.FollowingLemmas.{same_user-sym}
-use Rattle.trail_setup.specs.declared.state.SetMask.{SetMask}
-use Rattle.trail_setup.specs.declared.state.SetupState.{SetupState}
-use Rattle.trail_setup.specs.Keeping.{FollowsAct, FollowsEach, IsAfter, IsThree, StatesKeep, bit_in, default_after}
-use Rattle.trail_setup.specs.Keeping.{default_of, forgotten, masked_in, masks_after, preset_after, with_bit}
-use Rattle.trail_setup.specs.Masks.{all_bits, mask_in, preset_in}
+use Rattle.trail_setup.specs.Keeping.{IsAfter, IsThree, StatesKeep, bit_in, default_after, default_of, forgotten}
+use Rattle.trail_setup.specs.Keeping.{masks_after, preset_after}
 
 -- ---- three bits
 

@@ -1,18 +1,10 @@
 -- A state that stands for a history stands for it followed by the acts that the state follows.
-use Rattle.std.proofs.Common.{◌≡◌, ◌∷◌, ◌++◌, [], ℕ, List, Bool, true, false, not, refl, sym, subst, ◌==◌, ◌∙◌, ap, arith}
-use Rattle.std.proofs.Common.{if◌then◌else◌, unwrap_or, Some, None}
-use Rattle.std.specs.Prelude.{cond, filter}
-use Rattle.std.specs.List.{AllByRecursion}
-use Rattle.std.proofs.lemmas.Bool.Decides.{nat_tests}
-use Rattle.acl.specs.declared.act.Act.{Act}
+use Rattle.trail_setup.proofs.Vocabulary.{◌≡◌, ◌∷◌, ◌++◌, [], ℕ, List, Bool, true, false, not, refl, sym, subst, ◌==◌}
+use Rattle.trail_setup.proofs.Vocabulary.{◌∙◌, ap, arith, if◌then◌else◌, unwrap_or, Some, None, cond, filter}
+use Rattle.trail_setup.proofs.Vocabulary.{AllByRecursion, nat_tests, Act, Edition, UserId, History, followed_by}
+use Rattle.trail_setup.proofs.Vocabulary.{is_open, CanFollow, SetupState, FollowsEach, Stands}
 use Rattle.acl.specs.declared.act.Act.TheVariants as act
-use Rattle.acl.specs.declared.leaders.Edition.{Edition}
-use Rattle.acl.specs.declared.user_id.UserId.{UserId}
-use Rattle.acl.specs.History.{History, followed_by, is_open}
-use Rattle.hub.specs.Judging.{CanFollow}
-use Rattle.trail_setup.specs.declared.state.SetupState.{SetupState}
-use Rattle.trail_setup.specs.Keeping.{FollowsEach, StatesStand, windows_after}
-use Rattle.trail_setup.specs.Masks.{Stands}
+use Rattle.trail_setup.specs.Keeping.{StatesStand, windows_after}
 
 eq_sym : (m n : ℕ) → (m == n) ≡ (n == m)
 eq_sym m n = grind (arith, nat_tests)

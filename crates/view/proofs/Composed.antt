@@ -1,19 +1,11 @@
 -- The pieces of a page are laid over it one after another.
-use Rattle.std.proofs.Common.{◌≡◌, ℕ, zero, suc, ◌+◌, ◌-◌, ◌<◌, ◌≤◌, Bool, true, false, ◌&&◌, ltb, List, [], ◌∷◌, ◌++◌}
-use Rattle.std.proofs.Common.{length, map, take, drop, get_or, refl, sym, ap, ◌∙◌, arith, ⊎_elim, lt-ltb}
-use Rattle.std.specs.Prelude.{if◌then◌else◌, nat_lt}
-use Rattle.std.specs.List.{list_all}
-use Rattle.std.proofs.lemmas.Bool.{cases_lt, ltb-true}
-use Rattle.std.proofs.lemmas.List.{drop_more, take_more, take-append-drop, get_or_past}
-use Rattle.cells.specs.declared.cell.Cell.{Cell}
-use Rattle.cells.specs.Line.{blank, cell_at}
-use Rattle.cells.specs.Page.{line_at, IsGrid}
-use Rattle.terminal_model.specs.Places.{place}
-use Rattle.terminal_model.specs.Shows.{View}
-use Rattle.regions.specs.declared.rect.Rect.{Rect}
-use Rattle.regions.specs.Pages.{has, times, one_if, TilesPage, inner, caption, is_roomy, parts}
-use Rattle.view.specs.Granted.{Piece, cell_of}
-use Rattle.view.specs.Rows.{IsOnPage, IsFree, IsPlaced, nowhere, laid, Lays}
+use Rattle.view.proofs.Vocabulary.{◌≡◌, ℕ, zero, suc, ◌+◌, ◌-◌, ◌<◌, ◌≤◌, Bool, true, false, ◌&&◌, ltb, List, [], ◌∷◌}
+use Rattle.view.proofs.Vocabulary.{◌++◌, length, map, take, drop, get_or, refl, sym, ap, ◌∙◌, arith, ⊎_elim, lt-ltb}
+use Rattle.view.proofs.Vocabulary.{if◌then◌else◌, nat_lt, list_all, cases_lt, ltb-true, get_or_past, Cell, blank}
+use Rattle.view.proofs.Vocabulary.{cell_at, line_at, IsGrid, place, View, Rect, has, times, one_if, TilesPage, inner}
+use Rattle.view.proofs.Vocabulary.{caption, is_roomy, parts, Piece, cell_of, IsOnPage, IsFree, IsPlaced, nowhere, laid}
+use Rattle.view.proofs.Vocabulary.{Lays}
+use Rattle.std.proofs.lemmas.List.{drop_more, take_more, take-append-drop}
 use Rattle.view.proofs.Laying.{InRect, in_has, not_has, cases_has, free_of_blanks}
 
 both : (a b : Bool) → (a && b) ≡ true → (a ≡ true) × (b ≡ true)

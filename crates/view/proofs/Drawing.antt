@@ -1,25 +1,13 @@
 -- A composed view can be shown by a terminal.
-use Rattle.std.proofs.Common.{◌≡◌, ℕ, suc, ◌+◌, ◌-◌, ◌<◌, ◌≤◌, Bool, true, false, ◌&&◌, List, [], ◌∷◌, ◌++◌, length}
-use Rattle.std.proofs.Common.{map, refl, sym, ap, subst, ◌∙◌, arith, ⊎_elim, eq-eqb}
-use Rattle.std.specs.Prelude.{if◌then◌else◌, ◌==◌, nat_lt, chars}
-use Rattle.std.specs.List.{range_with_len}
-use Rattle.std.specs.Str.{all_scalars}
-use Rattle.std.specs.Str.Lossy.{utf8_lossy}
-use Rattle.std.proofs.lemmas.Bool.{cases_lt, cases_eq, ne_eqb}
-use Rattle.std.proofs.lemmas.List.{get_or_past}
-use Rattle.cells.specs.declared.cell.Cell.{Cell}
-use Rattle.cells.specs.declared.cell.Shape.TheVariants.{Narrow}
-use Rattle.cells.specs.Line.{blank, cell_at, is_left, narrow_cell, right_cell, unprotected, plain}
-use Rattle.cells.specs.Page.{line_at}
-use Rattle.terminal_model.specs.Drawable.{IsDrawableCell, IsDrawableLine}
-use Rattle.terminal_model.specs.Shows.{View}
-use Rattle.regions.specs.declared.rect.Rect.{Rect}
-use Rattle.regions.specs.declared.rect.Rects.{Rects}
-use Rattle.regions.specs.Pages.{has, times, one_if}
-use Rattle.view.specs.Drawable.{IsDrawable}
-use Rattle.view.specs.Granted.{Piece, Part, vacant, unread, read, AreDrawable, HasDrawableLines, pieces, region_piece}
-use Rattle.view.specs.Granted.{separator_piece, status_piece, box_at, part_at, box_cell, part_cell, caption_text}
-use Rattle.view.specs.Granted.{caption_rendition, first_shown, cell_of, reverse}
+use Rattle.view.proofs.Vocabulary.{◌≡◌, ℕ, suc, ◌+◌, ◌-◌, ◌<◌, ◌≤◌, Bool, true, false, ◌&&◌, List, [], ◌∷◌, ◌++◌}
+use Rattle.view.proofs.Vocabulary.{length, map, refl, sym, ap, subst, ◌∙◌, arith, ⊎_elim, eq-eqb, if◌then◌else◌, ◌==◌}
+use Rattle.view.proofs.Vocabulary.{nat_lt, chars, range_with_len, all_scalars, utf8_lossy, cases_lt, cases_eq, ne_eqb}
+use Rattle.view.proofs.Vocabulary.{get_or_past, Cell, Narrow, blank, cell_at, is_left, narrow_cell, right_cell}
+use Rattle.view.proofs.Vocabulary.{unprotected, plain, line_at, IsDrawableCell, IsDrawableLine, View, Rect, Rects, has}
+use Rattle.view.proofs.Vocabulary.{times, one_if, IsDrawable, Piece, Part, vacant, unread, read, AreDrawable, pieces}
+use Rattle.view.proofs.Vocabulary.{region_piece, separator_piece, status_piece, box_at, part_at, box_cell, part_cell}
+use Rattle.view.proofs.Vocabulary.{caption_text, caption_rendition, first_shown, cell_of, reverse}
+use Rattle.view.specs.Granted.{HasDrawableLines}
 use Rattle.view.proofs.Composed.{Holds, Tiles, rects_of}
 use Rattle.view.proofs.Laying.{InRect, in_has, cases_has}
 use Rattle.view.proofs.Glyphs.{IsDrawnRow, text_drawn, line_drawn, same_drawn, drawable_blank, drawable_narrow}

@@ -1,15 +1,9 @@
 -- The cursor of a focused region lies on the page.
-use Rattle.std.proofs.Common.{◌≡◌, ℕ, ◌+◌, ◌-◌, ◌<◌, ◌≤◌, Bool, true, false, ◌&&◌, cond, ltb, List, length, refl, arith}
-use Rattle.std.specs.Prelude.{Option, Some, None, IfSome}
-use Rattle.std.proofs.lemmas.Bool.{ltb-true}
-use Rattle.cells.specs.declared.cell.Cell.{Cell}
-use Rattle.cells.specs.Page.{line_at, IsGrid}
-use Rattle.regions.specs.declared.rect.Rect.{Rect}
+use Rattle.view.proofs.Vocabulary.{◌≡◌, ℕ, ◌+◌, ◌-◌, ◌<◌, ◌≤◌, Bool, true, false, ◌&&◌, cond, ltb, List, length, refl}
+use Rattle.view.proofs.Vocabulary.{arith, Option, Some, None, IfSome, ltb-true, Cell, line_at, IsGrid, Rect, IsInside}
+use Rattle.view.proofs.Vocabulary.{Page, View, Part, vacant, unread, read, first_shown, cursor_of, IsOnPage, IsPlaced}
 use Rattle.terminal_model.specs.declared.state.Position.{Position}
-use Rattle.terminal_model.specs.Screen.{IsInside, Page}
-use Rattle.terminal_model.specs.Shows.{View}
-use Rattle.view.specs.Granted.{Part, vacant, unread, read, Window, first_shown, cursor_in, cursor_of}
-use Rattle.view.specs.Rows.{IsOnPage, IsPlaced}
+use Rattle.view.specs.Granted.{Window, cursor_in}
 use Rattle.view.proofs.Laying.{in_has}
 
 both : (a b : Bool) → (a && b) ≡ true → (a ≡ true) × (b ≡ true)

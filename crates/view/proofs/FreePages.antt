@@ -1,20 +1,9 @@
 -- Pages on which all pieces are free.
-use Rattle.std.proofs.Common.{◌≡◌, ℕ, ◌+◌, ◌-◌, ◌<◌, ◌≤◌, List, [], ◌∷◌, length}
-use Rattle.std.proofs.Common.{get_or, refl, sym, ap, subst, ◌∙◌, arith, ⊎_elim, length-append}
-use Rattle.std.proofs.lemmas.Bool.{cases_lt}
-use Rattle.cells.specs.Line.{blank}
-use Rattle.cells.specs.Page.{line_at, IsGrid}
-use Rattle.terminal_model.specs.Places.{place}
-use Rattle.terminal_model.specs.Shows.{View}
-use Rattle.regions.specs.declared.rect.Rect.{Rect}
-use Rattle.regions.specs.declared.rect.Rects.{Rects}
+use Rattle.view.proofs.Vocabulary.{◌≡◌, ℕ, ◌+◌, ◌-◌, ◌<◌, ◌≤◌, List, [], ◌∷◌, length, get_or, refl, sym, ap, subst, ◌∙◌}
+use Rattle.view.proofs.Vocabulary.{arith, ⊎_elim, length-append, cases_lt, blank, line_at, IsGrid, place, View, Rect}
+use Rattle.view.proofs.Vocabulary.{Rects, Shape, region, split, upper, lower, left, right, boxes, separators, box_of}
+use Rattle.view.proofs.Vocabulary.{status_of, HasPageSize, IsFree, AreFree, Piece, Part, AreParts, pieces, box_at}
 use Rattle.regions.specs.declared.node.Way.TheVariants.{Below, Right}
-use Rattle.regions.specs.Shapes.{Shape, region, split, upper, lower, left, right, boxes, separators}
-use Rattle.regions.specs.Pages.{box_of, status_of}
-use Rattle.view.specs.Composing.{HasPageSize}
-use Rattle.view.specs.Rows.{IsFree, AreFree}
-use Rattle.view.specs.Granted.{Piece, Part, AreParts, pieces}
-use Rattle.view.specs.Granted.{box_at}
 use Rattle.view.proofs.Laying.{free_if_wide}
 use Rattle.view.proofs.Composed.{piece_at, free_on_blanks}
 use Rattle.view.proofs.Pieces.{pieces_length, region_at, separator_at, status_at, pieces_tile, box_roomy}

@@ -1,26 +1,17 @@
 -- What a composed view shows can be shown by a terminal: its characters, and the lines of windows.
-use Rattle.std.proofs.Common.{◌≡◌, ℕ, zero, suc, ◌+◌, ◌<◌, ◌≤◌, Bool, true, false, ◌&&◌, ◌||◌, cond, eqb, ltb, leb}
-use Rattle.std.proofs.Common.{List, [], ◌∷◌, ◌++◌, length, get_or, refl, sym, ap, subst, ◌∙◌, arith, ⊎_elim, ◌⊎◌, inl}
-use Rattle.std.proofs.Common.{inr, eq-eqb, lt-ltb}
-use Rattle.std.specs.Prelude.{Option, Some, None, ◌==◌}
+use Rattle.view.proofs.Vocabulary.{◌≡◌, ℕ, zero, suc, ◌+◌, ◌<◌, ◌≤◌, Bool, true, false, ◌&&◌, ◌||◌, cond, eqb, ltb, leb}
+use Rattle.view.proofs.Vocabulary.{List, [], ◌∷◌, ◌++◌, length, get_or, refl, sym, ap, subst, ◌∙◌, arith, ⊎_elim, ◌⊎◌}
+use Rattle.view.proofs.Vocabulary.{inl, inr, eq-eqb, lt-ltb, Option, Some, None, ◌==◌, all_scalars, cases_lt, ne_eqb}
+use Rattle.view.proofs.Vocabulary.{le-ltb, leb-true, eqb-true, get_or_past, get_or_default, Cell, Rendition, Narrow}
+use Rattle.view.proofs.Vocabulary.{Right, drawn_as, glyph_columns, blank, cell_at, is_left, narrow_cell, left_cell}
+use Rattle.view.proofs.Vocabulary.{right_cell, unprotected, columns_of, drawn, IsDrawableCell, IsDrawableLine}
+use Rattle.view.proofs.Vocabulary.{char_width, and_false, line_cell, shown_cell, visible, uncut, text_cells, text_at}
 use lib.Utf8.{scalar}
 use Rattle.std.specs.Char.{IsScalar}
-use Rattle.std.specs.Str.{all_scalars}
-use Rattle.std.proofs.lemmas.Bool.{cases_lt, ne_eqb, le-ltb, leb-true, eqb-true}
-use Rattle.std.proofs.lemmas.List.{get_or_past, get_or_default}
-use Rattle.cells.specs.declared.cell.Cell.{Cell}
-use Rattle.cells.specs.declared.rendition.Rendition.{Rendition}
-use Rattle.cells.specs.declared.cell.Shape.TheVariants.{Narrow, Right}
-use Rattle.cells.specs.Glyph.{drawn_as, glyph_columns}
-use Rattle.cells.specs.Line.{blank, cell_at, is_left, narrow_cell, left_cell, right_cell, unprotected}
-use Rattle.terminal_model.specs.Printing.{columns_of, drawn}
-use Rattle.terminal_model.specs.Drawable.{IsGlyph, IsDrawableCell, HasHalves, IsDrawableLine}
-use Rattle.unicode_width.specs.Width.{char_width, alone}
-use Rattle.cells.proofs.Settling.{and_false}
-use Rattle.view.specs.Granted.{line_cell, shown_cell}
+use Rattle.terminal_model.specs.Drawable.{IsGlyph, HasHalves}
+use Rattle.unicode_width.specs.Width.{alone}
 use Rattle.view.proofs.Pairing.{uncut_before, uncut_last, shown_line, line_is, shown_shape}
 use Rattle.unicode_width.proofs.Computing.{unicode_width}
-use Rattle.view.specs.Texts.{visible, uncut, text_cells, text_at}
 
 -- ---- characters
 

@@ -1,23 +1,13 @@
 -- Facts of pieces that are laid over a page.
-use Rattle.std.proofs.Common.{◌≡◌, ℕ, suc, ◌+◌, ◌-◌, ◌<◌, ◌≤◌, Bool, true, false, ◌&&◌, eqb, leb, ltb, List, length}
-use Rattle.std.proofs.Common.{refl, sym, ap, subst, ◌∙◌, arith, ⊎_elim, inl, inr, ◌⊎◌, eq-eqb, lt-ltb, le-leb}
-use Rattle.std.specs.Prelude.{if◌then◌else◌, ◌==◌}
-use Rattle.std.proofs.lemmas.Bool.{cases_lt, cases_eq, cases_Bool, ne_eqb, ltb-true, leb-true}
+use Rattle.view.proofs.Vocabulary.{◌≡◌, ℕ, suc, ◌+◌, ◌-◌, ◌<◌, ◌≤◌, Bool, true, false, ◌&&◌, eqb, leb, ltb, List}
+use Rattle.view.proofs.Vocabulary.{length, refl, sym, ap, subst, ◌∙◌, arith, ⊎_elim, inl, inr, ◌⊎◌, eq-eqb, lt-ltb}
+use Rattle.view.proofs.Vocabulary.{le-leb, if◌then◌else◌, ◌==◌, cases_lt, cases_eq, cases_Bool, ne_eqb, ltb-true}
+use Rattle.view.proofs.Vocabulary.{leb-true, get_or_past, Cell, blank, cell_at, is_left, is_right, IsPaired, spliced}
+use Rattle.view.proofs.Vocabulary.{line_at, IsGrid, page_from, edited, and_false, place, overlaid_cell, View, over-at}
+use Rattle.view.proofs.Vocabulary.{Rect, has, among, written, Piece, IsRow, IsOnPage, IsFree, laid, Lays, row_of}
 use Rattle.std.proofs.lemmas.Bool.Decides.{nat_tests}
-use Rattle.std.proofs.lemmas.List.{get_or_past}
-use Rattle.cells.specs.declared.cell.Cell.{Cell}
-use Rattle.cells.specs.Line.{blank, cell_at, is_left, is_right, IsPaired, spliced}
-use Rattle.cells.specs.Page.{line_at, IsGrid, page_from, edited}
-use Rattle.cells.proofs.Settling.{and_false}
 use Rattle.cells.proofs.Pages.{length-page_from, width-page_from}
-use Rattle.terminal_model.specs.Places.{place, overlaid_cell}
-use Rattle.terminal_model.specs.Shows.{View}
-use Rattle.terminal_model.proofs.Places.{over-at}
-use Rattle.regions.specs.declared.rect.Rect.{Rect}
-use Rattle.regions.specs.Pages.{has, among}
-use Rattle.view.specs.View.{written}
-use Rattle.view.specs.Granted.{Piece}
-use Rattle.view.specs.Rows.{IsRow, IsOnPage, IsFree, laid, Lays, row_of, row_piece}
+use Rattle.view.specs.Rows.{row_piece}
 
 -- ---- places of a rectangle
 

@@ -1,22 +1,12 @@
 -- The halves of wide characters are paired in the rows of a region's box.
-use Rattle.std.proofs.Common.{◌≡◌, ℕ, zero, suc, ◌+◌, ◌-◌, ◌<◌, ◌≤◌, Bool, true, false, ◌&&◌, cond, eqb, List, [], ◌∷◌}
-use Rattle.std.proofs.Common.{◌++◌, length, get_or, refl, sym, ap, ◌∙◌, arith, ⊎_elim, eq-eqb, lt-ltb}
-use Rattle.std.proofs.lemmas.Bool.{cases_lt, cases_eq, ne_eqb, le-ltb}
-use Rattle.std.proofs.lemmas.List.{get_or_past, get_or_default}
-use Rattle.cells.specs.declared.cell.Cell.{Cell}
-use Rattle.cells.specs.declared.rendition.Rendition.{Rendition}
+use Rattle.view.proofs.Vocabulary.{◌≡◌, ℕ, zero, suc, ◌+◌, ◌-◌, ◌<◌, ◌≤◌, Bool, true, false, ◌&&◌, cond, eqb, List, []}
+use Rattle.view.proofs.Vocabulary.{◌∷◌, ◌++◌, length, get_or, refl, sym, ap, ◌∙◌, arith, ⊎_elim, eq-eqb, lt-ltb}
+use Rattle.view.proofs.Vocabulary.{cases_lt, cases_eq, ne_eqb, le-ltb, get_or_past, get_or_default, Cell, Rendition}
+use Rattle.view.proofs.Vocabulary.{Narrow, Left, Right, blank, cell_at, is_left, is_right, IsPaired, narrow_cell}
+use Rattle.view.proofs.Vocabulary.{left_cell, right_cell, line_at, and_false, columns_of, Rect, nat_lt, uncut, visible}
+use Rattle.view.proofs.Vocabulary.{text_cells, text_at, Part, vacant, unread, read, first_shown, line_cell, shown_cell}
+use Rattle.view.proofs.Vocabulary.{part_cell, box_cell, caption_rendition, caption_text, HasPairedLines, IsRow}
 use Rattle.cells.specs.declared.cell.Shape.{Shape}
-use Rattle.cells.specs.declared.cell.Shape.TheVariants.{Narrow, Left, Right}
-use Rattle.cells.specs.Line.{blank, cell_at, is_left, is_right, IsPaired, narrow_cell, left_cell, right_cell}
-use Rattle.cells.specs.Page.{line_at}
-use Rattle.cells.proofs.Settling.{and_false}
-use Rattle.terminal_model.specs.Printing.{columns_of}
-use Rattle.regions.specs.declared.rect.Rect.{Rect}
-use Rattle.std.specs.Prelude.{nat_lt}
-use Rattle.view.specs.Texts.{uncut, visible, text_cells, text_at}
-use Rattle.view.specs.Granted.{Part, vacant, unread, read, first_shown, line_cell, shown_cell, part_cell, box_cell}
-use Rattle.view.specs.Granted.{caption_rendition, caption_text, HasPairedLines}
-use Rattle.view.specs.Rows.{IsRow}
 
 right_is : (left : Bool) (edge : Bool) (cell other : Cell) → is_left cell.shape ≡ left → is_right other.shape ≡ false
     → is_right (cond (edge && left) other cell).shape ≡ is_right cell.shape

@@ -1,21 +1,14 @@
 -- The pieces of a composed page, one by one.
-use Rattle.std.proofs.Common.{◌≡◌, ℕ, zero, suc, ◌+◌, ◌-◌, ◌<◌, ◌≤◌, true, ltb, List, [], ◌∷◌, ◌++◌, length, map}
-use Rattle.std.proofs.Common.{get_or, refl, sym, ap, subst, ◌∙◌, arith, ⊎_elim, length-append}
-use Rattle.std.specs.List.{range_with_len, list_all}
-use Rattle.std.proofs.lemmas.Bool.{cases_lt, ltb-true}
-use Rattle.std.proofs.lemmas.List.{ext_get_or, get_or-map, get_or_append_left, get_or-append-add, length-map}
+use Rattle.view.proofs.Vocabulary.{◌≡◌, ℕ, zero, suc, ◌+◌, ◌-◌, ◌<◌, ◌≤◌, true, ltb, List, [], ◌∷◌, ◌++◌, length, map}
+use Rattle.view.proofs.Vocabulary.{get_or, refl, sym, ap, subst, ◌∙◌, arith, ⊎_elim, length-append, range_with_len}
+use Rattle.view.proofs.Vocabulary.{list_all, cases_lt, ltb-true, ext_get_or, get_or-map, get_or_append_left, Rect}
+use Rattle.view.proofs.Vocabulary.{Rects, Shape, region, split, upper, lower, left, right, boxes, separators, is_roomy}
+use Rattle.view.proofs.Vocabulary.{times, parts, TilesPage, box_of, both_true, wide, tall, room_fits, nowhere, Piece}
+use Rattle.view.proofs.Vocabulary.{Part, AreParts, pieces, region_piece, separator_piece, status_piece}
+use Rattle.std.proofs.lemmas.List.{get_or-append-add, length-map}
 use Rattle.std.proofs.lemmas.List.FromFn.{length-map-range_with_len, get_or-map-range_with_len}
-use Rattle.regions.specs.declared.rect.Rect.{Rect}
-use Rattle.regions.specs.declared.rect.Rects.{Rects}
 use Rattle.regions.specs.declared.node.Way.TheVariants.{Below, Right}
-use Rattle.regions.specs.Shapes.{Shape, region, split, upper, lower, left, right, boxes, separators}
-use Rattle.regions.specs.Pages.{is_roomy, times, parts, TilesPage}
-use Rattle.regions.specs.Pages.{box_of}
 use Rattle.regions.proofs.Tiling.{page_once}
-use Rattle.regions.proofs.Room.{both_true, wide, tall, room_fits}
-use Rattle.view.specs.Rows.{nowhere}
-use Rattle.view.specs.Granted.{Piece, Part, AreParts, pieces, region_piece}
-use Rattle.view.specs.Granted.{separator_piece, status_piece}
 use Rattle.view.proofs.Composed.{Tiles, rects_of, piece_at, parts_tile}
 
 -- ---- separators are one column wide

@@ -1,37 +1,17 @@
 -- The pieces of a page are laid over it one after another.
-use Rattle.std.proofs.Common.{◌≡◌, ℕ, ◌+◌, ◌<◌, ◌≤◌, true, List, [], length, map}
-use Rattle.std.proofs.Common.{get_or, take, refl, sym, ap, subst, ◌∙◌, arith, ⊎_elim}
-use Rattle.std.specs.Prelude.{◌==◌}
-use Rattle.std.specs.List.{range_with_len}
-use Rattle.std.proofs.lemmas.Bool.{cases_lt}
-use Rattle.std.proofs.lemmas.List.{ext_get_or, get_or-map}
+use Rattle.view.proofs.Vocabulary.{◌≡◌, ℕ, ◌+◌, ◌<◌, ◌≤◌, true, List, [], length, map, get_or, take, refl, sym, ap}
+use Rattle.view.proofs.Vocabulary.{subst, ◌∙◌, arith, ⊎_elim, ◌==◌, chars, range_with_len, cases_lt, ext_get_or}
+use Rattle.view.proofs.Vocabulary.{get_or-map, Cell, blank, line_at, IsGrid, View, Rect, Rects, Shape, tall, Page}
+use Rattle.view.proofs.Vocabulary.{all_scalars, utf8_lossy, IsDrawableLine, IsDrawable, HasPageSize, IsFree, AreFree}
+use Rattle.view.proofs.Vocabulary.{IsPlaced, Lays, FocusesOn, Pane, Empty, Piece, Part, vacant, part_of, AreParts}
+use Rattle.view.proofs.Vocabulary.{HasPairedLines, pieces, region_piece, separator_piece, status_piece, box_at, part_at}
+use Rattle.view.proofs.Vocabulary.{box_cell, caption_text, AreDrawable, cell_of, cursor_of}
 use Rattle.std.proofs.lemmas.List.FromFn.{length-map-range_with_len, get_or-map-range_with_len}
-use Rattle.cells.specs.declared.cell.Cell.{Cell}
-use Rattle.cells.specs.Line.{blank}
-use Rattle.cells.specs.Page.{line_at, IsGrid}
-use Rattle.terminal_model.specs.Shows.{View}
-use Rattle.regions.specs.declared.rect.Rect.{Rect}
-use Rattle.regions.specs.declared.rect.Rects.{Rects}
-use Rattle.regions.specs.Shapes.{Shape}
-use Rattle.regions.proofs.Room.{tall}
-use Rattle.terminal_model.specs.Screen.{Page}
 use Rattle.std.proofs.Math.Seq.{take-length}
-use Rattle.std.specs.Prelude.{chars}
-use Rattle.std.specs.Str.{all_scalars}
-use Rattle.std.specs.Str.Lossy.{utf8_lossy}
-use Rattle.terminal_model.specs.Drawable.{IsDrawableLine}
-use Rattle.view.specs.Drawable.{IsDrawable}
 use Rattle.view.proofs.Drawing.{pieces_drawn, view_drawn}
-use Rattle.view.specs.Composing.{HasPageSize}
-use Rattle.view.specs.Rows.{IsFree, AreFree, IsPlaced, Lays, FocusesOn}
-use Rattle.view.specs.declared.view.Pane.{Pane}
-use Rattle.view.specs.declared.view.Pane.TheVariants.{Empty}
-use Rattle.view.specs.Granted.{Piece, Part, vacant, part_of, AreParts, HasPairedLines, pieces, region_piece}
-use Rattle.view.specs.Granted.{separator_piece, status_piece, box_at, part_at, box_cell, caption_text, AreDrawable}
-use Rattle.view.specs.Granted.{cell_of, page_of, cursor_of, arrows_of, keypad_of, view_of, view_in}
+use Rattle.view.specs.Granted.{page_of, arrows_of, keypad_of, view_of, view_in}
 use Rattle.view.proofs.Laying.{still_free}
-use Rattle.view.proofs.Composed.{Covers, Holds, piece_at, is_placed, apart}
-use Rattle.view.proofs.Composed.{laid_more, all_hold}
+use Rattle.view.proofs.Composed.{Covers, Holds, piece_at, is_placed, apart, laid_more, all_hold}
 use Rattle.view.proofs.Pieces.{pieces_length, region_at, separator_at, status_at, pieces_tile, box_roomy}
 use Rattle.view.proofs.Pieces.{separator_narrow, status_rows, status_line, status_columns}
 

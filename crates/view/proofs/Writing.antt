@@ -1,22 +1,14 @@
 -- The cells that a text and a caption are written with.
-use Rattle.std.proofs.Common.{◌≡◌, ℕ, zero, suc, ◌+◌, ◌<◌, ◌≤◌, false, cond, eqb, List, [], ◌∷◌, ◌++◌, length, get_or}
-use Rattle.std.proofs.Common.{drop, append_assoc, refl, sym, ap, ◌∙◌, arith}
-use Rattle.std.specs.Prelude.{Option, Some, None, IfSome, unwrap_or, chars, decimal, IsAscii, ◌^◌}
+use Rattle.view.proofs.Vocabulary.{◌≡◌, ℕ, zero, suc, ◌+◌, ◌<◌, ◌≤◌, false, cond, eqb, List, [], ◌∷◌, ◌++◌, length}
+use Rattle.view.proofs.Vocabulary.{get_or, drop, append_assoc, refl, sym, ap, ◌∙◌, arith, Option, Some, None, IfSome}
+use Rattle.view.proofs.Vocabulary.{chars, ne_eqb, Cell, Rendition, narrow_cell, left_cell, right_cell, drawn_as}
+use Rattle.view.proofs.Vocabulary.{glyph_columns, columns_of, drawn, char_width, Pane, Empty, Hidden, Readable, part_of}
+use Rattle.view.proofs.Vocabulary.{caption_text, visible, char_cells, text_cells}
+use Rattle.std.specs.Prelude.{unwrap_or, decimal, IsAscii, ◌^◌}
 use Rattle.std.proofs.lemmas.Str.{chars-IsAscii, chars-append, IsAscii-append, IsUtf8-from_ascii}
 use Rattle.std.proofs.lemmas.Fmt.{IsAscii-decimal}
 use Rattle.std.proofs.lemmas.List.{at_drop_more, at_drop_all, length_push, append-nil}
-use Rattle.std.proofs.lemmas.Bool.{ne_eqb}
-use Rattle.cells.specs.declared.cell.Cell.{Cell}
-use Rattle.cells.specs.declared.rendition.Rendition.{Rendition}
-use Rattle.cells.specs.Line.{narrow_cell, left_cell, right_cell}
-use Rattle.cells.specs.Glyph.{drawn_as, glyph_columns}
-use Rattle.terminal_model.specs.Printing.{columns_of, drawn}
-use Rattle.unicode_width.specs.Width.{char_width}
-use Rattle.view.specs.declared.view.Pane.{Pane}
-use Rattle.view.specs.declared.view.Pane.TheVariants.{Empty, Hidden, Readable}
 use Rattle.view.specs.declared.view.Contents.{Contents}
-use Rattle.view.specs.Granted.{part_of, caption_text}
-use Rattle.view.specs.Texts.{visible, char_cells, text_cells}
 
 -- the character that is shown, by its width
 abbrev shown_by : Option ℕ → ℕ → ℕ

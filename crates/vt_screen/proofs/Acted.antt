@@ -1,12 +1,7 @@
 -- Actions that are performed one after another.
-use Rattle.std.proofs.Common.{◌≡◌, ℕ, List, [], ◌∷◌, ◌++◌, refl, ◌∙◌}
-use Rattle.terminal_model.specs.declared.action.Action.{Action}
-use Rattle.terminal_model.specs.Screen.{Screen, IsSound}
-use Rattle.terminal_model.specs.Table.{acted, all_acted}
-use Rattle.terminal_model.proofs.Sound.{IsSound-acted}
-use Rattle.vt_screen.specs.declared.screen.Display.{Display}
-use Rattle.vt_screen.specs.Displays.{IsFit, screen_of}
-use Rattle.vt_screen.specs.Places.{acted_places, all_acted_places}
+use Rattle.vt_screen.proofs.Vocabulary.{◌≡◌, ℕ, List, [], ◌∷◌, ◌++◌, refl, ◌∙◌, Action, Screen, IsSound, acted}
+use Rattle.vt_screen.proofs.Vocabulary.{all_acted, IsSound-acted, Display, IsFit, screen_of, acted_places}
+use Rattle.vt_screen.proofs.Vocabulary.{all_acted_places}
 use Rattle.vt_screen.proofs.SizeLemmas.{acted_columns}
 use Rattle.vt_screen.proofs.Widths.{fit_after}
 

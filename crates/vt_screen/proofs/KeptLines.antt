@@ -1,10 +1,9 @@
 -- The scrollback: its newest line is the last one of a ring and the first one of a screen.
-use Rattle.std.proofs.Common.{◌≡◌, ℕ, ◌-◌, ◌<◌, ◌≤◌, List, [], ◌∷◌, ◌++◌, length, take, drop, map, reverse, refl, sym}
-use Rattle.std.proofs.Common.{ap, ◌∙◌, arith, ⊎_elim}
-use Rattle.std.proofs.lemmas.List.{map-append, take_all, take-append-le, take-append-drop, reverse-append}
-use Rattle.std.proofs.lemmas.List.{length-reverse, length-drop}
+use Rattle.vt_screen.proofs.Vocabulary.{◌≡◌, ℕ, ◌-◌, ◌<◌, ◌≤◌, List, [], ◌∷◌, ◌++◌, length, take, drop, map, reverse}
+use Rattle.vt_screen.proofs.Vocabulary.{refl, sym, ap, ◌∙◌, arith, ⊎_elim, map-append, cases_lt}
+use Rattle.std.proofs.lemmas.List.{take_all, take-append-le, take-append-drop, reverse-append, length-reverse}
+use Rattle.std.proofs.lemmas.List.{length-drop}
 use Rattle.std.proofs.Math.Seq.{take-length}
-use Rattle.std.proofs.lemmas.Bool.{cases_lt}
 use Rattle.circular_buffer.specs.Buffer.{keep_last}
 use Rattle.scrollback.proofs.Lasts.{keep_all}
 

@@ -1,22 +1,13 @@
 -- Letters, marks and known wide characters stand for themselves, and their widths are read off the width table.
-use Rattle.std.proofs.Common.{◌≡◌, ℕ, zero, suc, None, ◌<◌, ◌≤◌, Bool, true, false, ◌&&◌, ◌||◌, nat_le, ltb, Option}
-use Rattle.std.proofs.Common.{Some, List, [], ◌∷◌, refl, sym, ap, ◌∙◌, arith, inl, inr, eqb, cond, eqb-true, le-leb}
-use Rattle.std.proofs.Common.{leb-true, ltb-true}
-use Rattle.std.specs.Prelude.{slice_index_or}
-use Rattle.std.proofs.lemmas.Bool.{and_parts, cases_Bool, cases_eq, cases_lt, cond-true, cond-false, lt-leb}
-use Rattle.std.proofs.lemmas.Bool.Decides.{nat_tests}
-use Rattle.charsets.specs.declared.shifts.Shifts.{Shifts}
-use Rattle.charsets.specs.declared.decoder.Unit.TheVariants.{Code}
+use Rattle.vt_screen.proofs.Vocabulary.{◌≡◌, ℕ, zero, suc, None, ◌<◌, ◌≤◌, Bool, true, false, ◌&&◌, ◌||◌, nat_le, ltb}
+use Rattle.vt_screen.proofs.Vocabulary.{Option, Some, List, [], ◌∷◌, refl, sym, ap, ◌∙◌, arith, inl, inr, eqb, cond}
+use Rattle.vt_screen.proofs.Vocabulary.{eqb-true, le-leb, leb-true, ltb-true, slice_index_or, and_parts, cases_Bool}
+use Rattle.vt_screen.proofs.Vocabulary.{cases_eq, cases_lt, cond-true, cond-false, lt-leb, nat_tests, Shifts, Code}
+use Rattle.vt_screen.proofs.Vocabulary.{is_plain, is_known_wide, is_letter, is_mark, Print, State, Screen, with_state}
+use Rattle.vt_screen.proofs.Vocabulary.{is_wrapped, columns_of, drawn, printed, printed_as, acted, acted_from, Display}
+use Rattle.vt_screen.proofs.Vocabulary.{MovesLines, acted_places, printed_places, wrapped_places}
 use Rattle.charsets.specs.Shifts.{is_graphic, is_position, mapped, spent}
-use Rattle.charsets.specs.Units.{is_plain}
 use Rattle.cells.specs.Glyph.{drawn_as, glyph_columns}
-use Rattle.cells.specs.Texts.{is_known_wide, is_letter, is_mark}
-use Rattle.terminal_model.specs.declared.action.Action.TheVariants.{Print}
-use Rattle.terminal_model.specs.declared.state.State.{State}
-use Rattle.terminal_model.specs.Screen.{Screen, with_state}
-use Rattle.terminal_model.specs.Scrollback.{is_wrapped}
-use Rattle.terminal_model.specs.Printing.{columns_of, drawn, printed, printed_as}
-use Rattle.terminal_model.specs.Table.{acted, acted_from}
 use Rattle.terminal_model.proofs.Plain.{columns-plain, drawn-plain}
 use Rattle.ucd_table.specs.Steps.{Step, step_value}
 use Rattle.ucd_table.proofs.Computing.{tables}
@@ -26,9 +17,6 @@ use Rattle.unicode_width.specs.declared.kind.Kind.TheVariants as kinds
 use Rattle.unicode_width.specs.Kind.{kind, kind_number, number_of_kind}
 use Rattle.unicode_width.specs.Width.{alone, char_width, of_kind}
 use Rattle.unicode_width.proofs.KindLemmas.{kind_number_stepped}
-use Rattle.vt_screen.specs.declared.screen.Display.{Display}
-use Rattle.vt_screen.specs.Acting.{MovesLines}
-use Rattle.vt_screen.specs.Places.{acted_places, printed_places, wrapped_places}
 
 -- the width of each kind by its number, outside of East Asian contexts; characters of the last one differ
 abbrev width_of : ℕ → ℕ → ℕ

@@ -1,3 +1,4 @@
+pub mod Vocabulary
 pub mod Widths
 pub mod KeptLines
 pub mod Unprotected

@@ -1,29 +1,16 @@
 -- A run of characters at the start of a line that scrolls in.
-use Rattle.std.proofs.Common.{◌≡◌, ℕ, zero, suc, ◌+◌, ◌-◌, ◌<◌, ◌≤◌, ◌==◌, Bool, true, false, cond, List, [], ◌∷◌}
-use Rattle.std.proofs.Common.{length, length-take, min, take, refl, ap, ◌∙◌, subst, arith, eq-eqb}
-use Rattle.std.specs.List.{list_all, prefix_len}
-use Rattle.std.proofs.lemmas.Bool.{and_parts}
+use Rattle.vt_screen.proofs.Vocabulary.{◌≡◌, ℕ, zero, suc, ◌+◌, ◌-◌, ◌<◌, ◌≤◌, ◌==◌, Bool, true, false, cond, List, []}
+use Rattle.vt_screen.proofs.Vocabulary.{◌∷◌, length, length-take, min, take, refl, ap, ◌∙◌, subst, arith, eq-eqb}
+use Rattle.vt_screen.proofs.Vocabulary.{list_all, prefix_len, and_parts, nat_tests, is_plain, Cell, Rendition, cell_at}
+use Rattle.vt_screen.proofs.Vocabulary.{is_right, narrow_cell, narrow_cells, plain, spliced, line_at, page_from}
+use Rattle.vt_screen.proofs.Vocabulary.{page_spliced, cells_on, is_base_or_mark, is_based, is_known_wide, is_letter}
+use Rattle.vt_screen.proofs.Vocabulary.{is_mark, last_columns, text_cells, IsPage-page_from, CarriageReturn, LineFeed}
+use Rattle.vt_screen.proofs.Vocabulary.{NextLine, State, Screen, IsSound, line_edited, with_newest, with_state, indexed}
+use Rattle.vt_screen.proofs.Vocabulary.{moved_to, advanced, wrapped, acted, acted_from, all_acted, IsSound-acted}
+use Rattle.vt_screen.proofs.Vocabulary.{all_acted_places, indexed_places, ScrollsPlain, TakesRuns, prints}
 use Rattle.std.proofs.lemmas.List.Sums.{prefix_len-le-length}
-use Rattle.std.proofs.lemmas.Bool.Decides.{nat_tests}
-use Rattle.charsets.specs.Units.{is_plain}
-use Rattle.cells.specs.declared.cell.Cell.{Cell}
-use Rattle.cells.specs.declared.rendition.Rendition.{Rendition}
-use Rattle.cells.specs.Line.{cell_at, is_right, narrow_cell, narrow_cells, plain, spliced}
-use Rattle.cells.specs.Page.{line_at, page_from, page_spliced}
 use Rattle.cells.specs.Moves.{scrolled_up}
-use Rattle.cells.specs.Texts.{cells_on, is_base_or_mark, is_based, is_known_wide, is_letter, is_mark, last_columns}
-use Rattle.cells.specs.Texts.{text_cells}
-use Rattle.cells.proofs.Pages.{IsPage-page_from}
 use Rattle.cells.proofs.Putting.{length-narrow_cells}
-use Rattle.terminal_model.specs.declared.action.Action.TheVariants.{CarriageReturn, LineFeed, NextLine}
-use Rattle.terminal_model.specs.declared.state.State.{State}
-use Rattle.terminal_model.specs.Screen.{Screen, IsSound, line_edited, with_newest, with_state}
-use Rattle.terminal_model.specs.Motion.{indexed, moved_to}
-use Rattle.terminal_model.specs.Printing.{advanced, wrapped}
-use Rattle.terminal_model.specs.Table.{acted, acted_from, all_acted}
-use Rattle.terminal_model.proofs.Sound.{IsSound-acted}
-use Rattle.vt_screen.specs.Places.{all_acted_places, indexed_places}
-use Rattle.vt_screen.specs.Runs.{ScrollsPlain, TakesRuns, prints}
 use Rattle.vt_screen.proofs.Overs.{page_over}
 use Rattle.vt_screen.proofs.TextRuns.{Makes, cells_placed, text_makes}
 

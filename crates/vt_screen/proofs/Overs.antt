@@ -1,19 +1,14 @@
 -- New cells over as many old ones, put in one piece or in two.
-use Rattle.std.proofs.Common.{◌≡◌, ℕ, zero, suc, ◌+◌, ◌-◌, ◌<◌, ◌≤◌, Bool, true, false, ◌&&◌, eqb, ltb, leb, cond, List}
-use Rattle.std.proofs.Common.{[], ◌∷◌, ◌++◌, length, set, refl, sym, ap, ◌∙◌, arith, ⊎_elim}
-use Rattle.std.proofs.Common.{eq-eqb, length-append, subst}
-use Rattle.std.specs.Prelude.{if◌then◌else◌, ◌==◌}
-use Rattle.std.proofs.lemmas.List.{append-nil, ext_get_or, get_or-set_same, get_or-set_other, set-set, length-set}
-use Rattle.std.proofs.lemmas.List.{get_or_append_left, get_or-append_right}
-use Rattle.std.proofs.lemmas.Bool.{cases_lt, cases_eq, ne_eqb}
-use Rattle.std.proofs.lemmas.Bool.Decides.{nat_tests}
-use Rattle.cells.specs.declared.cell.Cell.{Cell}
+use Rattle.vt_screen.proofs.Vocabulary.{◌≡◌, ℕ, zero, suc, ◌+◌, ◌-◌, ◌<◌, ◌≤◌, Bool, true, false, ◌&&◌, eqb, ltb, leb}
+use Rattle.vt_screen.proofs.Vocabulary.{cond, List, [], ◌∷◌, ◌++◌, length, set, refl, sym, ap, ◌∙◌, arith, ⊎_elim}
+use Rattle.vt_screen.proofs.Vocabulary.{eq-eqb, length-append, subst, if◌then◌else◌, ◌==◌, append-nil, get_or-set_same}
+use Rattle.vt_screen.proofs.Vocabulary.{get_or-set_other, length-set, cases_lt, cases_eq, ne_eqb, nat_tests, Cell}
+use Rattle.vt_screen.proofs.Vocabulary.{blank, cell_at, is_left, is_right, marked, IsPaired, cells_from, spliced}
+use Rattle.vt_screen.proofs.Vocabulary.{line_at, IsPage, page_from, page_marked, edited, whole, last_columns}
+use Rattle.vt_screen.proofs.Vocabulary.{page_from-edited, IsPage-page_from}
+use Rattle.std.proofs.lemmas.List.{ext_get_or, set-set, get_or_append_left, get_or-append_right}
 use Rattle.cells.specs.declared.cell.Shape.{Shape}
 use Rattle.cells.specs.declared.cell.Shape.TheVariants.{Narrow, Left, Right}
-use Rattle.cells.specs.Line.{blank, cell_at, is_left, is_right, marked, IsPaired, cells_from, spliced}
-use Rattle.cells.specs.Page.{line_at, IsPage, page_from, page_marked, edited}
-use Rattle.cells.specs.Texts.{whole, last_columns}
-use Rattle.cells.proofs.Pages.{page_from-edited, IsPage-page_from}
 use Rattle.cells.proofs.Settling.{cell_at_past, length-cells_from, IsPaired-cells_from}
 use Rattle.terminal_model.specs.Places.{overlaid_cell}
 use Rattle.terminal_model.proofs.Places.{over-is}

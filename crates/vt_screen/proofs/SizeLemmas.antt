@@ -1,20 +1,15 @@
 -- No action changes the number of columns.
-use Rattle.std.proofs.Common.{◌≡◌, ℕ, zero, suc, Bool, true, false, ◌&&◌, nat_lt, Option, Some, None, refl, ◌∙◌}
+use Rattle.vt_screen.proofs.Vocabulary.{◌≡◌, ℕ, zero, suc, Bool, true, false, ◌&&◌, nat_lt, Option, Some, None, refl}
+use Rattle.vt_screen.proofs.Vocabulary.{◌∙◌, State, Action, Print, Screen, with_state, columns_of, drawn, lacks_room}
+use Rattle.vt_screen.proofs.Vocabulary.{marked_at, printed, printed_as, wide_or_none, wide_printed, wrapped}
+use Rattle.vt_screen.proofs.Vocabulary.{is_in_margins, lines_deleted, lines_inserted, acted, acted_from}
 use Rattle.charsets.specs.Shifts.{mapped, spent}
 use Rattle.terminal_model.specs.declared.state.Position.{Position}
-use Rattle.terminal_model.specs.declared.state.State.{State}
 use Rattle.terminal_model.specs.declared.action.Mode.{Mode}
 use Rattle.terminal_model.specs.declared.action.Mode.TheVariants as modes
-use Rattle.terminal_model.specs.declared.action.Action.{Action}
-use Rattle.terminal_model.specs.declared.action.Action.TheVariants.{Print, InsertLines, DeleteLines, SetMargins}
-use Rattle.terminal_model.specs.declared.action.Action.TheVariants.{SetMode}
-use Rattle.terminal_model.specs.Screen.{Screen, with_state}
+use Rattle.terminal_model.specs.declared.action.Action.TheVariants.{InsertLines, DeleteLines, SetMargins, SetMode}
 use Rattle.terminal_model.specs.Motion.{bottom_of, margins_or_none}
-use Rattle.terminal_model.specs.Printing.{columns_of, drawn, lacks_room, marked_at, printed, printed_as, wide_or_none}
-use Rattle.terminal_model.specs.Printing.{wide_printed, wrapped}
-use Rattle.terminal_model.specs.Erasing.{is_in_margins, lines_deleted, lines_inserted}
 use Rattle.terminal_model.specs.Settings.{homed}
-use Rattle.terminal_model.specs.Table.{acted, acted_from}
 
 wrapped_columns : (b : Bool) (x : Screen) → (wrapped b x).state.columns ≡ x.state.columns
 wrapped_columns true x = refl

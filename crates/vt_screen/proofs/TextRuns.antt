@@ -1,31 +1,17 @@
 -- Characters that are printed one after another and fit in the line are one run.
-use Rattle.std.proofs.Common.{◌≡◌, ℕ, ◌+◌, ◌-◌, ◌<◌, ◌≤◌, Bool, true, false, ◌&&◌, ◌||◌, cond, ltb, List, [], ◌∷◌}
-use Rattle.std.proofs.Common.{◌++◌, length, length-append, lt-ltb, Option, Some, refl, sym, ap, ◌∙◌, subst, arith, inl}
-use Rattle.std.proofs.Common.{inr}
-use Rattle.std.specs.List.{list_all}
-use Rattle.std.proofs.lemmas.Bool.{and_parts, cases_Bool, ne_eqb}
-use Rattle.charsets.specs.declared.shifts.Shifts.{Shifts}
-use Rattle.charsets.specs.declared.decoder.Unit.TheVariants.{Code}
+use Rattle.vt_screen.proofs.Vocabulary.{◌≡◌, ℕ, ◌+◌, ◌-◌, ◌<◌, ◌≤◌, Bool, true, false, ◌&&◌, ◌||◌, cond, ltb, List, []}
+use Rattle.vt_screen.proofs.Vocabulary.{◌∷◌, ◌++◌, length, length-append, lt-ltb, Option, Some, refl, sym, ap, ◌∙◌}
+use Rattle.vt_screen.proofs.Vocabulary.{subst, arith, inl, inr, list_all, and_parts, cases_Bool, ne_eqb, Shifts, Code}
+use Rattle.vt_screen.proofs.Vocabulary.{Cell, Rendition, IsPaired, is_right, marked, spliced, narrow_cell, left_cell}
+use Rattle.vt_screen.proofs.Vocabulary.{IsPage, page_marked, base_cell, cells_on, is_base, is_base_or_mark, is_based}
+use Rattle.vt_screen.proofs.Vocabulary.{is_known_wide, is_letter, is_mark, last_columns, text_cells, whole, Action}
+use Rattle.vt_screen.proofs.Vocabulary.{Print, State, Page, Screen, IsSound, line_edited, with_page, with_state}
+use Rattle.vt_screen.proofs.Vocabulary.{advanced, lacks_room, placed, placed_narrow, printed, printed_as, wide_or_none}
+use Rattle.vt_screen.proofs.Vocabulary.{wide_printed, wrapped, is_wrapped, acted, acted_from, all_acted, wrapped_places}
+use Rattle.vt_screen.proofs.Vocabulary.{printed_places, acted_places, all_acted_places, TakesRuns, prints}
 use Rattle.charsets.specs.Shifts.{spent}
 use Rattle.charsets.proofs.Shifted.{mapped-ascii, spent-none}
-use Rattle.cells.specs.declared.cell.Cell.{Cell}
-use Rattle.cells.specs.declared.rendition.Rendition.{Rendition}
-use Rattle.cells.specs.Line.{IsPaired, is_right, marked, spliced, narrow_cell, left_cell}
-use Rattle.cells.specs.Page.{IsPage, page_marked}
-use Rattle.cells.specs.Texts.{base_cell, cells_on, is_base, is_base_or_mark, is_based, is_known_wide, is_letter}
-use Rattle.cells.specs.Texts.{is_mark, last_columns, text_cells, whole}
-use Rattle.terminal_model.specs.declared.action.Action.{Action}
-use Rattle.terminal_model.specs.declared.action.Action.TheVariants.{Print}
-use Rattle.terminal_model.specs.declared.state.State.{State}
-use Rattle.terminal_model.specs.Screen.{Page, Screen, IsSound, line_edited, with_page, with_state}
-use Rattle.terminal_model.specs.Printing.{advanced, lacks_room, placed, placed_narrow, printed}
-use Rattle.terminal_model.specs.Printing.{printed_as, wide_or_none, wide_printed, wrapped}
-use Rattle.terminal_model.specs.Scrollback.{is_wrapped}
-use Rattle.terminal_model.specs.Table.{acted, acted_from, all_acted}
-use Rattle.vt_screen.specs.Places.{wrapped_places, printed_places, acted_places, all_acted_places}
-use Rattle.vt_screen.specs.Runs.{TakesRuns, prints}
-use Rattle.vt_screen.proofs.Known.{IsKnown, known_letter, known_mark, known_wide}
-use Rattle.vt_screen.proofs.Known.{places_known, printed_known}
+use Rattle.vt_screen.proofs.Known.{IsKnown, known_letter, known_mark, known_wide, places_known, printed_known}
 use Rattle.vt_screen.proofs.Overs.{IsPage-page_over, last_behind, last_fits, page_over, page_over_marked}
 use Rattle.vt_screen.proofs.Overs.{page_over_more, whole_last, whole_paired, whole_pairs}
 

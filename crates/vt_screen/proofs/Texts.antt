@@ -1,32 +1,18 @@
 -- The characters of bytes of UTF-8, printed one after another.
-use Rattle.std.proofs.Common.{◌≡◌, ℕ, Bool, ◌+◌, ◌-◌, ◌<◌, ◌≤◌, true, false, List, [], ◌∷◌, ◌++◌, length, take}
-use Rattle.std.proofs.Common.{set, refl, sym, ap, ◌∙◌, arith}
-use Rattle.std.proofs.lemmas.List.{map-append, set-get_or}
-use Rattle.charsets.specs.declared.decoder.Unit.TheVariants.{Code}
+use Rattle.vt_screen.proofs.Vocabulary.{◌≡◌, ℕ, Bool, ◌+◌, ◌-◌, ◌<◌, ◌≤◌, true, false, List, [], ◌∷◌, ◌++◌, length}
+use Rattle.vt_screen.proofs.Vocabulary.{take, set, refl, sym, ap, ◌∙◌, arith, map-append, Code, Cell, Rendition}
+use Rattle.vt_screen.proofs.Vocabulary.{PutsText, text_cells, spliced, line_at, IsPage, page_spliced, page_from-edited}
+use Rattle.vt_screen.proofs.Vocabulary.{Action, Print, State, Screen, with_page, advanced, acted, all_acted, Display}
+use Rattle.vt_screen.proofs.Vocabulary.{MovesLines, IsFit, screen_of, all_acted_places, TakesRuns, prints, PrintsText}
+use Rattle.std.proofs.lemmas.List.{set-get_or}
 use Rattle.charsets.specs.Text.{text, IsText}
 use Rattle.charsets.specs.Units.{is_character}
 use Rattle.charsets.specs.Utf8.{codes}
 use Rattle.charsets.proofs.Texts.{text-append, text-none, IsText-append, IsText-none, IsText-one}
-use Rattle.cells.specs.declared.cell.Cell.{Cell}
-use Rattle.cells.specs.declared.rendition.Rendition.{Rendition}
 use Rattle.cells.specs.declared.texts.Put.{Put}
-use Rattle.cells.specs.Texts.{PutsText, text_cells}
-use Rattle.cells.specs.Line.{spliced}
-use Rattle.cells.specs.Page.{line_at, IsPage, page_spliced}
-use Rattle.cells.proofs.Pages.{page_from-edited}
 use Rattle.cells.proofs.PuttingWhole.{put_none}
-use Rattle.terminal_model.specs.declared.action.Action.{Action}
-use Rattle.terminal_model.specs.declared.action.Action.TheVariants.{Print}
-use Rattle.terminal_model.specs.declared.state.State.{State}
-use Rattle.terminal_model.specs.Screen.{Screen, with_page}
-use Rattle.terminal_model.specs.Printing.{advanced}
-use Rattle.terminal_model.specs.Table.{acted, all_acted}
-use Rattle.vt_screen.specs.declared.screen.Display.{Display}
-use Rattle.vt_screen.specs.Acting.{KeepsLines, MovesLines}
-use Rattle.vt_screen.specs.Displays.{IsFit, screen_of}
-use Rattle.vt_screen.specs.Places.{all_acted_places, places_after}
-use Rattle.vt_screen.specs.Runs.{TakesRuns, prints}
-use Rattle.vt_screen.specs.Texts.{PrintsText}
+use Rattle.vt_screen.specs.Acting.{KeepsLines}
+use Rattle.vt_screen.specs.Places.{places_after}
 use Rattle.vt_screen.proofs.Acted.{all_acted-append, all_acted_fit, all_acted_places-append}
 use Rattle.vt_screen.proofs.TextRuns.{Makes, cells_placed, text_last, text_makes, text_none}
 use Rattle.vt_screen.proofs.Widths.{line_width}

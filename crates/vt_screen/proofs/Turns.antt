@@ -1,15 +1,8 @@
 -- Actions in turn.
-use Rattle.std.proofs.Common.{◌≡◌, ℕ, List, [], ◌∷◌, ◌++◌, Option, Some, None, refl, sym, ap, ◌∙◌, subst, append-nil}
-use Rattle.charsets.specs.declared.decoder.Unit.TheVariants.{Code}
-use Rattle.terminal_model.specs.declared.action.Action.{Action}
-use Rattle.terminal_model.specs.declared.action.Action.TheVariants.{Print}
-use Rattle.terminal_model.specs.Functions.{alone}
-use Rattle.terminal_model.specs.Screen.{Screen}
+use Rattle.vt_screen.proofs.Vocabulary.{◌≡◌, ℕ, List, [], ◌∷◌, ◌++◌, Option, Some, None, refl, sym, ap, ◌∙◌, subst}
+use Rattle.vt_screen.proofs.Vocabulary.{append-nil, Code, Action, Print, alone, Screen, acted, all_acted}
+use Rattle.vt_screen.proofs.Vocabulary.{all_acted_places, prints, Stored, Performs}
 use Rattle.terminal_model.specs.Reports.{all_answered}
-use Rattle.terminal_model.specs.Table.{acted, all_acted}
-use Rattle.vt_screen.specs.Places.{all_acted_places}
-use Rattle.vt_screen.specs.Runs.{prints}
-use Rattle.vt_screen.specs.Stored.{Stored, Performs}
 
 -- characters aren't answered
 pub answers_prints : (x : Screen) (codes : List ℕ) → all_answered x (prints codes) ≡ []

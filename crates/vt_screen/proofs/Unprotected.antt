@@ -1,15 +1,10 @@
 -- Lines whose unprotected cells are erased, one line after the other.
-use Rattle.std.proofs.Common.{◌≡◌, ℕ, ◌+◌, ◌<◌, ◌≤◌, true, false, ◌&&◌, cond, nat_lt, nat_le, List, [], length, set}
-use Rattle.std.proofs.Common.{refl, sym, ap, ◌∙◌, arith, ⊎_elim}
-use Rattle.std.proofs.lemmas.List.{length-set, get_or-set_same, get_or-set_other}
-use Rattle.std.proofs.lemmas.Bool.{cases_eq}
-use Rattle.std.proofs.lemmas.Bool.Decides.{nat_tests}
-use Rattle.cells.specs.declared.cell.Cell.{Cell}
-use Rattle.cells.specs.Line.{cells_from, unprotected_erased}
-use Rattle.cells.specs.Page.{IsPage, From, line_at, line_from, page_from, edited, on_line}
-use Rattle.cells.proofs.Pages.{IsPage-page_from, line_at-page_from, line_from-edit, line_from-whole, page_from-edited}
-use Rattle.cells.proofs.Pages.{page_from-is}
-use Rattle.terminal_model.specs.Erasing.{unprotected_lines}
+use Rattle.vt_screen.proofs.Vocabulary.{◌≡◌, ℕ, ◌+◌, ◌<◌, ◌≤◌, true, false, ◌&&◌, cond, nat_lt, nat_le, List, []}
+use Rattle.vt_screen.proofs.Vocabulary.{length, set, refl, sym, ap, ◌∙◌, arith, ⊎_elim, length-set, get_or-set_same}
+use Rattle.vt_screen.proofs.Vocabulary.{get_or-set_other, cases_eq, nat_tests, Cell, cells_from, unprotected_erased}
+use Rattle.vt_screen.proofs.Vocabulary.{IsPage, From, line_at, line_from, page_from, edited, on_line, IsPage-page_from}
+use Rattle.vt_screen.proofs.Vocabulary.{page_from-edited, unprotected_lines}
+use Rattle.cells.proofs.Pages.{line_at-page_from, line_from-edit, line_from-whole, page_from-is}
 
 within : (first end line : ℕ) → first ≤ line → line < end → (nat_le first line && nat_lt line end) ≡ true
 within first end line h k = grind (arith, nat_tests)

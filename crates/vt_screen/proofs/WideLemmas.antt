@@ -1,7 +1,6 @@
 -- Printing a wide character.
-use Rattle.std.proofs.Common.{◌≡◌, ℕ, false, ◌&&◌, sym, ap, ◌∙◌}
-use Rattle.terminal_model.specs.Screen.{Screen}
-use Rattle.terminal_model.specs.Printing.{lacks_room, placed_wide, wide_or_none, wide_printed, wrapped}
+use Rattle.vt_screen.proofs.Vocabulary.{◌≡◌, ℕ, false, ◌&&◌, sym, ap, ◌∙◌, Screen, lacks_room, placed_wide}
+use Rattle.vt_screen.proofs.Vocabulary.{wide_or_none, wide_printed, wrapped}
 
 -- a wide character that has room in the line to which the wrap led
 pub widely_is : (c : ℕ) (x w y : Screen) → w ≡ wrapped (lacks_room x.state && x.state.modes.wraps) x

@@ -1,15 +1,7 @@
 -- The size of a display's page.
-use Rattle.std.proofs.Common.{◌≡◌, ℕ, length, sym, ap, ◌∙◌}
-use Rattle.cells.specs.Page.{IsGridSize, line_at}
-use Rattle.terminal_model.specs.declared.action.Action.{Action}
-use Rattle.terminal_model.specs.declared.action.Action.TheVariants.{NextLine}
-use Rattle.terminal_model.specs.Screen.{Screen, IsSound, starting, with_state}
-use Rattle.terminal_model.specs.Motion.{indexed, moved_to}
-use Rattle.terminal_model.specs.Sizing.{resized}
-use Rattle.terminal_model.specs.Table.{acted, acted_from}
-use Rattle.terminal_model.proofs.Sound.{IsSound-acted, IsSound-resized, IsSound-starting}
-use Rattle.vt_screen.specs.declared.screen.Display.{Display}
-use Rattle.vt_screen.specs.Displays.{IsFit, screen_of}
+use Rattle.vt_screen.proofs.Vocabulary.{◌≡◌, ℕ, length, sym, ap, ◌∙◌, IsGridSize, line_at, Action, NextLine, Screen}
+use Rattle.vt_screen.proofs.Vocabulary.{IsSound, starting, with_state, indexed, moved_to, resized, acted, acted_from}
+use Rattle.vt_screen.proofs.Vocabulary.{IsSound-acted, IsSound-resized, IsSound-starting, Display, IsFit, screen_of}
 use Rattle.vt_screen.proofs.SizeLemmas.{acted_columns}
 
 -- the cursor's line is as wide as the page

@@ -1,24 +1,14 @@
 -- What a call on the table answers, from what it did to the rows.
-use Rattle.std.proofs.Common.{◌≡◌, ℕ, List, [], ◌∷◌, ◌++◌, Option, Some, None, Ok, Err, filter, not, refl, ap, sym}
-use Rattle.std.proofs.Common.{subst, ◌∙◌, true, false, inl, inr, MutBor}
-use Rattle.std.specs.Prelude.{Result, OnSome, OnOk, OnErr, IfErr, ◌==◌, if◌then◌else◌}
-use Rattle.std.specs.Option.{option_copied_mut}
-use Rattle.windows_model.specs.declared.rows.WindowsFault.{WindowsFault}
+use Rattle.windows.proofs.Vocabulary.{◌≡◌, ℕ, List, [], ◌∷◌, ◌++◌, Option, Some, None, Ok, Err, filter, not, refl, ap}
+use Rattle.windows.proofs.Vocabulary.{sym, subst, ◌∙◌, true, false, inl, inr, MutBor, Result, OnSome, OnOk, OnErr}
+use Rattle.windows.proofs.Vocabulary.{IfErr, ◌==◌, if◌then◌else◌, option_copied_mut, WindowsFault, row_of, with_row}
+use Rattle.windows.proofs.Vocabulary.{is_title, Output, if_true, if_false, with_back, serial_is, rows_match, Window}
+use Rattle.windows.proofs.Vocabulary.{taken_by_other, AnswersReports, WindowStands, StandFor, serial, written}
+use Rattle.windows.proofs.Vocabulary.{written_to, in_place, in_row, changed, is_taken, new_row, Becomes, HasFed}
 use Rattle.windows_model.specs.declared.rows.WindowsFault.TheVariants.{NoSuchWindow, NumberTaken, NoMemory}
 use Rattle.windows_model.specs.Table as model
-use Rattle.windows_model.specs.Finding.{row_of, with_row}
-use Rattle.windows_model.specs.Naming.{is_title}
-use Rattle.terminal_model.specs.Writing.{Output}
-use Rattle.windows_model.proofs.Serials.{if_true, if_false, with_back, serial_is}
-use Rattle.windows_model.proofs.Matching.{none_back, rows_match, with_match, row_back, row_there, without_match}
-use Rattle.windows_model.proofs.Matching.{push_match}
-use Rattle.windows.specs.declared.window.Window.{Window}
-use Rattle.windows.specs.Among.{taken_by_other}
-use Rattle.windows.specs.Asking.{AnswersReports}
-use Rattle.windows.specs.Standing.{WindowStands, StandFor, Answers, AnswersIfRoom, serial, written, written_to}
-use Rattle.windows.specs.Standing.{in_place, in_row, changed, without, closed, is_taken, renumbered, numbered}
-use Rattle.windows.specs.Standing.{number_for, opened, new_row}
-use Rattle.windows.specs.Writing.{Becomes, HasFed}
+use Rattle.windows_model.proofs.Matching.{none_back, with_match, row_back, row_there, without_match, push_match}
+use Rattle.windows.specs.Standing.{Answers, AnswersIfRoom, without, closed, renumbered, numbered, number_for, opened}
 use Rattle.windows.proofs.Nearest.{taken_both}
 
 abbrev pub own : Window → ℕ

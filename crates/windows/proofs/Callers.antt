@@ -1,11 +1,8 @@
 -- What a caller knows of the answer of a call on a row that is there.
-use Rattle.std.proofs.Common.{◌≡◌, ℕ, List, Some, Ok, Err, refl, ap, sym, subst, ◌∙◌}
-use Rattle.std.specs.Prelude.{Result}
-use Rattle.windows_model.specs.declared.rows.WindowsFault.{WindowsFault}
+use Rattle.windows.proofs.Vocabulary.{◌≡◌, ℕ, List, Some, Ok, Err, refl, ap, sym, subst, ◌∙◌, Result, WindowsFault}
+use Rattle.windows.proofs.Vocabulary.{with_row, Window, StandFor, serial, in_place, in_row, changed}
 use Rattle.windows_model.specs.Table as model
-use Rattle.windows_model.specs.Finding.{with_row}
-use Rattle.windows.specs.declared.window.Window.{Window}
-use Rattle.windows.specs.Standing.{StandFor, Answered, Change, serial, at_serial, in_place, in_row, changed}
+use Rattle.windows.specs.Standing.{Answered, Change, at_serial}
 
 module _ (rows : List model.Window) (s : ℕ) (change : Change) (m : model.Window) (here : at_serial s rows ≡ Some m)
   where

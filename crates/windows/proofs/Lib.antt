@@ -1,3 +1,4 @@
+pub mod Vocabulary
 pub mod Answering
 pub mod Callers
 mod Digits

@@ -1,28 +1,22 @@
 -- The windows with the lowest and the highest number among others.
-use Rattle.std.proofs.Common.{◌≡◌, ℕ, suc, ◌-◌, ◌<◌, ◌≤◌, Bool, true, false, List, [], ◌∷◌, Option, Some, None, length}
-use Rattle.std.proofs.Common.{filter, get_or, drop, refl, ap, sym, subst, ◌∙◌, arith}
-use Rattle.std.specs.Prelude.{if◌then◌else◌, nat_lt, ◌==◌, not, ◌||◌, ◌&&◌, find, option_copied}
-use Rattle.std.specs.List.{list_any, range_with_len}
+use Rattle.windows.proofs.Vocabulary.{◌≡◌, ℕ, suc, ◌-◌, ◌<◌, ◌≤◌, Bool, true, false, List, [], ◌∷◌, Option, Some, None}
+use Rattle.windows.proofs.Vocabulary.{length, filter, get_or, drop, refl, ap, sym, subst, ◌∙◌, arith, if◌then◌else◌}
+use Rattle.windows.proofs.Vocabulary.{nat_lt, ◌==◌, not, ◌||◌, ◌&&◌, find, option_copied, list_any, range_with_len}
+use Rattle.windows.proofs.Vocabulary.{option_or, option_map, option_map_or, option_and_then, WINDOWS, if_true, if_false}
+use Rattle.windows.proofs.Vocabulary.{Window, All, Above, Below, Titled, Lowest, Highest, is_above, is_among, nearest}
+use Rattle.windows.proofs.Vocabulary.{numbered, taken_by_other, first_free, number, WindowStands, StandFor, is_taken}
 use Rattle.std.specs.Borrow.{Bor}
-use Rattle.std.specs.Option.{option_or, option_map, option_map_or, option_and_then}
 use Rattle.std.specs.Str.{bytes_eq}
 use Rattle.std.proofs.Math.Seq.{drop-cons}
-use Rattle.windows_model.specs.declared.rows.TheConstants.{WINDOWS}
 use Rattle.windows_model.specs.Table as model
 use Rattle.windows_model.specs.Naming as naming
 use Rattle.windows_model.specs.Naming.{lower, higher, lowest, highest, with_number, window_after, window_before}
 use Rattle.windows_model.specs.Naming.{free_number}
 use Rattle.windows_model.specs.Matched.{BothOrNone}
-use Rattle.windows_model.proofs.Serials.{if_true, if_false}
 use Rattle.windows_model.proofs.Matching.{filter_match, find_match}
-use Rattle.windows.specs.declared.window.Window.{Window}
 use Rattle.windows.specs.declared.among.Among.{Among}
-use Rattle.windows.specs.declared.among.Among.TheVariants.{All, Above, Below, Titled}
 use Rattle.windows.specs.declared.among.End.{End}
-use Rattle.windows.specs.declared.among.End.TheVariants.{Lowest, Highest}
-use Rattle.windows.specs.Among.{is_above, is_among, nearer, nearest, has_number, numbered, taken_by_other, first_free}
-use Rattle.windows.specs.Asking.{number}
-use Rattle.windows.specs.Standing.{WindowStands, StandFor, is_taken}
+use Rattle.windows.specs.Among.{nearer, has_number}
 use Rattle.windows.specs.Standing as standing
 
 -- ---- one window more, from the last window to the first

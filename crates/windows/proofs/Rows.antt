@@ -1,19 +1,15 @@
 -- What keeps the rows of a table of windows sound: serials rise, and numbers differ.
-use Rattle.std.proofs.Common.{◌≡◌, ◌≢◌, ℕ, zero, suc, ◌<◌, Bool, true, false, List, [], ◌∷◌, ◌++◌, Some, None, length}
-use Rattle.std.proofs.Common.{map, filter, not, inl, inr, get_or, refl, ap, sym, subst, ◌∙◌, arith, ⊎_elim}
-use Rattle.std.specs.Prelude.{◌⊎◌, ◌==◌, ◌&&◌, ◌||◌, ◌+◌, nat_lt, if◌then◌else◌, AllPairs, find}
-use Rattle.std.proofs.lemmas.Bool.Decides.{nat_tests}
-use Rattle.std.specs.List.{list_any, range_with_len}
-use Rattle.std.specs.Option.{option_map_or}
+use Rattle.windows.proofs.Vocabulary.{◌≡◌, ◌≢◌, ℕ, zero, suc, ◌<◌, Bool, true, false, List, [], ◌∷◌, ◌++◌, Some, None}
+use Rattle.windows.proofs.Vocabulary.{length, map, filter, not, inl, inr, get_or, refl, ap, sym, subst, ◌∙◌, arith}
+use Rattle.windows.proofs.Vocabulary.{⊎_elim, ◌⊎◌, ◌==◌, ◌&&◌, ◌||◌, ◌+◌, nat_lt, if◌then◌else◌, AllPairs, find}
+use Rattle.windows.proofs.Vocabulary.{nat_tests, list_any, range_with_len, option_map_or, WINDOWS, row_of, with_row}
+use Rattle.windows.proofs.Vocabulary.{serial_is, Window, is_above, taken_by_other, first_free, AreRows, ChangesRow}
 use Rattle.std.proofs.lemmas.List.{get_or-map, length-map}
 use Rattle.std.proofs.lemmas.List.Kept.{AllPairs-filter}
 use Rattle.std.proofs.lemmas.List.Quantifiers.{all_pairs_push}
-use Rattle.windows_model.specs.declared.rows.TheConstants.{WINDOWS}
-use Rattle.windows_model.specs.Finding.{row_of, with_row}
-use Rattle.windows_model.proofs.Serials.{serials_stay, serial_is, with_other, is_equal, equal_number}
-use Rattle.windows.specs.declared.window.Window.{Window}
-use Rattle.windows.specs.Among.{is_above, has_number, taken_by_other, first_free}
-use Rattle.windows.specs.Rows.{serial_of, number_of, AreRows, KeepsName, ChangesRow, WritesRow, LosesRow}
+use Rattle.windows_model.proofs.Serials.{serials_stay, with_other, is_equal, equal_number}
+use Rattle.windows.specs.Among.{has_number}
+use Rattle.windows.specs.Rows.{serial_of, number_of, KeepsName, WritesRow, LosesRow}
 
 -- ---- rows that come and go
 

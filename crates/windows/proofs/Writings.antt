@@ -1,26 +1,20 @@
 -- What is written to a window's terminal.
-use Rattle.std.proofs.Common.{◌≡◌, ℕ, true, false, List, [], ◌∷◌, refl, ap, sym, subst, ◌∙◌, Ok, Err}
+use Rattle.windows.proofs.Vocabulary.{◌≡◌, ℕ, true, false, List, [], ◌∷◌, refl, ap, sym, subst, ◌∙◌, Ok, Err, Writing}
+use Rattle.windows.proofs.Vocabulary.{Output, IsWriting, writes, writes_all, writing_in, terminal_of, is_title, if_true}
+use Rattle.windows.proofs.Vocabulary.{if_false, Window, WindowStands, written_to, retitled, new_row, HasFed}
 use Rattle.std.specs.String.{string_bytes}
 use Rattle.terminal_model.specs.Screen.{starting}
 use Rattle.terminal_model.specs.Reading.{Terminal, ready, nothing_read, IsTerminal}
-use Rattle.terminal_model.specs.Writing.{Writing, Output, IsWriting, writes, writes_all}
 use Rattle.terminal_model.specs.Drawable.{IsDrawableScreen}
 use Rattle.terminal_model.proofs.Readings.{writes_all-append}
 use Rattle.terminal_model.proofs.DrawableScreens.{drawable-starting}
 use Rattle.terminal_model.proofs.DrawableTerminals.{drawable-writes_all}
 use Rattle.emulator.specs.Standing as emulator
 use Rattle.emulator.specs.Standing.{Parts}
-use Rattle.emulator.specs.Commanded.{writing_in}
 use Rattle.emulator.specs.declared.emulator.Writing.{Writing as Commanded}
 use Rattle.emulator.specs.declared.emulator.Writing.TheVariants.{Clear, Reset, Encoding}
 use Rattle.windows_model.specs.Table as model
-use Rattle.windows_model.specs.Terminals.{terminal_of}
-use Rattle.windows_model.specs.Naming.{is_title}
 use Rattle.windows_model.specs.declared.rows.WindowsFault.TheVariants.{BadTitle}
-use Rattle.windows_model.proofs.Serials.{if_true, if_false}
-use Rattle.windows.specs.declared.window.Window.{Window}
-use Rattle.windows.specs.Standing.{WindowStands, written_to, retitled, new_row}
-use Rattle.windows.specs.Writing.{HasFed}
 
 one_writing : (t : Terminal) (what : Writing) → (writes_all t (what ∷ [])).terminal ≡ (writes t what).terminal
 unfolding writes_all

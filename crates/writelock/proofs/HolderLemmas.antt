@@ -1,12 +1,6 @@
 -- Who holds a lock after an act that gives it to nobody.
-use Rattle.std.proofs.Common.{◌≡◌, ◌∙◌, ℕ, Bool, true, false, not, ◌||◌, ap, sym, refl, ◌∷◌}
-use Rattle.std.proofs.Common.{Option, Some, None, if◌then◌else◌}
-use Rattle.acl.specs.History.{History, may}
-use Rattle.acl.specs.declared.leaders.Edition.{Edition}
-use Rattle.acl.specs.declared.user_id.UserId.{UserId}
-use Rattle.acl.specs.declared.bits.Bit.TheVariants.{Write}
-use Rattle.acl.specs.declared.act.Object.TheVariants.{Window}
-use Rattle.acl.specs.declared.act.Act.{Act}
+use Rattle.writelock.proofs.Vocabulary.{◌≡◌, ◌∙◌, ℕ, Bool, true, false, not, ◌||◌, ap, sym, refl, ◌∷◌, Option, Some}
+use Rattle.writelock.proofs.Vocabulary.{None, if◌then◌else◌, History, may, Edition, UserId, Write, Window, Act}
 use Rattle.writelock.specs.Holding.{holder, ends, given, kept, or_else}
 
 -- the holder after an act that gives nobody the lock may write

@@ -1,3 +1,4 @@
+pub mod Vocabulary
 pub mod HolderLemmas
 pub mod LockLemmas
 pub mod RightsLemmas

@@ -1,26 +1,16 @@
 -- Locks stand for the history with an act in front if the act sets a mode, or a client comes to or leaves
 -- a window, attaches or goes.
-use Rattle.std.proofs.Common.{◌≡◌, ◌∙◌, ℕ, Bool, true, false, not, ◌==◌, ◌&&◌, ◌||◌, ap, sym, refl, ◌∷◌}
-use Rattle.std.proofs.Common.{Option, Some, None, is_none, if◌then◌else◌, true≢false}
-use Rattle.std.specs.Option.{option_map, option_map_or}
+use Rattle.writelock.proofs.Vocabulary.{◌≡◌, ◌∙◌, ℕ, Bool, true, false, not, ◌==◌, ◌&&◌, ◌||◌, ap, sym, refl, ◌∷◌}
+use Rattle.writelock.proofs.Vocabulary.{Option, Some, None, if◌then◌else◌, true≢false, option_map, option_map_or}
+use Rattle.writelock.proofs.Vocabulary.{same_user, History, may, is_open, decided, LockMode, Edition, UserId, Write}
+use Rattle.writelock.proofs.Vocabulary.{Window, Attached, Parted, Entered, Left, Mode, Lock, LocksStandFor, AreLocks}
+use Rattle.writelock.proofs.Vocabulary.{lock_of, lock_by, left_by, entered_by, without_holder, has_holder}
+use Rattle.std.proofs.Common.{is_none}
 use borrow.Author.Tests.{eqb-true}
-use Rattle.acl.specs.Same.{same_user}
-use Rattle.acl.specs.History.{History, may, is_open, decided}
-use Rattle.acl.specs.declared.act.LockMode.{LockMode}
 use Rattle.acl.specs.declared.act.LockMode.TheVariants.{Off, Auto, On}
 use Rattle.acl.proofs.FollowingLemmas.{same_user-sym}
-use Rattle.acl.specs.declared.leaders.Edition.{Edition}
-use Rattle.acl.specs.declared.user_id.UserId.{UserId}
-use Rattle.acl.specs.declared.bits.Bit.TheVariants.{Write}
-use Rattle.acl.specs.declared.act.Object.TheVariants.{Window}
-use Rattle.acl.specs.declared.act.Act.TheVariants.{Attached}
-use Rattle.acl.specs.declared.act.Act.TheVariants.{Parted, Entered, Left, Mode}
-use Rattle.writelock.specs.declared.lock.Lock.{Lock}
 use Rattle.writelock.specs.declared.locks.Locks.{Locks}
-use Rattle.writelock.specs.Holding.{mode_of, holder, given, kept, or_else, is_off, is_auto}
-use Rattle.writelock.specs.Holding.{loses_last}
-use Rattle.writelock.specs.LockTable.{LocksStandFor, AreLocks, lock_of, lock_by}
-use Rattle.writelock.specs.LockTable.{left_by, entered_by, without_holder, has_holder}
+use Rattle.writelock.specs.Holding.{mode_of, holder, given, kept, or_else, is_off, is_auto, loses_last}
 use Rattle.writelock.proofs.HolderLemmas.{able-kept, unheld-kept, holder-same}
 
 module _ (default : LockMode) (old new : ℕ → Option Lock) (edition : Edition) (owner : UserId) (h : History)

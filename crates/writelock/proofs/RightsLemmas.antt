@@ -1,27 +1,16 @@
 -- Locks after an act of a list command: such an act gives nobody a lock, opens no window and sets no mode.
-use Rattle.std.proofs.Common.{[], ◌≡◌, ◌∙◌, ℕ, Bool, true, false, not, ◌||◌, ap, sym, refl, List, ◌∷◌}
-use Rattle.std.proofs.Common.{Option, Some, None, if◌then◌else◌}
-use Rattle.std.specs.Option.{option_map}
-use Rattle.acl.specs.Slots.{SlotsStandFor}
-use Rattle.acl.specs.History.{History, open_count, is_open, there}
-use Rattle.acl.specs.History.{followed_by}
+use Rattle.writelock.proofs.Vocabulary.{[], ◌≡◌, ◌∙◌, ℕ, Bool, true, false, not, ◌||◌, ap, sym, refl, List, ◌∷◌, Option}
+use Rattle.writelock.proofs.Vocabulary.{Some, None, if◌then◌else◌, option_map, SlotsStandFor, History, open_count}
+use Rattle.writelock.proofs.Vocabulary.{is_open, LockMode, may-StandsFor, Edition, UserId, Read, Write, Execute, Window}
+use Rattle.writelock.proofs.Vocabulary.{Command, Act, Opened, Closed, Attached, Parted, Entered, Left, Mode, Lock}
+use Rattle.writelock.proofs.Vocabulary.{AreLocks, lock_of, frees, remaining, with_remaining}
+use Rattle.acl.specs.History.{there, followed_by}
 use Rattle.acl.specs.Commands.{MayFollow, AllMayFollow}
-use Rattle.acl.specs.declared.act.LockMode.{LockMode}
 use Rattle.acl.specs.Table.{Table, StandsFor}
-use Rattle.acl.proofs.StandsForLemmas.{may-StandsFor}
-use Rattle.acl.specs.declared.leaders.Edition.{Edition}
-use Rattle.acl.specs.declared.user_id.UserId.{UserId}
 use Rattle.acl.specs.declared.bits.Bit.{Bit}
 use Rattle.acl.specs.declared.act.Object.{Object}
-use Rattle.acl.specs.declared.bits.Bit.TheVariants.{Read, Write, Execute}
-use Rattle.acl.specs.declared.act.Object.TheVariants.{Window, Command}
-use Rattle.acl.specs.declared.act.Act.{Act}
-use Rattle.acl.specs.declared.act.Act.TheVariants.{Known, Gone, Set, Grouped, Masked, Preset, Opened, Closed, Attached}
-use Rattle.acl.specs.declared.act.Act.TheVariants.{Parted, Entered, Left, Mode, Default}
-use Rattle.writelock.specs.declared.lock.Lock.{Lock}
-use Rattle.writelock.specs.Holding.{default_of, mode_of, holder, ends, given, kept, or_else}
-use Rattle.writelock.specs.Holding.{clients_of}
-use Rattle.writelock.specs.LockTable.{AreLocks, lock_of, frees, remaining, with_remaining}
+use Rattle.acl.specs.declared.act.Act.TheVariants.{Known, Gone, Set, Grouped, Masked, Preset, Default}
+use Rattle.writelock.specs.Holding.{default_of, mode_of, holder, ends, given, kept, or_else, clients_of}
 use Rattle.writelock.proofs.HolderLemmas.{able-kept, unheld-kept}
 
 -- the act gives nobody a lock, ends only what `frees` says, and leaves modes, open windows and the

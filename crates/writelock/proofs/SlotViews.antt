@@ -1,13 +1,10 @@
 -- The locks read by their slots, while slots and locks change.
-use Rattle.std.proofs.Common.{◌≡◌, ◌≢◌, ◌∙◌, ℕ, zero, suc, ◌+◌, ◌<◌, ◌≤◌, Bool, true, false, ◌==◌, nat_le, ap, subst}
-use Rattle.std.proofs.Common.{sym, refl, arith, List, [], ◌∷◌, Option, Some, None, if◌then◌else◌, true≢false, slice_get}
-use Rattle.std.proofs.Common.{slice_set, slice_index_or, length, map, option_and_then, eq-eqb}
-use Rattle.std.specs.Option.{option_map}
+use Rattle.writelock.proofs.Vocabulary.{◌≡◌, ◌∙◌, ℕ, Bool, true, false, ◌==◌, ap, subst, sym, refl, arith, List, []}
+use Rattle.writelock.proofs.Vocabulary.{◌∷◌, Option, Some, None, if◌then◌else◌, true≢false, slice_set, slice_index_or}
+use Rattle.writelock.proofs.Vocabulary.{option_map, slot_of, free_slot, is_window, without_window, Lock, lock_at}
+use Rattle.std.proofs.Common.{◌≢◌, zero, suc, ◌+◌, ◌<◌, ◌≤◌, nat_le, slice_get, length, map, option_and_then, eq-eqb}
 use borrow.Author.Tests.{eqb-true, leb-true, leb-false}
-use Rattle.acl.specs.Slots.{slot_of, free_slot, is_window, without_window}
 use Rattle.acl.proofs.OpenSlots.{found, slot_of-opened, slot_of-closed, slot_of-free, slot_of-apart, free_slot-empty}
-use Rattle.writelock.specs.declared.lock.Lock.{Lock}
-use Rattle.writelock.specs.LockTable.{lock_at}
 
 get-set_same : (locks : List Lock) (k : ℕ) (lock : Lock) → k < length locks
     → slice_get (slice_set locks k lock) k ≡ Some lock

@@ -1,22 +1,13 @@
 -- Locks after a window was opened or closed stand for the history with that act in front.
-use Rattle.std.proofs.Common.{◌≡◌, ◌∙◌, ℕ, Bool, true, false, not, ◌==◌, ◌&&◌, ◌||◌, ap, sym, refl, ◌∷◌}
-use Rattle.std.proofs.Common.{Option, Some, None, if◌then◌else◌, true≢false, unwrap_or}
+use Rattle.writelock.proofs.Vocabulary.{◌≡◌, ◌∙◌, ℕ, Bool, true, false, not, ◌==◌, ◌&&◌, ◌||◌, ap, sym, refl, ◌∷◌}
+use Rattle.writelock.proofs.Vocabulary.{Option, Some, None, if◌then◌else◌, true≢false, same_user, History, may, is_open}
+use Rattle.writelock.proofs.Vocabulary.{decided, LockMode, same_user-refl, Edition, UserId, Write, Window, Opened}
+use Rattle.writelock.proofs.Vocabulary.{Closed, Lock, AreLocks, lock_of, opened_by}
+use Rattle.std.proofs.Common.{unwrap_or}
 use Rattle.std.specs.List.{list_any}
 use borrow.Author.Tests.{eqb-true}
-use Rattle.acl.specs.Same.{same_user}
-use Rattle.acl.specs.History.{History, may, has, leaders_of, is_open, decided, opening, is_known}
-use Rattle.acl.specs.History.{mask}
-use Rattle.acl.specs.declared.act.LockMode.{LockMode}
-use Rattle.acl.proofs.StandsForLemmas.{same_user-refl}
-use Rattle.acl.specs.declared.leaders.Edition.{Edition}
-use Rattle.acl.specs.declared.user_id.UserId.{UserId}
-use Rattle.acl.specs.declared.bits.Bit.TheVariants.{Write}
-use Rattle.acl.specs.declared.act.Object.TheVariants.{Window}
-use Rattle.acl.specs.declared.act.Act.TheVariants.{Opened, Closed}
-use Rattle.writelock.specs.declared.lock.Lock.{Lock}
+use Rattle.acl.specs.History.{has, leaders_of, opening, is_known, mask}
 use Rattle.writelock.specs.Holding.{default_of, mode_of, holder, kept, or_else, is_on}
-use Rattle.writelock.specs.LockTable.{AreLocks, lock_of}
-use Rattle.writelock.specs.LockTable.{opened_by}
 use Rattle.writelock.proofs.HolderLemmas.{able-kept, holder-same}
 
 module _ (default : LockMode) (old new : ℕ → Option Lock) (edition : Edition) (owner : UserId) (h : History)

@@ -1,11 +1,7 @@
-use Rattle.std.proofs.Common.{◌≡◌, [], ◌++◌, length, take, reverse, ap, ◌∙◌, sym}
-use Rattle.terminal_model.specs.Screen.{Page, Screen, starting}
-use Rattle.terminal_model.specs.Reading.{Terminal, ready}
-use Rattle.terminal_model.specs.Writing.{writes_all}
+use Rattle.emulator.proofs.Vocabulary.{◌≡◌, [], ◌++◌, length, take, reverse, ap, ◌∙◌, sym, Page, Screen, starting}
+use Rattle.emulator.proofs.Vocabulary.{Terminal, ready, writes_all, IsSound-starting, IsTerminal-ready}
 use Rattle.terminal_model.specs.Scrollback.{all_left}
 use Rattle.terminal_model.proofs.Leaving.{writing_keeps, writing_keep, take_none}
-use Rattle.terminal_model.proofs.Sound.{IsSound-starting}
-use Rattle.terminal_model.proofs.Terminals.{IsTerminal-ready}
 use Rattle.emulator.proofs.moved_page_shows_the_last_lines.Goals as goal
 
 pub returns : goal.returns

@@ -1,8 +1,5 @@
-use Rattle.std.proofs.Common.{[], ◌∙◌, ◌∷◌, sym, subst, arith, slice_index_or}
-use Rattle.acl_words.specs.declared.act.Act.{Act}
-use Rattle.acl_words.specs.declared.act.Act.TheVariants.{Known}
-use Rattle.acl.specs.History.{followed_by}
-use Rattle.acl.specs.Commands.{AllMayFollow, makes_known, sets_mask}
+use Rattle.acl.proofs.Vocabulary.{[], ◌∙◌, ◌∷◌, sym, subst, arith, slice_index_or, Act, Known, followed_by}
+use Rattle.acl.proofs.Vocabulary.{AllMayFollow, makes_known, sets_mask}
 use Rattle.acl.proofs.PlanLemmas.{counted}
 use Rattle.acl.proofs.InPlace.{drop-next}
 use Rattle.acl.proofs.carry.apply_all.Goals as goal

@@ -1,11 +1,5 @@
-use Rattle.std.proofs.Common.{◌≡◌, ◌≤◌, drop, count_by}
-use Rattle.indexmap.specs.IndexMap.{spare}
-use Rattle.acl_words.specs.declared.leaders.Edition.{Edition}
-use Rattle.acl_words.specs.declared.user_id.UserId.{UserId}
-use Rattle.acl.specs.History.{History, followed_by}
-use Rattle.acl.specs.Commands.{AllMayFollow, makes_known, sets_mask}
-use Rattle.acl.specs.Table.{StandsFor}
-use Rattle.acl.specs.Lists.{table_of}
+use Rattle.acl.proofs.Vocabulary.{◌≡◌, ◌≤◌, drop, count_by, spare, Edition, UserId, History, followed_by, AllMayFollow}
+use Rattle.acl.proofs.Vocabulary.{makes_known, sets_mask, StandsFor, table_of}
 use Rattle.acl.proofs.carry.apply_all.Given as goal
 
 -- the history after the acts before this index, and the acts that are still to follow

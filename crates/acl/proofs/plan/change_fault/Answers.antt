@@ -1,7 +1,5 @@
-use Rattle.std.proofs.Common.{◌∙◌, ◌+◌, ap, sym, arith, drop, length, take, None}
-use Rattle.acl.specs.Commands.{change_fault, with_names}
-use Rattle.acl.specs.Table.{users_in}
-use Rattle.acl.specs.Lists.{table_of}
+use Rattle.acl.proofs.Vocabulary.{◌∙◌, ◌+◌, ap, sym, arith, drop, length, take, None, change_fault, with_names}
+use Rattle.acl.proofs.Vocabulary.{users_in, table_of}
 use Rattle.acl.proofs.InPlace.{drop-next}
 use Rattle.acl.proofs.NameLemmas.{with_names-next}
 use Rattle.acl.proofs.PlanLemmas.{option_or-none}

@@ -1,7 +1,4 @@
-use Rattle.std.proofs.Common.{◌≡◌, take, drop, length}
-use Rattle.acl.specs.Commands.{change_fault, with_names}
-use Rattle.acl.specs.Table.{users_in}
-use Rattle.acl.specs.Lists.{table_of}
+use Rattle.acl.proofs.Vocabulary.{◌≡◌, take, drop, length, change_fault, with_names, users_in, table_of}
 use Rattle.acl.proofs.plan.change_fault.Given as goal
 
 -- the fault of the whole list is that of the names from this index on

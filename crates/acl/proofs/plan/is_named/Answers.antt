@@ -1,8 +1,4 @@
-use Rattle.std.proofs.Common.{◌∙◌, ap, sym, ◌||◌}
-use Rattle.std.specs.List.{list_any}
-use Rattle.acl.specs.Commands.{names_user}
-use Rattle.acl.specs.Table.{users_in}
-use Rattle.acl.specs.Lists.{table_of}
+use Rattle.acl.proofs.Vocabulary.{◌∙◌, ap, sym, ◌||◌, list_any, names_user, users_in, table_of}
 use Rattle.acl.proofs.NameLemmas.{among-with_names}
 use Rattle.acl.proofs.plan.is_named.Goals as goal
 

@@ -1,7 +1,5 @@
-use Rattle.std.proofs.Common.{◌∙◌, ◌++◌, ◌+◌, ap, arith, drop, append_assoc, take, slice_index_or, None}
-use Rattle.acl.specs.Commands.{known_acts, with_name, with_names}
-use Rattle.acl.specs.Table.{users_in}
-use Rattle.acl.specs.Lists.{table_of}
+use Rattle.acl.proofs.Vocabulary.{◌∙◌, ◌++◌, ◌+◌, ap, arith, drop, append_assoc, take, slice_index_or, None, known_acts}
+use Rattle.acl.proofs.Vocabulary.{with_name, with_names, users_in, table_of}
 use Rattle.acl.proofs.InPlace.{drop-next}
 use Rattle.acl.proofs.NameLemmas.{with_names-next}
 use Rattle.acl.proofs.PlanLemmas.{keeps-on}

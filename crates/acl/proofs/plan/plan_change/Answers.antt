@@ -1,8 +1,6 @@
-use Rattle.std.proofs.Common.{◌∙◌, ◌++◌, ◌+◌, ap, sym, arith, drop, append_assoc, take, slice_index_or, None}
-use Rattle.std.proofs.lemmas.Result.{err_from_is_err_and}
-use Rattle.acl.specs.Commands.{change_acts, new_acts, name_sets, with_name, with_names}
-use Rattle.acl.specs.Table.{users_in}
-use Rattle.acl.specs.Lists.{table_of}
+use Rattle.acl.proofs.Vocabulary.{◌∙◌, ◌++◌, ◌+◌, ap, sym, arith, drop, append_assoc, take, slice_index_or, None}
+use Rattle.acl.proofs.Vocabulary.{err_from_is_err_and, change_acts, new_acts, name_sets, with_name, with_names}
+use Rattle.acl.proofs.Vocabulary.{users_in, table_of}
 use Rattle.acl.proofs.InPlace.{drop-next}
 use Rattle.acl.proofs.NameLemmas.{with_names-next}
 use Rattle.acl.proofs.PlanLemmas.{keeps-on, name_acts-parts}

@@ -1,7 +1,4 @@
-use Rattle.std.proofs.Common.{◌≡◌, ◌++◌, take, drop}
-use Rattle.acl.specs.Commands.{Keeps, change_acts, with_names}
-use Rattle.acl.specs.Table.{users_in}
-use Rattle.acl.specs.Lists.{table_of}
+use Rattle.acl.proofs.Vocabulary.{◌≡◌, ◌++◌, take, drop, Keeps, change_acts, with_names, users_in, table_of}
 use Rattle.acl.proofs.plan.plan_change.Given as goal
 
 -- the acts planned before this index, followed by those still to be planned, are the acts of all

@@ -1,5 +1,4 @@
-use Rattle.std.proofs.Common.{◌≡◌, ◌++◌, drop}
-use Rattle.acl.specs.Commands.{Keeps, names_sets}
+use Rattle.acl.proofs.Vocabulary.{◌≡◌, ◌++◌, drop, Keeps, names_sets}
 use Rattle.acl.proofs.plan.plan_grants.Given as goal
 
 -- the acts planned before this name, followed by those still to be planned, are the acts of all

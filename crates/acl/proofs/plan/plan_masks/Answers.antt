@@ -1,8 +1,5 @@
-use Rattle.std.proofs.Common.{◌∙◌, ◌++◌, ◌+◌, ap, sym, subst, refl, arith, drop, append_assoc, Err}
-use Rattle.std.proofs.lemmas.Result.{err_from_is_err_and}
-use Rattle.acl.specs.Commands.{mask_acts, mask_fault, Answers}
-use Rattle.acl.specs.Table.{users_in}
-use Rattle.acl.specs.Lists.{table_of}
+use Rattle.acl.proofs.Vocabulary.{◌∙◌, ◌++◌, ◌+◌, ap, sym, subst, refl, arith, drop, append_assoc, Err}
+use Rattle.acl.proofs.Vocabulary.{err_from_is_err_and, mask_acts, mask_fault, Answers, users_in, table_of}
 use Rattle.acl.proofs.InPlace.{drop-next, drop-past}
 use Rattle.acl.proofs.PlanLemmas.{keeps-all, keeps-on, keeps-same, append-nil, answers-first, option_or-none}
 use Rattle.acl.proofs.plan.plan_masks.Goals as goal

@@ -1,7 +1,4 @@
-use Rattle.std.proofs.Common.{◌≡◌, ◌++◌, drop}
-use Rattle.acl.specs.Commands.{Keeps, mask_acts, mask_fault}
-use Rattle.acl.specs.Table.{users_in}
-use Rattle.acl.specs.Lists.{table_of}
+use Rattle.acl.proofs.Vocabulary.{◌≡◌, ◌++◌, drop, Keeps, mask_acts, mask_fault, users_in, table_of}
 use Rattle.acl.proofs.plan.plan_masks.Given as goal
 
 -- the acts planned before this entry, followed by those still to be planned, are the acts of all

@@ -1,7 +1,4 @@
-use Rattle.std.proofs.Common.{◌∙◌, ap, arith, length}
-use Rattle.acl.specs.declared.rows.Row.{Row}
-use Rattle.acl.specs.Table.{without_leader}
-use Rattle.acl_words.proofs.InPlace.{mapped_below-all, length-mapped_below}
+use Rattle.acl.proofs.Vocabulary.{◌∙◌, ap, arith, length, Row, without_leader, mapped_below-all, length-mapped_below}
 use Rattle.acl.proofs.InPlace.{set_value_at-more, revalued}
 use Rattle.acl.proofs.rows.forget_leader.Goals as goal
 

@@ -1,7 +1,4 @@
-use Rattle.std.proofs.Common.{◌≡◌}
-use Rattle.indexmap.specs.IndexMap.{spare}
-use Rattle.acl.specs.Table.{without_leader}
-use Rattle.acl_words.proofs.InPlace.{mapped_below}
+use Rattle.acl.proofs.Vocabulary.{◌≡◌, spare, without_leader, mapped_below}
 use Rattle.acl.proofs.rows.forget_leader.Given as goal
 
 -- the rows before this index have lost the leader; the others are unchanged

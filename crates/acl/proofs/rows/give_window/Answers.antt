@@ -1,9 +1,5 @@
-use Rattle.std.proofs.Common.{◌≡◌, ◌∙◌, slice_get, Some, ap, sym, subst, arith, length, below_more}
-use Rattle.acl_words.specs.declared.user_id.UserId.{UserId}
-use Rattle.acl.specs.declared.rows.Row.{Row}
-use Rattle.acl_words.specs.Same.{same_user}
-use Rattle.acl.specs.Table.{opening_bits, with_window}
-use Rattle.acl_words.proofs.InPlace.{mapped_below-all, length-mapped_below}
+use Rattle.acl.proofs.Vocabulary.{◌≡◌, ◌∙◌, slice_get, Some, ap, sym, subst, arith, length, below_more, UserId, Row}
+use Rattle.acl.proofs.Vocabulary.{same_user, opening_bits, with_window, mapped_below-all, length-mapped_below}
 use Rattle.acl.proofs.InPlace.{set_value_at-more, revalued, slice_get-mapped_below, slice_get-within, looked_up}
 use Rattle.acl.proofs.rows.give_window.Goals as goal
 

@@ -1,8 +1,5 @@
-use Rattle.std.proofs.Common.{◌≡◌, ◌<◌, ℕ, slice_get, length, Some}
-use Rattle.acl_words.specs.declared.user_id.UserId.{UserId}
-use Rattle.acl.specs.declared.rows.Row.{Row}
-use Rattle.acl.specs.Table.{opening_bits, with_window}
-use Rattle.acl_words.proofs.InPlace.{mapped_below}
+use Rattle.acl.proofs.Vocabulary.{◌≡◌, ◌<◌, ℕ, slice_get, length, Some, UserId, Row, opening_bits, with_window}
+use Rattle.acl.proofs.Vocabulary.{mapped_below}
 use Rattle.acl.proofs.rows.give_window.Given as goal
 
 abbrev pub invariant-loop-i : goal.invariant-loop-i

@@ -1,6 +1,4 @@
-use Rattle.std.proofs.Common.{◌∙◌, ◌++◌, ◌+◌, ap, sym, refl, arith, drop, append_assoc}
-use Rattle.std.proofs.lemmas.Result.{err_from_is_err_and}
-use Rattle.acl.specs.Commands.{sets}
+use Rattle.acl.proofs.Vocabulary.{◌∙◌, ◌++◌, ◌+◌, ap, sym, refl, arith, drop, append_assoc, err_from_is_err_and, sets}
 use Rattle.acl.proofs.InPlace.{drop-next, drop-past}
 use Rattle.acl.proofs.PlanLemmas.{keeps-all, keeps-on, append-nil}
 use Rattle.acl.proofs.sets.plan_sets.Goals as goal

@@ -1,5 +1,4 @@
-use Rattle.std.proofs.Common.{◌≡◌, ◌++◌, drop}
-use Rattle.acl.specs.Commands.{Keeps, sets}
+use Rattle.acl.proofs.Vocabulary.{◌≡◌, ◌++◌, drop, Keeps, sets}
 use Rattle.acl.proofs.sets.plan_sets.Given as goal
 
 -- the acts planned before this object, followed by those still to be planned, are the acts on all

@@ -1,6 +1,5 @@
-use Rattle.std.proofs.Common.{◌∙◌, ◌++◌, ◌+◌, ap, sym, refl, arith, drop, append_assoc}
-use Rattle.std.proofs.lemmas.Result.{err_from_is_err_and}
-use Rattle.acl.specs.Commands.{sets_on}
+use Rattle.acl.proofs.Vocabulary.{◌∙◌, ◌++◌, ◌+◌, ap, sym, refl, arith, drop, append_assoc, err_from_is_err_and}
+use Rattle.acl.proofs.Vocabulary.{sets_on}
 use Rattle.acl.proofs.InPlace.{drop-next, drop-past}
 use Rattle.acl.proofs.PlanLemmas.{keeps-all, keeps-same, keeps-on, append-nil}
 use Rattle.acl.proofs.sets.plan_sets_on.Goals as goal

@@ -1,5 +1,4 @@
-use Rattle.std.proofs.Common.{◌≡◌, ◌++◌, drop}
-use Rattle.acl.specs.Commands.{Keeps, sets_on}
+use Rattle.acl.proofs.Vocabulary.{◌≡◌, ◌++◌, drop, Keeps, sets_on}
 use Rattle.acl.proofs.sets.plan_sets_on.Given as goal
 
 -- the acts planned before this change, followed by those still to be planned, are the acts of all

@@ -1,5 +1,4 @@
-use Rattle.std.proofs.Common.{◌≤◌, ◌<◌, ℕ}
-use Rattle.cells.specs.Unlike.{IsUnlike}
+use Rattle.cells.proofs.Vocabulary.{◌≤◌, ◌<◌, ℕ, IsUnlike}
 use Rattle.cells.proofs.cell.end_of_unlike.Given as goal
 
 abbrev pub invariant-loop-column : goal.invariant-loop-column

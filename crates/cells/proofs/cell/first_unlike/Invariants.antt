@@ -1,5 +1,4 @@
-use Rattle.std.proofs.Common.{◌≤◌, ◌<◌, ℕ}
-use Rattle.cells.specs.Unlike.{IsAlike}
+use Rattle.cells.proofs.Vocabulary.{◌≤◌, ◌<◌, ℕ, IsAlike}
 use Rattle.cells.proofs.cell.first_unlike.Given as goal
 
 abbrev pub invariant-loop-column : goal.invariant-loop-column

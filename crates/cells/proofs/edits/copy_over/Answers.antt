@@ -1,10 +1,7 @@
-use Rattle.std.proofs.Common.{◌≡◌, ℕ, ◌+◌, ◌-◌, ◌≤◌, List, ◌++◌, length, take, drop, refl, sym, ap, ◌∙◌, subst, arith}
-use Rattle.std.proofs.Common.{length-take, length-drop, length-append, get_or}
-use Rattle.std.proofs.lemmas.List.{get_or-take, get_or-drop, get_or_append_left, get_or-append_right}
+use Rattle.cells.proofs.Vocabulary.{◌≡◌, ℕ, ◌+◌, ◌-◌, ◌≤◌, List, ◌++◌, length, take, drop, refl, sym, ap, ◌∙◌, subst}
+use Rattle.cells.proofs.Vocabulary.{arith, length-take, length-drop, length-append, get_or, get_or-take, get_or-drop}
+use Rattle.cells.proofs.Vocabulary.{get_or_append_left, get_or-append_right, Cell, blank, IsPut}
 use borrow.Rule.Slice.PartMut.{put_mid}
-use Rattle.cells.specs.declared.cell.Cell.{Cell}
-use Rattle.cells.specs.Line.{blank}
-use Rattle.cells.specs.Put.{IsPut}
 use Rattle.cells.proofs.edits.copy_over.Goals as goal
 
 module _ (at : ℕ) (fresh old : List Cell) (room : at + length fresh ≤ length old) where

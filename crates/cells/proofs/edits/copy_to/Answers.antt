@@ -1,7 +1,5 @@
-use Rattle.std.proofs.Common.{◌≡◌, ◌+◌, ◌++◌, ◌-◌, append_assoc, ℕ, List, take, drop, sym, ap, ◌∙◌, arith}
-use Rattle.std.specs.List.{copy_within}
-use Rattle.std.proofs.lemmas.List.{take-append-drop, drop-drop}
-use Rattle.cells.specs.declared.cell.Cell.{Cell}
+use Rattle.cells.proofs.Vocabulary.{◌≡◌, ◌+◌, ◌++◌, ◌-◌, append_assoc, ℕ, List, take, drop, sym, ap, ◌∙◌, arith}
+use Rattle.cells.proofs.Vocabulary.{copy_within, take-append-drop, drop-drop, Cell}
 use Rattle.cells.proofs.edits.copy_to.Goals as goal
 
 -- cells copied to their own place stay

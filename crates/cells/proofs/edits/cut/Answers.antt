@@ -1,7 +1,5 @@
-use Rattle.std.proofs.Common.{◌≡◌, ℕ, false, List, sym, ap, ◌∙◌, arith}
-use Rattle.std.proofs.lemmas.List.{get_or_past, get_or_default}
-use Rattle.cells.specs.declared.cell.Cell.{Cell}
-use Rattle.cells.specs.Line.{blank, cell_at, is_right, cut_of}
+use Rattle.cells.proofs.Vocabulary.{◌≡◌, ℕ, false, List, sym, ap, ◌∙◌, arith, get_or_past, get_or_default, Cell, blank}
+use Rattle.cells.proofs.Vocabulary.{cell_at, is_right, cut_of}
 use Rattle.cells.proofs.edits.cut.Goals as goal
 use Rattle.cells.proofs.edits.cut.Goals.{else-at-gt0-via-then-at-gt0+then-at-cells+else-is_right}
 use Rattle.cells.proofs.edits.cut.Goals.{else-at-gt0-via-then-at-gt0+else-at-cells, else-at-gt0-via-else-at-gt0}

@@ -1,7 +1,6 @@
-use Rattle.std.proofs.Common.{◌≡◌, ◌+◌, ◌<◌, ◌≤◌, length, replicate, get_or, List, sym, subst, ap, ◌∙◌, arith}
-use Rattle.std.proofs.lemmas.List.{get_or_default}
-use Rattle.cells.specs.declared.cell.Cell.{Cell}
-use Rattle.cells.specs.Line.{blank, cell_at, cells_from, IsPaired, spliced, unprotected_erased}
+use Rattle.cells.proofs.Vocabulary.{◌≡◌, ◌+◌, ◌<◌, ◌≤◌, length, replicate, get_or, List, sym, subst, ap, ◌∙◌, arith}
+use Rattle.cells.proofs.Vocabulary.{get_or_default, Cell, blank, cell_at, cells_from, IsPaired, spliced}
+use Rattle.cells.proofs.Vocabulary.{unprotected_erased}
 use Rattle.cells.proofs.Settling.{IsPaired-cells_from, length-cells_from}
 use Rattle.cells.proofs.Erasing.{erase_none, erase_one, erase_kept}
 use Rattle.cells.proofs.edits.erase_unprotected.Goals as goal

@@ -1,7 +1,5 @@
-use Rattle.std.proofs.Common.{◌≡◌, ◌+◌, ◌<◌, length, slice_set, sym, ap, ◌∙◌, subst, arith}
-use Rattle.std.proofs.lemmas.Bool.Decides.{nat_tests}
-use Rattle.cells.specs.Line.{IsPaired, cut_of}
-use Rattle.cells.specs.Put.{IsPut}
+use Rattle.cells.proofs.Vocabulary.{◌≡◌, ◌+◌, ◌<◌, length, slice_set, sym, ap, ◌∙◌, subst, arith, nat_tests, IsPaired}
+use Rattle.cells.proofs.Vocabulary.{cut_of, IsPut}
 use Rattle.cells.proofs.Cutting.{IsPaired-cut_of}
 use Rattle.cells.proofs.Settling.{length-cut_of}
 use Rattle.cells.proofs.PuttingWhole.{put_none}

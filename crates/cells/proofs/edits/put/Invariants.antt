@@ -1,5 +1,4 @@
-use Rattle.std.proofs.Common.{◌+◌, length}
-use Rattle.cells.specs.Line.{cut_of}
+use Rattle.cells.proofs.Vocabulary.{◌+◌, length, cut_of}
 use Rattle.cells.proofs.Putting.{IsPutSoFar}
 use Rattle.cells.proofs.edits.put.Given as goal
 

@@ -1,7 +1,5 @@
-use Rattle.std.proofs.Common.{[], ◌∷◌, ◌+◌, ◌≡◌, length, set, sym, ap, ◌∙◌, arith}
-use Rattle.std.proofs.lemmas.List.{get_or_default}
-use Rattle.cells.specs.declared.cell.Cell.{Cell}
-use Rattle.cells.specs.Line.{blank, cells_from, spliced}
+use Rattle.cells.proofs.Vocabulary.{[], ◌∷◌, ◌+◌, ◌≡◌, length, set, sym, ap, ◌∙◌, arith, get_or_default, Cell, blank}
+use Rattle.cells.proofs.Vocabulary.{cells_from, spliced}
 use Rattle.cells.proofs.OverBlanks.{put_one}
 use Rattle.cells.proofs.PuttingWhole.{put_narrow_plain}
 use Rattle.cells.proofs.edits.put_narrow.Goals as goal

@@ -1,7 +1,5 @@
-use Rattle.std.proofs.Common.{◌≡◌, ◌+◌, ◌*◌, ◌/◌, ℕ, false, length, refl, subst, arith}
-use Rattle.std.proofs.lemmas.List.{take_all}
-use Rattle.cells.specs.Line.{narrow_cells, plain}
-use Rattle.cells.specs.Put.{IsPut}
+use Rattle.cells.proofs.Vocabulary.{◌≡◌, ◌+◌, ◌*◌, ◌/◌, ℕ, false, length, refl, subst, arith, take_all, narrow_cells}
+use Rattle.cells.proofs.Vocabulary.{plain, IsPut}
 use Rattle.cells.proofs.Putting.{IsPut-none}
 use Rattle.cells.proofs.OverPlain.{AreWritten, next_written}
 use Rattle.cells.proofs.edits.put_run_over_plain.Goals as goal

@@ -1,5 +1,4 @@
-use Rattle.std.proofs.Common.{◌≡◌, ◌+◌, length, min, ◌-◌, ap, ◌∙◌, arith}
-use Rattle.cells.specs.Line.{cut_of, blank}
+use Rattle.cells.proofs.Vocabulary.{◌≡◌, ◌+◌, length, min, ◌-◌, ap, ◌∙◌, arith, cut_of, blank}
 use Rattle.cells.proofs.Cutting.{IsPaired-cut_of}
 use Rattle.cells.proofs.Moves.{calls_are, moved_line}
 use Rattle.cells.proofs.Splicing.{moved_line-is, cut_thrice, length-cut_thrice}

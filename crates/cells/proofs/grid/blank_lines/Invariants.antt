@@ -1,5 +1,4 @@
-use Rattle.std.proofs.Common.{◌≡◌, replicate}
-use Rattle.cells.specs.Line.{blank}
+use Rattle.cells.proofs.Vocabulary.{◌≡◌, replicate, blank}
 use Rattle.cells.proofs.grid.blank_lines.Given as goal
 
 abbrev pub invariant-loop-row : goal.invariant-loop-row

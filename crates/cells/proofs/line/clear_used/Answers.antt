@@ -1,5 +1,4 @@
-use Rattle.std.proofs.Common.{◌≡◌, ◌++◌, length, take, drop, replicate, length-take, ap, ◌∙◌, arith}
-use Rattle.cells.specs.Line.{blank}
+use Rattle.cells.proofs.Vocabulary.{◌≡◌, ◌++◌, length, take, drop, replicate, length-take, ap, ◌∙◌, arith, blank}
 use Rattle.cells.proofs.Used.{cleared_is}
 use Rattle.cells.proofs.OverPlain.{cleared_plain}
 use Rattle.cells.proofs.line.clear_used.Goals as goal

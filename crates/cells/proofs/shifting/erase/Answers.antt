@@ -1,8 +1,5 @@
-use Rattle.std.proofs.Common.{◌≡◌, ◌+◌, ◌-◌, List, length, replicate, sym, ap, ◌∙◌, subst, arith}
-use Rattle.std.proofs.lemmas.List.{length-replicate}
-use Rattle.cells.specs.declared.cell.Cell.{Cell}
-use Rattle.cells.specs.Line.{blank, cells_from, cut_of, spliced}
-use Rattle.cells.specs.Put.{IsPut}
+use Rattle.cells.proofs.Vocabulary.{◌≡◌, ◌+◌, ◌-◌, List, length, replicate, sym, ap, ◌∙◌, subst, arith}
+use Rattle.cells.proofs.Vocabulary.{length-replicate, Cell, blank, cells_from, cut_of, spliced, IsPut}
 use Rattle.cells.proofs.Cutting.{IsPaired-cut_of}
 use Rattle.cells.proofs.Settling.{length-cut_of}
 use Rattle.cells.proofs.Putting.{put_narrow_is}

@@ -1,9 +1,6 @@
-use Rattle.std.proofs.Common.{◌≡◌, ◌+◌, ◌-◌, ◌≤◌, [], ◌++◌, List, length, replicate, take, drop, refl, ap, ◌∙◌, inl}
-use Rattle.std.proofs.Common.{inr, ◌⊎◌, ⊎_elim, arith, length-take}
-use Rattle.std.proofs.lemmas.List.{length-replicate}
-use Rattle.std.proofs.lemmas.Bool.{cases_lt}
-use Rattle.cells.specs.declared.cell.Cell.{Cell}
-use Rattle.cells.specs.Line.{blank, cells_from, spliced}
+use Rattle.cells.proofs.Vocabulary.{◌≡◌, ◌+◌, ◌-◌, ◌≤◌, [], ◌++◌, List, length, replicate, take, drop, refl, ap, ◌∙◌}
+use Rattle.cells.proofs.Vocabulary.{inl, inr, ◌⊎◌, ⊎_elim, arith, length-take, length-replicate, cases_lt, Cell, blank}
+use Rattle.cells.proofs.Vocabulary.{cells_from, spliced}
 use Rattle.cells.proofs.PuttingWhole.{put_none}
 use Rattle.cells.proofs.UsedSplices.{blanks_at, front_paired, front_spliced, splices_are_one}
 use Rattle.cells.proofs.shifting.splice_used.Goals as goal

@@ -1,6 +1,4 @@
-use Rattle.std.proofs.Common.{◌+◌, ◌∙◌, refl, sym, arith}
-use Rattle.std.proofs.lemmas.List.Folds.{list_all_more}
-use Rattle.charsets.specs.Units.{is_plain}
+use Rattle.cells.proofs.Vocabulary.{◌+◌, ◌∙◌, refl, sym, arith, list_all_more, is_plain}
 use Rattle.cells.proofs.OverPlain.{next_written}
 use Rattle.cells.proofs.texts.put_plain.Goals as goal
 

@@ -1,6 +1,4 @@
-use Rattle.std.proofs.Common.{◌≡◌, take, true}
-use Rattle.std.specs.List.{list_all}
-use Rattle.charsets.specs.Units.{is_plain}
+use Rattle.cells.proofs.Vocabulary.{◌≡◌, take, true, list_all, is_plain}
 use Rattle.cells.proofs.OverPlain.{AreWritten}
 use Rattle.cells.proofs.texts.put_plain.Given as goal
 

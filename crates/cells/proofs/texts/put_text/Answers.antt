@@ -1,8 +1,5 @@
-use Rattle.std.proofs.Common.{◌≤◌, ◌+◌, ◌-◌, ℕ, List, set, take, sym, ◌∙◌, subst, arith}
-use Rattle.charsets.specs.Text.{text}
-use Rattle.cells.specs.declared.cell.Cell.{Cell}
-use Rattle.cells.specs.declared.cell.Shape.TheVariants.{Left, Right}
-use Rattle.cells.specs.Texts.{text_cells}
+use Rattle.cells.proofs.Vocabulary.{◌≤◌, ◌+◌, ◌-◌, ℕ, List, set, take, sym, ◌∙◌, subst, arith, text, Cell, Left, Right}
+use Rattle.cells.proofs.Vocabulary.{text_cells}
 use Rattle.cells.proofs.Mending.{cells_mended, nothing_put}
 use Rattle.cells.proofs.TextCells.{paired_complete, text_paired}
 use Rattle.cells.proofs.Written.{IsWritten, begun_written, last_inside, letter_written, wide_written, mark_written}

@@ -1,6 +1,4 @@
-use Rattle.std.proofs.Common.{◌≡◌, map, take}
-use Rattle.command_lang.specs.Values.{mask_of}
-use Rattle.command_lang.specs.Meaning.{texts_of}
+use Rattle.command_lang.proofs.Vocabulary.{◌≡◌, map, take, mask_of, texts_of}
 use Rattle.command_lang.proofs.build.masks.Given as goal
 
 abbrev pub invariant-loop-word : goal.invariant-loop-word

@@ -1,5 +1,4 @@
-use Rattle.std.proofs.Common.{◌≡◌, map, take}
-use Rattle.command_lang.specs.Printing.{mask_word}
+use Rattle.command_lang.proofs.Vocabulary.{◌≡◌, map, take, mask_word}
 use Rattle.command_lang.proofs.command_words.mask_words.Given as goal
 
 abbrev pub invariant-loop-mask : goal.invariant-loop-mask

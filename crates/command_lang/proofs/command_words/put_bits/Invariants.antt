@@ -1,6 +1,5 @@
-use Rattle.std.proofs.Common.{◌≡◌, ◌++◌, drop}
-use Rattle.std.specs.String.{string_bytes}
-use Rattle.command_lang.specs.Printing.{bits_word, bits_behind}
+use Rattle.command_lang.proofs.Vocabulary.{◌≡◌, ◌++◌, drop, string_bytes, bits_word}
+use Rattle.command_lang.specs.Printing.{bits_behind}
 use Rattle.command_lang.proofs.command_words.put_bits.Given as goal
 
 abbrev pub invariant-loop-i : goal.invariant-loop-i

@@ -1,6 +1,4 @@
-use Rattle.std.proofs.Common.{◌≡◌, ◌++◌, take}
-use Rattle.std.specs.String.{string_bytes}
-use Rattle.command_lang.specs.Printing.{items_word}
+use Rattle.command_lang.proofs.Vocabulary.{◌≡◌, ◌++◌, take, string_bytes, items_word}
 use Rattle.command_lang.proofs.command_words.put_items.Given as goal
 
 abbrev pub invariant-loop-i : goal.invariant-loop-i

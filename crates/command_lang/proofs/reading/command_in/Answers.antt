@@ -1,9 +1,5 @@
-use Rattle.std.proofs.Common.{sym, subst, ◌∙◌, inr, true≢false}
-use Rattle.std.proofs.lemmas.Result.{IfOk-weaker, IfErr-weaker}
-use Rattle.std.specs.Str.{chars}
-use Rattle.std.proofs.lemmas.Str.{is_utf8-from_IsUtf8}
-use Rattle.strings.specs.Grammar.{IsCut}
-use Rattle.command_lang.specs.Relation.{Refuses}
+use Rattle.command_lang.proofs.Vocabulary.{sym, subst, ◌∙◌, inr, true≢false, IfOk-weaker, IfErr-weaker, chars}
+use Rattle.command_lang.proofs.Vocabulary.{is_utf8-from_IsUtf8, IsCut, Refuses}
 use Rattle.command_lang.proofs.Whole.{no_text, relates, refuses}
 use Rattle.command_lang.proofs.reading.command_in.Goals as goal
 

@@ -1,7 +1,4 @@
-use Rattle.std.proofs.Common.{sym, ap, ◌∙◌, true≢false}
-use Rattle.std.specs.Option.{is_some}
-use Rattle.command_lang.specs.Rows.{takes}
-use Rattle.command_lang.specs.Meaning.{texts_of}
+use Rattle.command_lang.proofs.Vocabulary.{sym, ap, ◌∙◌, true≢false, is_some, takes, texts_of}
 use Rattle.command_lang.proofs.Fits.{fits, means_one}
 use Rattle.command_lang.proofs.reading.command_of.Goals as goal
 

@@ -1,7 +1,4 @@
-use Rattle.std.proofs.Common.{◌≡◌, ◌⊎◌, inl, inr}
-use Rattle.std.proofs.lemmas.Result.{IfErr-weaker}
-use Rattle.command_lang.specs.LineFaults.{no_memory}
-use Rattle.command_lang.specs.Relation.{NoneBefore}
+use Rattle.command_lang.proofs.Vocabulary.{◌≡◌, ◌⊎◌, inl, inr, IfErr-weaker, no_memory, NoneBefore}
 use Rattle.command_lang.proofs.Places.{least_place}
 use Rattle.command_lang.proofs.reading.parse.Goals as goal
 

@@ -1,7 +1,6 @@
-use Rattle.std.proofs.Common.{◌∙◌, rules, tests}
-use Rattle.std.proofs.lemmas.Iterator.{YieldsList-from_slice}
+use Rattle.command_lang.proofs.Vocabulary.{◌∙◌, rules, tests, YieldsList-from_slice, command_named}
 use Rattle.std.proofs.lemmas.Iterator.Search.{find_from_yields_List}
-use Rattle.command_lang.specs.Names.{is_called, all_names, command_named}
+use Rattle.command_lang.specs.Names.{is_called, all_names}
 use Rattle.command_lang.proofs.rows.command_named.Goals as goal
 
 pub returns : goal.returns

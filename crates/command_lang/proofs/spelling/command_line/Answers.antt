@@ -1,8 +1,5 @@
-use Rattle.std.proofs.Common.{◌++◌, sym, ◌∙◌, ap}
-use Rattle.std.specs.String.{string_bytes}
-use Rattle.std.specs.Str.{encode_utf8_all}
-use Rattle.command_lang.specs.Names.{name_text}
-use Rattle.command_lang.specs.Printing.{printed_words, words_of}
+use Rattle.command_lang.proofs.Vocabulary.{◌++◌, sym, ◌∙◌, ap, string_bytes, encode_utf8_all, name_text, printed_words}
+use Rattle.command_lang.proofs.Vocabulary.{words_of}
 use Rattle.command_lang.proofs.Appends.{printed_is, words-more}
 use Rattle.command_lang.proofs.spelling.command_line.Goals as goal
 

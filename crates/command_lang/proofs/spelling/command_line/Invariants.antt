@@ -1,7 +1,4 @@
-use Rattle.std.proofs.Common.{◌≡◌, ◌++◌, drop}
-use Rattle.std.specs.String.{string_bytes}
-use Rattle.std.specs.Str.{encode_utf8_all}
-use Rattle.command_lang.specs.Printing.{printed, printed_words}
+use Rattle.command_lang.proofs.Vocabulary.{◌≡◌, ◌++◌, drop, string_bytes, encode_utf8_all, printed, printed_words}
 use Rattle.command_lang.proofs.spelling.command_line.Given as goal
 
 abbrev pub invariant-loop-word : goal.invariant-loop-word

@@ -1,8 +1,5 @@
-use Rattle.std.proofs.Common.{ap, ◌∙◌, not, ◌&&◌, rules, tests}
-use Rattle.std.proofs.lemmas.Iterator.{YieldsList-from_chars}
+use Rattle.command_lang.proofs.Vocabulary.{ap, ◌∙◌, not, ◌&&◌, rules, tests, YieldsList-from_chars, list_all, chars}
 use Rattle.std.proofs.lemmas.Iterator.Search.{all_from_yields_List}
-use Rattle.std.specs.List.{list_all}
-use Rattle.std.specs.Str.{chars}
 use Rattle.command_lang.specs.Printing.{is_plain}
 use Rattle.command_lang.proofs.spelling.needs_no_quotes.Goals as goal
 

@@ -1,6 +1,4 @@
-use Rattle.std.proofs.Common.{sym, subst}
-use Rattle.std.proofs.lemmas.Result.{IfOk-weaker}
-use Rattle.command_lang.specs.ReadsBack.{ReadsBack}
+use Rattle.command_lang.proofs.Vocabulary.{sym, subst, IfOk-weaker, ReadsBack}
 use Rattle.command_lang.proofs.ReadBack.{read_back}
 use Rattle.command_lang.proofs.spelling.print.Goals as goal
 

@@ -1,6 +1,4 @@
-use Rattle.std.proofs.lemmas.Iterator.{YieldsList-from_chars}
-use Rattle.std.proofs.lemmas.Iterator.Consumers.{YieldsList-turn, YieldsList-end}
-use Rattle.std.specs.Str.{chars}
+use Rattle.command_lang.proofs.Vocabulary.{YieldsList-from_chars, YieldsList-turn, YieldsList-end, chars}
 use Rattle.command_lang.proofs.Appends.{quoted-more, quoted-end}
 use Rattle.command_lang.proofs.spelling.put_quoted.Goals as goal
 

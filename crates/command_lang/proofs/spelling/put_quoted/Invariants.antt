@@ -1,7 +1,4 @@
-use Rattle.std.proofs.Common.{◌≡◌, ◌++◌, drop, length}
-use Rattle.std.specs.String.{string_bytes}
-use Rattle.std.specs.Str.{chars, encode_utf8_all}
-use Rattle.command_lang.specs.Printing.{quoted}
+use Rattle.command_lang.proofs.Vocabulary.{◌≡◌, ◌++◌, drop, length, string_bytes, chars, encode_utf8_all, quoted}
 use Rattle.command_lang.proofs.spelling.put_quoted.Given as goal
 
 abbrev pub invariant-loop-c : goal.invariant-loop-c

@@ -1,6 +1,4 @@
-use Rattle.std.proofs.Common.{◌≡◌, ◌++◌, [], ◌∷◌, sym, ◌∙◌, subst, OnOk}
-use Rattle.std.specs.String.{string_bytes}
-use Rattle.std.proofs.lemmas.Result.{on_ok_weaker}
+use Rattle.command_lang.proofs.Vocabulary.{◌≡◌, ◌++◌, [], ◌∷◌, sym, ◌∙◌, subst, OnOk, string_bytes, on_ok_weaker}
 use Rattle.command_lang.proofs.Appends.{pushed, plain_text, quoted_text}
 use Rattle.command_lang.proofs.spelling.put_word.Goals as goal
 

@@ -1,7 +1,5 @@
-use Rattle.std.proofs.Common.{sym, ap, ◌∙◌, arith, true, false}
-use Rattle.std.proofs.lemmas.Bool.Decides.{nat_tests}
+use Rattle.command_lang.proofs.Vocabulary.{sym, ap, ◌∙◌, arith, true, false, nat_tests, word_fault}
 use Rattle.command_lang.proofs.WordFaults.{fault-found, fault-passed, fault-end}
-use Rattle.command_lang.specs.Table.{word_fault}
 use Rattle.command_lang.proofs.table.words_fault.Goals as goal
 
 pub returns-then-is_some : goal.returns-then-is_some

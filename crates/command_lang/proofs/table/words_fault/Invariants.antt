@@ -1,5 +1,4 @@
-use Rattle.std.proofs.Common.{◌≡◌, drop}
-use Rattle.command_lang.specs.Table.{words_faults, first_of}
+use Rattle.command_lang.proofs.Vocabulary.{◌≡◌, drop, words_faults, first_of}
 use Rattle.command_lang.proofs.table.words_fault.Given as goal
 
 abbrev pub invariant-loop-i : goal.invariant-loop-i

@@ -1,5 +1,4 @@
-use Rattle.std.proofs.Common.{◌≡◌, ◌++◌, drop}
-use Rattle.command_lang.specs.Values.{bits_of, bits_after}
+use Rattle.command_lang.proofs.Vocabulary.{◌≡◌, ◌++◌, drop, bits_of, bits_after}
 use Rattle.command_lang.proofs.values.bits.Given as goal
 
 abbrev pub invariant-loop-c : goal.invariant-loop-c

@@ -1,7 +1,5 @@
-use Rattle.std.proofs.Common.{rules, tests}
-use Rattle.std.proofs.lemmas.Iterator.{YieldsList-from_slice}
+use Rattle.command_lang.proofs.Vocabulary.{rules, tests, YieldsList-from_slice, is_sign}
 use Rattle.std.proofs.lemmas.Iterator.Search.{position_from_yields_List}
-use Rattle.command_lang.specs.Values.{is_sign}
 use Rattle.command_lang.proofs.Signs.{first-or}
 use Rattle.command_lang.proofs.values.first_sign.Goals as goal
 

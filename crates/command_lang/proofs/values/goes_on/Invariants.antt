@@ -1,5 +1,4 @@
-use Rattle.std.proofs.Common.{◌≡◌, drop, true}
-use Rattle.command_lang.specs.Values.{goes_on}
+use Rattle.command_lang.proofs.Vocabulary.{◌≡◌, drop, true, goes_on}
 use Rattle.command_lang.proofs.values.goes_on.Given as goal
 
 abbrev pub invariant-loop-c : goal.invariant-loop-c

@@ -1,7 +1,5 @@
-use Rattle.std.proofs.Common.{rules, tests, lit<}
+use Rattle.command_lang.proofs.Vocabulary.{rules, tests, lit<, YieldsList-from_str_split, is_empty_text}
 use Rattle.std.proofs.lemmas.Iterator.Search.{any_from_yields_List}
-use Rattle.std.proofs.lemmas.Iterator.Splits.{YieldsList-from_str_split}
-use Rattle.command_lang.specs.Values.{is_empty_text}
 use Rattle.command_lang.proofs.values.has_empty_item.Goals as goal
 
 pub returns : goal.returns

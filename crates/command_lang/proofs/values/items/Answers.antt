@@ -1,6 +1,4 @@
-use Rattle.std.proofs.Common.{sym, ◌∙◌, lit<}
-use Rattle.std.proofs.lemmas.Iterator.Consumers.{YieldsList-end, YieldsList-at}
-use Rattle.std.proofs.lemmas.Iterator.Splits.{YieldsList-from_str_split}
+use Rattle.command_lang.proofs.Vocabulary.{sym, ◌∙◌, lit<, YieldsList-end, YieldsList-at, YieldsList-from_str_split}
 use Rattle.command_lang.proofs.values.items.Goals as goal
 
 pub returns : goal.returns

@@ -1,5 +1,4 @@
-use Rattle.std.proofs.Common.{◌∙◌, ap}
-use Rattle.command_lang.specs.Values.{sign_place}
+use Rattle.command_lang.proofs.Vocabulary.{◌∙◌, ap, sign_place}
 use Rattle.command_lang.proofs.Signs.{sign_cut}
 use Rattle.command_lang.proofs.values.mask.Goals as goal
 

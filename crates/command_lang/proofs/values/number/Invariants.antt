@@ -1,6 +1,4 @@
-use Rattle.std.proofs.Common.{◌≡◌, ◌<◌, ◌^◌, true, take}
-use Rattle.std.specs.List.{list_all}
-use Rattle.command_lang.specs.Values.{is_digit, number_after}
+use Rattle.command_lang.proofs.Vocabulary.{◌≡◌, ◌<◌, ◌^◌, true, take, list_all, is_digit, number_after}
 use Rattle.command_lang.proofs.values.number.Given as goal
 
 abbrev pub invariant-loop-c : goal.invariant-loop-c

@@ -1,6 +1,4 @@
-use Rattle.std.proofs.Common.{◌≡◌, ◌+◌, ◌-◌, ◌≤◌, length, drop}
-use Rattle.std.specs.List.{prefix_len}
-use Rattle.charsets.specs.Units.{is_plain}
+use Rattle.control_parser.proofs.Vocabulary.{◌≡◌, ◌+◌, ◌-◌, ◌≤◌, length, drop, prefix_len, is_plain}
 use Rattle.control_parser.proofs.parser.plain_run.Given as goal
 
 abbrev pub invariant-loop-run : goal.invariant-loop-run

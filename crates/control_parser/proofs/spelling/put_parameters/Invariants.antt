@@ -1,6 +1,4 @@
-use Rattle.std.proofs.Common.{◌≡◌, ◌≤◌, ◌+◌, ◌*◌, ◌∷◌, ◌++◌, take, length}
-use Rattle.std.specs.List.{flat_map}
-use Rattle.control_parser.specs.Spelling.{parameter}
+use Rattle.control_parser.proofs.Vocabulary.{◌≡◌, ◌≤◌, ◌+◌, ◌*◌, ◌∷◌, ◌++◌, take, length, flat_map, parameter}
 use Rattle.control_parser.proofs.spelling.put_parameters.Given as goal
 
 abbrev pub invariant-loop-n : goal.invariant-loop-n

@@ -1,7 +1,4 @@
-use Rattle.std.proofs.Common.{◌+◌, ◌<◌, ◌≤◌, List, ℕ, length, take}
-use Rattle.std.proofs.Common.{arith}
-use Rattle.std.proofs.Common.{◌∙◌}
-use Rattle.std.proofs.lemmas.List.{length-set}
+use Rattle.emulator.proofs.Vocabulary.{◌+◌, ◌<◌, ◌≤◌, List, ℕ, length, take, arith, ◌∙◌, length-set}
 use Rattle.emulator.proofs.Sequences.{begun-read, numeral-behind, parameter-read, final-read}
 use Rattle.emulator.proofs.sequence.first_sequence.Goals as goal
 

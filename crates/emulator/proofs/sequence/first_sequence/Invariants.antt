@@ -1,5 +1,4 @@
-use Rattle.std.proofs.Common.{◌≡◌, ◌-◌, ◌<◌, ◌≤◌, ◌++◌, ◌∷◌, [], length, take}
-use Rattle.control_parser.specs.Steps.{no_text}
+use Rattle.emulator.proofs.Vocabulary.{◌≡◌, ◌-◌, ◌<◌, ◌≤◌, ◌++◌, ◌∷◌, [], length, take, no_text}
 use Rattle.control_parser.proofs.Sequences.{IsNumerals}
 use Rattle.emulator.proofs.sequence.first_sequence.Given as goal
 

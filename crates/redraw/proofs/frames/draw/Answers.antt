@@ -1,10 +1,6 @@
-use Rattle.std.proofs.Common.{◌≡◌, ◌∙◌, [], List, ℕ, subst, sym, ap, Option, Some, None}
-use Rattle.terminal_model.specs.Shows.{View}
-use Rattle.terminal_model.specs.Drawable.{HaveHalves}
-use Rattle.view.specs.Drawable.{IsDrawable}
-use Rattle.redraw.specs.Shadow.{Knowledge}
+use Rattle.redraw.proofs.Vocabulary.{◌≡◌, ◌∙◌, [], List, ℕ, subst, sym, ap, Option, Some, None, View, HaveHalves}
+use Rattle.redraw.proofs.Vocabulary.{IsDrawable, Knowledge, CanBeShown, DrawsBytes}
 use Rattle.redraw.specs.Steps.{Bytes}
-use Rattle.redraw.specs.Frames.{CanBeShown, DrawsBytes}
 use Rattle.redraw.proofs.frames.draw.Goals.{in-None+in_ok-first_bytes-in-None}
 use Rattle.redraw.proofs.frames.draw.Goals.{in-Some+in-Some-first_change+in_ok-next_bytes-in-Some}
 use Rattle.redraw.proofs.frames.draw.Goals as goal

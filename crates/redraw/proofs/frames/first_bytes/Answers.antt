@@ -1,10 +1,5 @@
-use Rattle.std.proofs.Common.{◌≡◌, ℕ, Some, None, false, true, length, replicate, sym, ap, ◌∙◌, subst}
-use Rattle.cells.specs.Line.{plain, blank}
-use Rattle.cells.specs.Page.{line_at}
-use Rattle.terminal_model.specs.Screen.{blank_page}
-use Rattle.terminal_model.specs.Shows.{View}
-use Rattle.terminal_model.specs.Drawable.{HaveHalves}
-use Rattle.redraw.specs.Drawing.{Takes, Stage, Final}
+use Rattle.redraw.proofs.Vocabulary.{◌≡◌, ℕ, Some, None, false, true, length, replicate, sym, ap, ◌∙◌, subst, plain}
+use Rattle.redraw.proofs.Vocabulary.{blank, line_at, blank_page, View, HaveHalves, Takes, Stage, Final}
 use Rattle.redraw.proofs.Ends.{ended, blank_halves}
 use Rattle.redraw.proofs.frames.first_bytes.Goals as goal
 

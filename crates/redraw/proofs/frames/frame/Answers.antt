@@ -1,11 +1,6 @@
-use Rattle.std.proofs.Common.{◌≡◌, ◌++◌, refl, subst, ap, ◌∙◌, [], inl, inr}
-use Rattle.std.specs.Prelude.{Some}
-use Rattle.std.proofs.lemmas.Option.{MatchOption-at_some, MatchOption-at_none}
-use Rattle.cells.specs.Page.{IsGrid}
-use Rattle.terminal_model.specs.Shows.{View, NeedsDraw, NeedsNoDraw}
-use Rattle.view.specs.Drawable.{IsDrawable}
-use Rattle.redraw.specs.Shadow.{Knowledge}
-use Rattle.redraw.specs.Frames.{CanBeShown, DrawsBytes}
+use Rattle.redraw.proofs.Vocabulary.{◌≡◌, ◌++◌, refl, subst, ap, ◌∙◌, [], inl, inr, Some, MatchOption-at_some, IsGrid}
+use Rattle.redraw.proofs.Vocabulary.{View, NeedsDraw, NeedsNoDraw, IsDrawable, Knowledge, CanBeShown, DrawsBytes}
+use Rattle.std.proofs.lemmas.Option.{MatchOption-at_none}
 use Rattle.redraw.proofs.Ends.{redraws}
 use Rattle.redraw.proofs.frames.frame.Goals as goal
 

@@ -1,11 +1,5 @@
-use Rattle.std.proofs.Common.{subst, ap, ◌∙◌, []}
-use Rattle.std.specs.Prelude.{Option, Some}
-use Rattle.std.proofs.lemmas.Option.{MatchOption-at_some}
-use Rattle.cells.specs.Page.{IsGrid}
-use Rattle.terminal_model.specs.Shows.{View, NeedsDraw}
-use Rattle.view.specs.Drawable.{IsDrawable}
-use Rattle.redraw.specs.Shadow.{Knowledge}
-use Rattle.redraw.specs.Frames.{CanBeShown, DrawsBytes}
+use Rattle.redraw.proofs.Vocabulary.{subst, ap, ◌∙◌, [], Option, Some, MatchOption-at_some, IsGrid, View, NeedsDraw}
+use Rattle.redraw.proofs.Vocabulary.{IsDrawable, Knowledge, CanBeShown, DrawsBytes}
 use Rattle.redraw.proofs.Ends.{redraws}
 use Rattle.redraw.proofs.frames.frame_sparing.Goals as goal
 

@@ -1,8 +1,5 @@
-use Rattle.std.proofs.Common.{◌≡◌, ℕ, Bool, length, ap, ◌∙◌, subst, is_some}
-use Rattle.cells.specs.Page.{line_at}
-use Rattle.redraw.specs.declared.pen.Pen.{Pen}
-use Rattle.redraw.specs.Drawing.{Takes, Stage}
-use Rattle.redraw.specs.Frames.{pen_of, EndsAs, Begins}
+use Rattle.redraw.proofs.Vocabulary.{◌≡◌, ℕ, Bool, length, ap, ◌∙◌, subst, is_some, line_at, Pen, Takes, Stage, pen_of}
+use Rattle.redraw.proofs.Vocabulary.{EndsAs, Begins}
 use Rattle.redraw.proofs.Takings.{takes_given}
 use Rattle.redraw.proofs.Ends.{ended}
 use Rattle.redraw.proofs.frames.next_bytes.Goals as goal

@@ -1,5 +1,4 @@
-use Rattle.std.proofs.Common.{◌-◌, ◌≡◌, ◌<◌, ◌≤◌, length, ℕ}
-use Rattle.cells.specs.Line.{blank, cell_at}
+use Rattle.redraw.proofs.Vocabulary.{◌-◌, ◌≡◌, ◌<◌, ◌≤◌, length, ℕ, blank, cell_at}
 use Rattle.redraw.proofs.painting.blank_run.Given as goal
 
 abbrev pub invariant-loop-end : goal.invariant-loop-end

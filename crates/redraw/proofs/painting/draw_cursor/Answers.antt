@@ -1,10 +1,5 @@
-use Rattle.std.proofs.Common.{◌≡◌, true, Option, Some, None, sym, subst, ap}
-use Rattle.std.specs.Prelude.{IfSome}
-use Rattle.terminal_model.specs.declared.state.Position.{Position}
-use Rattle.terminal_model.specs.Screen.{IsInside}
-use Rattle.view.specs.View.{place_of}
-use Rattle.redraw.specs.declared.pen.Pen.{Pen}
-use Rattle.redraw.specs.Drawing.{Takes, Stage, Final}
+use Rattle.redraw.proofs.Vocabulary.{◌≡◌, true, Option, Some, None, sym, subst, ap, IfSome, Position, IsInside}
+use Rattle.redraw.proofs.Vocabulary.{place_of, Pen, Takes, Stage, Final}
 use Rattle.redraw.proofs.Stages.{hidden_takes, placed_takes, shown_takes}
 use Rattle.redraw.proofs.painting.draw_cursor.Goals as goal
 

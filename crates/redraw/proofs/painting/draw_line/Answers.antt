@@ -1,7 +1,4 @@
-use Rattle.std.proofs.Common.{◌≡◌, ℕ, false, arith}
-use Rattle.cells.specs.Line.{cell_at, is_right}
-use Rattle.cells.specs.Unlike.{IsNextUnlike}
-use Rattle.terminal_model.specs.Drawing.{Differs}
+use Rattle.redraw.proofs.Vocabulary.{◌≡◌, ℕ, false, arith, cell_at, is_right, IsNextUnlike, Differs}
 use Rattle.redraw.proofs.Pieces.{line_start, line_piece, line_end, start_whole}
 use Rattle.redraw.proofs.painting.draw_line.Goals as goal
 

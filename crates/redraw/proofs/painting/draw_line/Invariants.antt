@@ -1,7 +1,4 @@
-use Rattle.std.proofs.Common.{◌-◌, ◌+◌, ◌<◌, ◌≤◌, length, ℕ}
-use Rattle.cells.specs.Unlike.{IsEndOfUnlike}
-use Rattle.terminal_model.specs.Screen.{Page}
-use Rattle.redraw.specs.Drawing.{AreLines, DrawsUpTo}
+use Rattle.redraw.proofs.Vocabulary.{◌-◌, ◌+◌, ◌<◌, ◌≤◌, length, ℕ, IsEndOfUnlike, Page, AreLines, DrawsUpTo}
 use Rattle.redraw.proofs.painting.draw_line.Given as goal
 
 abbrev pub invariant-loop-start : goal.invariant-loop-start

@@ -1,10 +1,5 @@
-use Rattle.std.proofs.Common.{◌≡◌, ◌<◌, ℕ, List, length, sym, subst, ◌∙◌, arith}
-use Rattle.cells.specs.declared.cell.Cell.{Cell}
-use Rattle.cells.specs.Page.{line_at}
-use Rattle.terminal_model.specs.Screen.{Page}
-use Rattle.terminal_model.specs.Shows.{seen_at}
-use Rattle.terminal_model.specs.Drawable.{IsDrawableLine, HasHalves}
-use Rattle.redraw.specs.Drawing.{AreLines, Takes, HasLine, DrawsLine, HasPage, DrawsPage}
+use Rattle.redraw.proofs.Vocabulary.{◌≡◌, ◌<◌, ℕ, List, length, sym, subst, ◌∙◌, arith, Cell, line_at, Page, seen_at}
+use Rattle.redraw.proofs.Vocabulary.{IsDrawableLine, HasHalves, AreLines, Takes, HasLine, DrawsLine, HasPage, DrawsPage}
 use Rattle.redraw.proofs.Stages.{page_start, page_line}
 use Rattle.redraw.proofs.painting.draw_page.Goals as goal
 

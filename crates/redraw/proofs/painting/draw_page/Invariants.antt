@@ -1,8 +1,4 @@
-use Rattle.std.proofs.Common.{length}
-use Rattle.cells.specs.Page.{line_at}
-use Rattle.terminal_model.specs.Drawable.{HaveHalves}
-use Rattle.view.specs.Drawable.{IsDrawable}
-use Rattle.redraw.specs.Drawing.{Takes, HasPage, DrawsPage}
+use Rattle.redraw.proofs.Vocabulary.{length, line_at, HaveHalves, IsDrawable, Takes, HasPage, DrawsPage}
 use Rattle.redraw.proofs.painting.draw_page.Given as goal
 
 abbrev pub invariant-loop-line : goal.invariant-loop-line

@@ -1,9 +1,5 @@
-use Rattle.std.proofs.Common.{◌≡◌, ◌+◌, ◌<◌, ◌≤◌, ℕ, length, List, arith, refl, sym, ap, ◌∙◌, subst}
-use Rattle.cells.specs.declared.cell.Cell.{Cell}
-use Rattle.std.proofs.lemmas.List.{get_or_default}
-use Rattle.cells.specs.Line.{blank, cell_at, is_right}
-use Rattle.terminal_model.specs.Drawable.{IsDrawableCell}
-use Rattle.redraw.specs.Drawing.{width_of}
+use Rattle.redraw.proofs.Vocabulary.{◌≡◌, ◌+◌, ◌<◌, ◌≤◌, ℕ, length, List, arith, refl, sym, ap, ◌∙◌, subst, Cell}
+use Rattle.redraw.proofs.Vocabulary.{get_or_default, blank, cell_at, is_right, IsDrawableCell, width_of}
 use Rattle.redraw.proofs.Pieces.{blank_piece, cell_piece, cell_fits, cell_stands}
 use Rattle.redraw.proofs.painting.draw_piece.Goals.{then-column-erased, else-column-erased}
 use Rattle.redraw.proofs.painting.draw_piece.Goals as goal

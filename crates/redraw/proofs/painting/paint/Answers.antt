@@ -1,8 +1,5 @@
-use Rattle.std.proofs.Common.{ℕ, length, sym, subst, arith}
-use Rattle.std.specs.Prelude.{IfSome}
-use Rattle.cells.specs.Page.{line_at, IsGridSize}
-use Rattle.view.specs.View.{place_of}
-use Rattle.terminal_model.specs.Screen.{Page, IsInside}
+use Rattle.redraw.proofs.Vocabulary.{ℕ, length, sym, subst, arith, IfSome, line_at, IsGridSize, place_of, Page}
+use Rattle.redraw.proofs.Vocabulary.{IsInside}
 use Rattle.redraw.proofs.Stages.{paint_takes}
 use Rattle.redraw.proofs.painting.paint.Goals as goal
 

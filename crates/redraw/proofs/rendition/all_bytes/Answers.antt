@@ -1,6 +1,5 @@
-use Rattle.std.proofs.Common.{◌≡◌, ◌+◌, ℕ, List, drop, get_or, ap, arith}
-use Rattle.std.proofs.lemmas.List.{drop_more, drop_all}
-use Rattle.redraw.specs.Renditions.{value_bytes, all_bytes}
+use Rattle.redraw.proofs.Vocabulary.{◌≡◌, ◌+◌, ℕ, List, drop, get_or, ap, arith, drop_more, drop_all, all_bytes}
+use Rattle.redraw.specs.Renditions.{value_bytes}
 use Rattle.redraw.proofs.rendition.all_bytes.Goals as goal
 
 pub loop-index-preserved : goal.loop-index-preserved

@@ -1,5 +1,4 @@
-use Rattle.std.proofs.Common.{◌≡◌, ◌≤◌, ◌+◌, ◌*◌, drop}
-use Rattle.redraw.specs.Renditions.{all_bytes}
+use Rattle.redraw.proofs.Vocabulary.{◌≡◌, ◌≤◌, ◌+◌, ◌*◌, drop, all_bytes}
 use Rattle.redraw.proofs.rendition.all_bytes.Given as goal
 
 abbrev pub invariant-loop-index : goal.invariant-loop-index

@@ -1,9 +1,5 @@
-use Rattle.std.proofs.Common.{◌≡◌, ◌<◌, ◌≤◌, List, [], length, sym, ap, ◌∙◌, arith, ⊎_elim}
-use Rattle.std.proofs.lemmas.Bool.{cases_lt}
-use Rattle.std.proofs.lemmas.List.{get_or_past}
-use Rattle.cells.specs.declared.cell.Cell.{Cell}
-use Rattle.cells.specs.Line.{cell_at, unprotected}
-use Rattle.view.specs.declared.view.KeyModes.{KeyModes}
+use Rattle.redraw.proofs.Vocabulary.{◌≡◌, ◌<◌, ◌≤◌, List, [], length, sym, ap, ◌∙◌, arith, ⊎_elim, cases_lt}
+use Rattle.redraw.proofs.Vocabulary.{get_or_past, Cell, cell_at, unprotected, KeyModes}
 use Rattle.redraw.proofs.shadow.first_change.Goals as goal
 
 pub returns-then-is_same_modes-clause-none : goal.returns-then-is_same_modes-clause-none

@@ -1,9 +1,5 @@
-use Rattle.std.proofs.Common.{◌≡◌, ◌<◌, ◌≤◌, List, length, sym, ap, ◌∙◌, arith, ⊎_elim}
-use Rattle.std.proofs.lemmas.Bool.{cases_lt, cases_eq}
-use Rattle.cells.specs.declared.cell.Cell.{Cell}
-use Rattle.cells.specs.Line.{cell_at, unprotected}
-use Rattle.cells.proofs.Settling.{cell_at_past}
-use Rattle.terminal_model.specs.Shows.{seen_at}
+use Rattle.redraw.proofs.Vocabulary.{◌≡◌, ◌<◌, ◌≤◌, List, length, sym, ap, ◌∙◌, arith, ⊎_elim, cases_lt, cases_eq, Cell}
+use Rattle.redraw.proofs.Vocabulary.{cell_at, unprotected, cell_at_past, seen_at}
 use Rattle.redraw.proofs.shadow.first_unlike.Goals as goal
 
 pub loop-line-preserved : goal.loop-line-preserved

@@ -1,6 +1,4 @@
-use Rattle.std.proofs.Common.{sym, ◌∙◌, ap}
-use Rattle.std.specs.Prelude.{option_copied}
-use Rattle.session.specs.Fields.{if_utf8}
+use Rattle.session.proofs.Vocabulary.{sym, ◌∙◌, ap, option_copied, if_utf8}
 use Rattle.session.proofs.LineTexts.{title_read}
 use Rattle.session.proofs.fields.read_title.Goals as goal
 

@@ -1,11 +1,6 @@
-use Rattle.std.proofs.Common.{◌≡◌, ℕ, ◌+◌, ap, ◌∙◌, List, Some, vec_items}
-use Rattle.std.specs.Io.KnownBytes.{Keeps}
-use Rattle.session_model.specs.Trace.{Trace}
-use Rattle.session_core.specs.Stands.{StandsFor}
-use Rattle.session.specs.Played.{IfNotUnderstood, IsBad, PlaysUntil}
-use Rattle.std.specs.Io.Iter.{split_known_bytes, split_byte}
-use Rattle.std.specs.Io.Buffered.{reader_remaining}
-use Rattle.std.specs.Iterator.Adapters.{enumerate_source, enumerate_count}
+use Rattle.session.proofs.Vocabulary.{◌≡◌, ℕ, ◌+◌, ap, ◌∙◌, List, Some, vec_items, Keeps, Trace, StandsFor}
+use Rattle.session.proofs.Vocabulary.{IfNotUnderstood, IsBad, PlaysUntil, split_known_bytes, split_byte}
+use Rattle.session.proofs.Vocabulary.{reader_remaining, enumerate_source, enumerate_count}
 use Rattle.session.proofs.Playing.{none_played}
 use Rattle.session.proofs.Parts.{read_ahead, none_read, piece_of, line_on, all_played, stopped_at, if_bad, if_err_same}
 use Rattle.session.proofs.player.play_lines.Goals as goal

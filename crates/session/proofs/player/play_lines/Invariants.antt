@@ -1,10 +1,5 @@
-use Rattle.std.proofs.Common.{◌≡◌, ℕ, List, Some}
-use Rattle.std.specs.Io.Iter.{split_known_bytes, split_byte}
-use Rattle.std.specs.Io.Buffered.{reader_remaining}
-use Rattle.std.specs.Iterator.Adapters.{enumerate_source, enumerate_count}
-use Rattle.session_model.specs.Trace.{Trace}
-use Rattle.session_core.specs.Stands.{StandsFor}
-use Rattle.session.specs.Played.{PlayedPart}
+use Rattle.session.proofs.Vocabulary.{◌≡◌, ℕ, List, Some, split_known_bytes, split_byte, reader_remaining}
+use Rattle.session.proofs.Vocabulary.{enumerate_source, enumerate_count, Trace, StandsFor, PlayedPart}
 use Rattle.session.proofs.player.play_lines.Given as goal
 
 abbrev pub invariant-lines : goal.invariant-lines

@@ -1,7 +1,5 @@
-use Rattle.std.proofs.Common.{◌≡◌, ◌≤◌, ◌^◌, ◌++◌, ◌+◌, ap, subst, sym, ◌∙◌, arith}
-use Rattle.std.specs.Io.KnownBytes.{Appends}
-use Rattle.session_model.specs.Run.{tables_of}
-use Rattle.session.specs.Printed.{view_lines}
+use Rattle.session.proofs.Vocabulary.{◌≡◌, ◌≤◌, ◌^◌, ◌++◌, ◌+◌, ap, subst, sym, ◌∙◌, arith, Appends, tables_of}
+use Rattle.session.proofs.Vocabulary.{view_lines}
 use Rattle.session.proofs.Playing.{appends_none, appends_on}
 use Rattle.session.proofs.Rising.{shown_below, shown_none, shown_next, shown_all, shown_last}
 use Rattle.session.proofs.player.show.Goals as goal

@@ -1,8 +1,4 @@
-use Rattle.std.proofs.Common.{◌-◌, ◌^◌}
-use Rattle.std.specs.Io.KnownBytes.{Appends}
-use Rattle.session_model.specs.Trace.{Trace}
-use Rattle.session_model.specs.Run.{tables_of}
-use Rattle.session_core.specs.Stands.{StandsFor}
+use Rattle.session.proofs.Vocabulary.{◌-◌, ◌^◌, Appends, Trace, tables_of, StandsFor}
 use Rattle.session.proofs.Rising.{shown_below}
 use Rattle.session.proofs.player.show.Given as goal
 

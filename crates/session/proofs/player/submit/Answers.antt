@@ -1,6 +1,4 @@
-use Rattle.std.proofs.Common.{◌∷◌, []}
-use Rattle.session_model.specs.Trace.{happening}
-use Rattle.session_core.specs.Headline.{untaken_events}
+use Rattle.session.proofs.Vocabulary.{◌∷◌, [], happening, untaken_events}
 use Rattle.session.proofs.Parts.{event_ran, left_none}
 use Rattle.session.proofs.player.submit.Goals as goal
 

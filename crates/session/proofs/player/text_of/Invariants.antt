@@ -1,8 +1,4 @@
-use Rattle.std.proofs.Common.{◌≡◌, ◌++◌, take}
-use Rattle.std.specs.List.{flat_map}
-use Rattle.std.specs.String.{string_bytes}
-use Rattle.session_model.specs.Trace.{happening}
-use Rattle.session.specs.Printed.{effect_line, reply_line}
+use Rattle.session.proofs.Vocabulary.{◌≡◌, ◌++◌, take, flat_map, string_bytes, happening, effect_line, reply_line}
 use Rattle.session.proofs.player.text_of.Given as goal
 
 abbrev pub invariant-loop-effect : goal.invariant-loop-effect

@@ -1,5 +1,4 @@
-use Rattle.std.proofs.Common.{rules, ◌≡◌, ◌∙◌, sym, false, ◌<◌}
-use Rattle.std.proofs.lemmas.Fmt.{hex_byte}
+use Rattle.session.proofs.Vocabulary.{rules, ◌≡◌, ◌∙◌, sym, false, ◌<◌, hex_byte}
 use Rattle.line_fields.specs.Texts.{is_plain}
 use Rattle.session.proofs.printing.push_byte.Goals as goal
 

@@ -1,6 +1,4 @@
-use Rattle.std.proofs.Common.{◌≡◌, ◌++◌, take}
-use Rattle.std.specs.String.{string_bytes}
-use Rattle.session.specs.Printed.{escaped}
+use Rattle.session.proofs.Vocabulary.{◌≡◌, ◌++◌, take, string_bytes, escaped}
 use Rattle.session.proofs.printing.push_text.Given as goal
 
 abbrev pub invariant-loop-byte : goal.invariant-loop-byte

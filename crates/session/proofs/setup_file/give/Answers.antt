@@ -1,10 +1,5 @@
-use Rattle.std.proofs.Common.{◌≡◌, refl, ap, sym, ◌∙◌, List, ℕ, None}
-use Rattle.acl.specs.declared.user_id.UserId.{UserId}
-use Rattle.program_words.specs.SetupLines.{line_of}
-use Rattle.session_model.specs.Texts.{text_of}
-use Rattle.session_model.specs.Trace.{Trace, EventValue, Command}
-use Rattle.session_core.specs.Stands.{StandsFor}
-use Rattle.session.specs.Setup.{Refuses, spoken}
+use Rattle.session.proofs.Vocabulary.{◌≡◌, refl, ap, sym, ◌∙◌, List, ℕ, None, UserId, line_of, text_of, Trace}
+use Rattle.session.proofs.Vocabulary.{EventValue, Command, StandsFor, Refuses, spoken}
 use Rattle.session.proofs.Giving.{one_done, one_refused, refused_by}
 use Rattle.session.proofs.setup_file.give.Goals as goal
 

@@ -1,8 +1,5 @@
-use Rattle.std.proofs.Common.{sym, ap, ◌∙◌, ◌≡◌, ℕ, List, take, map, subst, length}
-use Rattle.program_words.specs.SetupLines.{line_of}
-use Rattle.session_model.specs.Trace.{Trace}
-use Rattle.session_core.specs.Stands.{StandsFor}
-use Rattle.session.specs.Setup.{StopsAt, Refuses, IfRefused}
+use Rattle.session.proofs.Vocabulary.{sym, ap, ◌∙◌, ◌≡◌, ℕ, List, take, map, subst, length, line_of, Trace, StandsFor}
+use Rattle.session.proofs.Vocabulary.{StopsAt, Refuses, IfRefused}
 use Rattle.session.proofs.Giving.{none_given, next_given, stops, stopped_by, if_err}
 use Rattle.session.proofs.setup_file.set_up.Goals as goal
 

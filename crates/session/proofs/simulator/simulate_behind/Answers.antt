@@ -1,13 +1,7 @@
-use Rattle.std.proofs.Common.{refl, ap, subst, inl, map, ◌≡◌, ◌∙◌, Bool, true, false, Option, Some}
-use Rattle.std.specs.Prelude.{codes, option_and_then}
-use Rattle.std.specs.String.{string_bytes}
-use Rattle.acl.specs.Names.{named_by}
-use Rattle.clap.specs.Words.{Text, found_of, rows_of, matches_of, first_of, one_of, one_text}
-use Rattle.clap.proofs.WalkLemmas.{one_text-rows}
-use Rattle.acl.specs.declared.leaders.Edition.{Edition}
-use Rattle.acl.specs.declared.user_id.UserId.{UserId}
-use Rattle.program_words.specs.SetupLines.{line_of, commands_in}
-use Rattle.session.specs.Words.{muxsim, edition_text, flag_text, Simulates}
+use Rattle.session.proofs.Vocabulary.{refl, ap, subst, inl, map, ◌≡◌, ◌∙◌, Bool, true, false, Option, Some, codes}
+use Rattle.session.proofs.Vocabulary.{option_and_then, string_bytes, named_by, Text, found_of, rows_of, matches_of}
+use Rattle.session.proofs.Vocabulary.{first_of, one_of, one_text, one_text-rows, Edition, UserId, line_of, commands_in}
+use Rattle.session.proofs.Vocabulary.{muxsim, edition_text, flag_text, Simulates}
 use Rattle.session.proofs.Parts.{plays_behind}
 use Rattle.session.proofs.simulator.simulate_behind.Goals as goal
 

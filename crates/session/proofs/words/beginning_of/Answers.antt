@@ -1,10 +1,6 @@
-use Rattle.std.proofs.Common.{◌≡◌, ◌∙◌, ap, refl, map, Some}
-use Rattle.std.specs.Prelude.{codes, option_and_then}
-use Rattle.std.specs.String.{string_bytes}
-use Rattle.acl.specs.Names.{named_by}
-use Rattle.clap.specs.Words.{found_of, rows_of, matches_of, first_of, one_of, one_text}
-use Rattle.clap.proofs.WalkLemmas.{one_text-rows}
-use Rattle.session.specs.Words.{muxsim, edition_text}
+use Rattle.session.proofs.Vocabulary.{◌≡◌, ◌∙◌, ap, refl, map, Some, codes, option_and_then, string_bytes, named_by}
+use Rattle.session.proofs.Vocabulary.{found_of, rows_of, matches_of, first_of, one_of, one_text, one_text-rows, muxsim}
+use Rattle.session.proofs.Vocabulary.{edition_text}
 use Rattle.session.proofs.words.beginning_of.Goals as goal
 
 pub returns-in-Some : goal.returns-in-Some

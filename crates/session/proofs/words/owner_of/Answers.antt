@@ -1,8 +1,4 @@
-use Rattle.std.proofs.Common.{ap, ◌∙◌}
-use Rattle.std.specs.Prelude.{codes, option_and_then}
-use Rattle.acl.specs.Names.{named_by}
-use Rattle.clap.specs.Words.{found_of}
-use Rattle.clap.proofs.WalkLemmas.{first_value-rows}
+use Rattle.session.proofs.Vocabulary.{ap, ◌∙◌, codes, option_and_then, named_by, found_of, first_value-rows}
 use Rattle.session.proofs.words.owner_of.Goals as goal
 
 pub returns-in-Some : goal.returns-in-Some

@@ -1,6 +1,4 @@
-use Rattle.std.proofs.Common.{ap, ◌∙◌}
-use Rattle.clap.specs.Words.{found_of, first_of}
-use Rattle.clap.proofs.WalkLemmas.{first_value-rows}
+use Rattle.session.proofs.Vocabulary.{ap, ◌∙◌, found_of, first_of, first_value-rows}
 use Rattle.session.proofs.words.path_of.Goals as goal
 
 pub returns-in-Ok : goal.returns-in-Ok

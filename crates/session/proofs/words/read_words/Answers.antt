@@ -1,14 +1,11 @@
-use Rattle.std.proofs.Common.{ap, ap₂, map, refl, subst, ◌≡◌, ◌∙◌}
-use Rattle.std.specs.Prelude.{Bool, true, List, IfOk, IfErr}
-use Rattle.std.specs.String.{string_bytes}
+use Rattle.session.proofs.Vocabulary.{ap, ap₂, map, refl, subst, ◌≡◌, ◌∙◌, Bool, true, List, IfOk, IfErr, string_bytes}
+use Rattle.session.proofs.Vocabulary.{Text, found_of, matches_of, rows_of, muxsim}
 use Rattle.std.proofs.lemmas.Result.{IfOk-weaker}
-use Rattle.clap.specs.Words.{App, Text, HasMatchesOf, app_of, found_of, is_simple, kind_of, matches_of, rows_of, takes}
-use Rattle.clap.specs.Words.{with_rule}
+use Rattle.clap.specs.Words.{App, HasMatchesOf, app_of, is_simple, kind_of, takes, with_rule}
 use Rattle.clap.specs.Simple.{app_of_fields}
 use Rattle.clap.specs.declared.parser.matches.ArgMatches.{ArgMatches}
 use Rattle.clap.specs.declared.error.Error.{Error}
 use Rattle.clap.specs.declared.error.ErrorKind.TheVariants as kind
-use Rattle.session.specs.Words.{muxsim}
 use Rattle.session.proofs.words.read_words.Goals as goal
 use Rattle.session.proofs.words.read_words.Goals.{In_ok-arg-5}
 

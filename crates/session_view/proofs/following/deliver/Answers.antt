@@ -1,9 +1,6 @@
-use Rattle.std.proofs.Common.{◌≡◌, ◌∙◌, ◌++◌, ◌∷◌, [], List, ℕ, ap, refl}
-use Rattle.std.specs.Prelude.{is_ok}
+use Rattle.session_view.proofs.Vocabulary.{◌≡◌, ◌∙◌, ◌∷◌, [], List, ℕ, ap, refl, is_ok, Deliver, if_true, Made}
+use Rattle.std.proofs.Common.{◌++◌}
 use Rattle.session_model.specs.declared.event.Effect.{Effect}
-use Rattle.session_model.specs.declared.event.Effect.TheVariants.{Deliver}
-use Rattle.windows_model.proofs.Serials.{if_true}
-use Rattle.redraw.specs.Frames.{Made}
 use Rattle.session_view.proofs.Delivering.{frame_drawn, leads_from}
 use Rattle.session_view.proofs.following.deliver.Goals as goal
 

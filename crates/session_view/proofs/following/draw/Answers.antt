@@ -1,10 +1,5 @@
-use Rattle.std.proofs.Common.{◌≡◌, ◌∙◌, Some, None, refl, subst, sym}
-use Rattle.std.proofs.lemmas.Option.{MatchOption-at_none, MatchOption-at_some}
-use Rattle.terminal_model.specs.Shows.{View}
-use Rattle.view.specs.View.{HasSize}
-use Rattle.session_state.specs.declared.client.Client.{Client}
-use Rattle.session_state.specs.Draws.{FitsIn}
-use Rattle.session_view.specs.Viewed.{IsViewFor}
+use Rattle.session_view.proofs.Vocabulary.{◌≡◌, ◌∙◌, Some, None, refl, subst, sym, MatchOption-at_none}
+use Rattle.session_view.proofs.Vocabulary.{MatchOption-at_some, View, HasSize, Client, FitsIn, IsViewFor}
 use Rattle.session_view.proofs.Delivering.{drawn_nothing, drawn_by, drawn_for}
 use Rattle.session_view.proofs.following.draw.Goals as goal
 

@@ -1,11 +1,5 @@
-use Rattle.std.proofs.Common.{◌≡◌, ◌∙◌, List, sym, subst}
-use Rattle.std.proofs.lemmas.Option.{MatchOption-at_none, MatchOption-at_some}
-use Rattle.terminal_model.specs.Shows.{View, NeedsNoDraw}
-use Rattle.session_state.specs.declared.client.Client.{Client}
-use Rattle.session_state.specs.Draws.{FitsIn}
-use Rattle.session_state.specs.declared.state.State.{State}
-use Rattle.session_view.specs.Drawn.{HasDrawnSo, IsSomething}
-use Rattle.session_view.specs.declared.following.Lead.{Lead}
+use Rattle.session_view.proofs.Vocabulary.{◌≡◌, ◌∙◌, List, sym, subst, MatchOption-at_none, MatchOption-at_some, View}
+use Rattle.session_view.proofs.Vocabulary.{NeedsNoDraw, Client, FitsIn, State, HasDrawnSo, IsSomething, Lead}
 use Rattle.session_view.proofs.Alike.{see_alike}
 use Rattle.session_view.proofs.Led.{sees, leads_also, own_leads, fits}
 use Rattle.session_view.proofs.following.draw_like.Goals as goal

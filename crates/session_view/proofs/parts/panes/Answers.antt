@@ -1,5 +1,4 @@
-use Rattle.std.proofs.Common.{ap, ◌∙◌, ◌+◌, length}
-use Rattle.std.proofs.lemmas.List.{length_push}
+use Rattle.session_view.proofs.Vocabulary.{ap, ◌∙◌, ◌+◌, length, length_push}
 use Rattle.session_view.proofs.Panes.{pane_more, panes_all}
 use Rattle.session_view.proofs.parts.panes.Goals as goal
 

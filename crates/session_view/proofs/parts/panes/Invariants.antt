@@ -1,11 +1,5 @@
-use Rattle.std.proofs.Common.{◌≡◌, List, length, map, take}
-use Rattle.acl.specs.declared.user_id.UserId.{UserId}
-use Rattle.regions.specs.declared.layout.Shown.{Shown}
-use Rattle.view.specs.Granted.{part_of}
-use Rattle.session_model.specs.Tables.{Tables}
-use Rattle.session_model.specs.Granted.{part_shown}
-use Rattle.windows_model.specs.Matched.{Matched}
-use Rattle.session_view.specs.Parts.{ShowsPart}
+use Rattle.session_view.proofs.Vocabulary.{◌≡◌, List, length, map, take, UserId, Shown, part_of, Tables, part_shown}
+use Rattle.session_view.proofs.Vocabulary.{Matched, ShowsPart}
 use Rattle.session_view.proofs.parts.panes.Given as goal
 
 -- one pane for each part before this one

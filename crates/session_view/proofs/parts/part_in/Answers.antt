@@ -1,10 +1,6 @@
-use Rattle.std.proofs.Common.{ℕ, Some, refl, sym, ap, ◌∙◌}
-use Rattle.terminal_model.specs.Screen.{Screen}
+use Rattle.session_view.proofs.Vocabulary.{ℕ, Some, refl, sym, ap, ◌∙◌, Screen, both_back, window_at, moved_back}
+use Rattle.session_view.proofs.Vocabulary.{WindowStands}
 use Rattle.view.specs.Granted as view
-use Rattle.windows_model.proofs.Matching.{both_back}
-use Rattle.session_model.specs.Tables.{window_at}
-use Rattle.terminal_model.specs.Scrollback.{moved_back}
-use Rattle.windows.specs.Standing.{WindowStands}
 use Rattle.session_view.proofs.Panes.{hidden, readable, there_by_acts}
 use Rattle.session_view.proofs.parts.part_in.Goals as goal
 

@@ -1,8 +1,5 @@
-use Rattle.std.proofs.Common.{List, refl, subst, ap, ◌∙◌, ◌+◌, length}
-use Rattle.std.proofs.lemmas.List.{length_push, take_all}
-use Rattle.regions.specs.declared.layout.Shown.{Shown}
-use Rattle.windows_model.specs.Matched.{Matched}
-use Rattle.session_view.specs.Parts.{ShowsPart}
+use Rattle.session_view.proofs.Vocabulary.{List, refl, subst, ap, ◌∙◌, ◌+◌, length, length_push, take_all, Shown}
+use Rattle.session_view.proofs.Vocabulary.{Matched, ShowsPart}
 use Rattle.session_view.proofs.Panes.{part_more}
 use Rattle.session_view.proofs.parts.parts.Goals as goal
 

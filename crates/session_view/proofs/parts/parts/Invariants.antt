@@ -1,9 +1,4 @@
-use Rattle.std.proofs.Common.{◌≡◌, length, take}
-use Rattle.session_model.specs.Tables.{Tables}
-use Rattle.windows_model.specs.Matched.{Matched}
-use Rattle.session_state.specs.Stands.{Stands}
-use Rattle.session_model.specs.Sound.{AreFit}
-use Rattle.session_view.specs.Parts.{ShowsPart}
+use Rattle.session_view.proofs.Vocabulary.{◌≡◌, length, take, Tables, Matched, Stands, AreFit, ShowsPart}
 use Rattle.session_view.proofs.parts.parts.Given as goal
 
 -- one part for each region before this one

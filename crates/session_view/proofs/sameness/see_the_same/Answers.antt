@@ -1,8 +1,4 @@
-use Rattle.std.proofs.Common.{◌≡◌, Some, refl, subst}
-use Rattle.session_model.specs.Tables.{client_at}
-use Rattle.windows_model.proofs.Matching.{both_back}
-use Rattle.session_state.specs.Clients.{ClientStands}
-use Rattle.session_view.specs.Sameness.{AreKnownAlike}
+use Rattle.session_view.proofs.Vocabulary.{◌≡◌, Some, refl, subst, client_at, both_back, ClientStands, AreKnownAlike}
 use Rattle.session_view.proofs.Alike.{see_alike}
 use Rattle.session_view.proofs.sameness.see_the_same.Goals as goal
 

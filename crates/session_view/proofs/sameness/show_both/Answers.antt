@@ -1,8 +1,4 @@
-use Rattle.std.proofs.Common.{refl, sym, ◌∙◌, subst, List}
-use Rattle.std.proofs.lemmas.List.{take_all}
-use Rattle.regions.specs.declared.layout.Shown.{Shown}
-use Rattle.session_model.specs.Granted.{part_shown}
-use Rattle.session_view.specs.Sameness.{ShowBoth}
+use Rattle.session_view.proofs.Vocabulary.{refl, sym, ◌∙◌, subst, List, take_all, Shown, part_shown, ShowBoth}
 use Rattle.session_view.proofs.Alike.{alike_more, alike_each}
 use Rattle.session_view.proofs.sameness.show_both.Goals as goal
 

@@ -1,8 +1,4 @@
-use Rattle.std.proofs.Common.{take}
-use Rattle.session_model.specs.Tables.{Tables}
-use Rattle.session_model.specs.Sound.{AreFit}
-use Rattle.session_state.specs.Stands.{Stands}
-use Rattle.session_view.specs.Sameness.{ShowBoth}
+use Rattle.session_view.proofs.Vocabulary.{take, Tables, AreFit, Stands, ShowBoth}
 use Rattle.session_view.proofs.sameness.show_both.Given as goal
 
 -- the regions before this one show both the same

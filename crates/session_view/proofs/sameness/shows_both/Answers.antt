@@ -1,7 +1,4 @@
-use Rattle.std.proofs.Common.{◌∙◌, Some, refl}
-use Rattle.windows_model.proofs.Matching.{both_back}
-use Rattle.session_model.specs.Tables.{window_at}
-use Rattle.windows.specs.Standing.{WindowStands}
+use Rattle.session_view.proofs.Vocabulary.{◌∙◌, Some, refl, both_back, window_at, WindowStands}
 use Rattle.session_view.proofs.Panes.{there_by_acts}
 use Rattle.session_view.proofs.Alike.{by_rights}
 use Rattle.session_view.proofs.sameness.shows_both.Goals as goal

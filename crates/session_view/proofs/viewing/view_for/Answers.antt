@@ -1,11 +1,5 @@
-use Rattle.std.proofs.Common.{◌≡◌, ◌∙◌, List, ap, map, subst, sym}
-use Rattle.regions.specs.Pages.{IsRects}
-use Rattle.regions.specs.declared.layout.Shown.{Shown}
-use Rattle.view.specs.Granted.{part_of}
-use Rattle.windows_model.specs.Matched.{Matched}
-use Rattle.session_view.specs.declared.parts.Part.{Part}
-use Rattle.session_view.specs.Parts.{ShowsPart}
-use Rattle.session_view.specs.Status.{SaysStatus}
+use Rattle.session_view.proofs.Vocabulary.{◌≡◌, ◌∙◌, List, ap, map, subst, sym, IsRects, Shown, part_of, Matched, Part}
+use Rattle.session_view.proofs.Vocabulary.{ShowsPart, SaysStatus}
 use Rattle.session_view.proofs.Granting.{page_sized, view_is}
 use Rattle.session_view.proofs.viewing.view_for.Goals as goal
 

@@ -1,7 +1,4 @@
-use Rattle.std.proofs.Common.{[], sym}
-use Rattle.terminal_model.specs.Screen.{starting}
-use Rattle.terminal_model.specs.Reading.{ready, reads}
-use Rattle.terminal_model.specs.Scrollback.{lines_of}
+use Rattle.terminal_model.proofs.Vocabulary.{[], sym, starting, ready, reads, lines_of}
 use Rattle.terminal_model.proofs.Leaving.{reads_push, keeps_on, writing_keeps, writing_keep, take_none}
 use Rattle.terminal_model.proofs.Sound.{IsSound-starting}
 use Rattle.terminal_model.proofs.Terminals.{IsTerminal-ready}

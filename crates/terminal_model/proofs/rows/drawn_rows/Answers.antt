@@ -1,23 +1,10 @@
-use Rattle.std.proofs.lemmas.Bool.Decides.{nat_tests}
-use Rattle.std.proofs.Common.{arith}
-use Rattle.std.proofs.Common.{◌≡◌, ℕ, Some, refl}
-use Rattle.std.specs.Prelude.{codes}
-use Rattle.unicode_width.proofs.Computing.{unicode_width}
+use Rattle.terminal_model.proofs.Vocabulary.{nat_tests, arith, ◌≡◌, ℕ, Some, refl, codes, unicode_width, Code, cut}
+use Rattle.terminal_model.proofs.Vocabulary.{piece, mapped, character_at, supplement, Print, fields, controls, text}
+use Rattle.terminal_model.proofs.Vocabulary.{begun_by, function_piece, functions_behind, Position, plain_sequence}
+use Rattle.terminal_model.proofs.Vocabulary.{private_sequence, Page, Screen, columns_of, drawn, acted_from, act}
+use Rattle.terminal_model.proofs.Vocabulary.{act_all, read_unit, read_units, read_byte, reads, PrintsOf, StandsAt}
+use Rattle.terminal_model.proofs.Vocabulary.{place_by}
 use Rattle.cells.specs.declared.cell.Shape.TheVariants.{Left, Right}
-use Rattle.charsets.specs.declared.decoder.Unit.TheVariants.{Code}
-use Rattle.charsets.specs.Utf8.{cut, piece}
-use Rattle.charsets.specs.Shifts.{mapped}
-use Rattle.charsets.specs.Sets.{character_at, supplement}
-use Rattle.control_parser.specs.declared.parser.Func.TheVariants.{Print}
-use Rattle.control_parser.specs.Text.{fields}
-use Rattle.control_parser.specs.Grammar.{controls, text, begun_by, piece as function_piece, functions_behind}
-use Rattle.terminal_model.specs.declared.state.Position.{Position}
-use Rattle.terminal_model.specs.Functions.{plain_sequence, private_sequence}
-use Rattle.terminal_model.specs.Screen.{Page, Screen}
-use Rattle.terminal_model.specs.Printing.{columns_of, drawn}
-use Rattle.terminal_model.specs.Table.{acted_from}
-use Rattle.terminal_model.specs.Reading.{act, act_all, read_unit, read_units, read_byte, reads}
-use Rattle.terminal_model.specs.Drawing.{PrintsOf, StandsAt, place_by}
 use Rattle.terminal_model.specs.Rows.{fresh_reads, csi, wide_page}
 use Rattle.terminal_model.proofs.rows.drawn_rows.Goals as goal
 

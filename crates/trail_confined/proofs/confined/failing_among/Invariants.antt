@@ -1,12 +1,5 @@
-use Rattle.std.proofs.Common.{◌≡◌, not, take, drop}
-use Rattle.std.specs.Prelude.{filter}
-use Rattle.std.specs.List.{AllByRecursion, list_all}
-use Rattle.acl.specs.declared.leaders.Edition.{Edition}
-use Rattle.acl.specs.declared.user_id.UserId.{UserId}
-use Rattle.hub.specs.Following.{StandsAfter}
-use Rattle.trail_confined.specs.Confining.{holds, is_asked}
-use Rattle.trail_rights.specs.Marks.{Marked, acts_in}
-use Rattle.trail_rights.specs.Settling.{HasSettled}
+use Rattle.trail_confined.proofs.Vocabulary.{◌≡◌, not, take, drop, filter, AllByRecursion, list_all, Edition, UserId}
+use Rattle.trail_confined.proofs.Vocabulary.{StandsAfter, holds, is_asked, Marked, acts_in, HasSettled}
 use Rattle.trail_confined.proofs.confined.failing_among.Given as goal
 
 -- those among the premises so far; which are still to be told

@@ -1,9 +1,5 @@
-use Rattle.std.proofs.Common.{◌≡◌, ◌∙◌, ap, sym, subst, not}
-use Rattle.std.specs.Prelude.{IfOk, IfSome, filter, is_some}
-use Rattle.std.specs.List.{AllByRecursion, list_all}
-use Rattle.trail_confined.specs.Confining.{holds, is_asked}
-use Rattle.trail_rights.specs.Marks.{acts_in}
-use Rattle.trail_rights.specs.Settling.{HasSettled}
+use Rattle.trail_confined.proofs.Vocabulary.{◌≡◌, ◌∙◌, ap, sym, subst, not, IfOk, IfSome, filter, is_some}
+use Rattle.trail_confined.proofs.Vocabulary.{AllByRecursion, list_all, holds, is_asked, acts_in, HasSettled}
 use Rattle.trail_confined.proofs.confined.failing_of.Goals as goal
 
 pub returns-clause-failing : goal.returns-clause-failing

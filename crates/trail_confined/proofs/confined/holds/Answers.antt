@@ -1,9 +1,6 @@
-use Rattle.std.proofs.Common.{◌∙◌, ap, sym, subst, not, Option}
-use Rattle.std.specs.Prelude.{IfSome}
+use Rattle.trail_confined.proofs.Vocabulary.{◌∙◌, ap, sym, subst, not, Option, IfSome, holds, acts_in}
 use Rattle.trail_rights.specs.declared.settler.RightsSetting.TheVariants as setting
 use Rattle.trail_rights.specs.declared.settler.Settler.{Settler}
-use Rattle.trail_confined.specs.Confining.{holds}
-use Rattle.trail_rights.specs.Marks.{acts_in}
 use Rattle.trail_rights.proofs.Settled.{IsSettled, settled_in}
 use Rattle.trail_confined.proofs.confined.holds.Goals as goal
 

@@ -1,6 +1,4 @@
-use Rattle.std.proofs.Common.{◌≡◌, drop}
-use Rattle.std.specs.List.{list_any}
-use Rattle.trail_confined.specs.Confining.{concerns}
+use Rattle.trail_confined.proofs.Vocabulary.{◌≡◌, drop, list_any, concerns}
 use Rattle.trail_confined.proofs.confined.is_confined.Given as goal
 
 abbrev pub invariant-loop-premise : goal.invariant-loop-premise

@@ -1,5 +1,4 @@
-use Rattle.std.proofs.Common.{◌≡◌, drop}
-use Rattle.trail_confined.specs.Telling.{any_gives}
+use Rattle.trail_confined.proofs.Vocabulary.{◌≡◌, drop, any_gives}
 use Rattle.trail_confined.proofs.failing.any_gives.Given as goal
 
 abbrev pub invariant-loop-user : goal.invariant-loop-user

@@ -1,7 +1,4 @@
-use Rattle.std.proofs.Common.{◌≡◌, ◌∙◌, ◌++◌, subst}
-use Rattle.std.specs.Prelude.{OnOk}
-use Rattle.trail_confined.specs.Telling.{givers_text}
-use Rattle.trail_rights.proofs.Stepping.{from_none}
+use Rattle.trail_confined.proofs.Vocabulary.{◌≡◌, ◌∙◌, ◌++◌, subst, OnOk, givers_text, from_none}
 use Rattle.trail_confined.proofs.failing.push_circle_givers.Goals as goal
 
 pub returns : goal.returns

@@ -1,5 +1,4 @@
-use Rattle.std.specs.List.{flat_map}
-use Rattle.trail_confined.specs.Telling.{bits_text, failing_text}
+use Rattle.trail_confined.proofs.Vocabulary.{flat_map, bits_text, failing_text}
 use Rattle.trail_confined.proofs.Texts.{same_text, two_parts}
 use Rattle.trail_confined.proofs.failing.push_confinement.Goals as goal
 

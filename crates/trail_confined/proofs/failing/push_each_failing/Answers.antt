@@ -1,8 +1,5 @@
-use Rattle.std.proofs.Common.{◌≡◌, ◌∙◌, ◌++◌, [], ap, sym, append-nil, append_assoc, slice_index_or, take}
-use Rattle.std.specs.List.{flat_map}
-use Rattle.std.proofs.lemmas.List.{take_more}
-use Rattle.trail_confined.specs.Telling.{failing_text}
-use Rattle.trail_rights.proofs.Stepping.{joins_next, take_past}
+use Rattle.trail_confined.proofs.Vocabulary.{◌≡◌, ◌∙◌, ◌++◌, [], ap, sym, append-nil, append_assoc, slice_index_or}
+use Rattle.trail_confined.proofs.Vocabulary.{take, flat_map, take_more, failing_text, joins_next, take_past}
 use Rattle.trail_confined.proofs.failing.push_each_failing.Goals as goal
 
 pub loop-premise-init : goal.loop-premise-init

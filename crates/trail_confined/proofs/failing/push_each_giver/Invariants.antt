@@ -1,6 +1,4 @@
-use Rattle.std.proofs.Common.{◌≡◌, ◌++◌, take}
-use Rattle.std.specs.List.{flat_map}
-use Rattle.trail_confined.specs.Telling.{act_giver_text}
+use Rattle.trail_confined.proofs.Vocabulary.{◌≡◌, ◌++◌, take, flat_map, act_giver_text}
 use Rattle.trail_confined.proofs.failing.push_each_giver.Given as goal
 
 abbrev pub invariant-loop-user : goal.invariant-loop-user

@@ -1,5 +1,4 @@
-use Rattle.std.specs.Prelude.{codes}
-use Rattle.trail_confined.specs.Telling.{causes_text, concerned_text, contrary_text}
+use Rattle.trail_confined.proofs.Vocabulary.{codes, causes_text, concerned_text, contrary_text}
 use Rattle.trail_confined.proofs.Texts.{five_parts, same_text}
 use Rattle.trail_confined.proofs.failing.push_failing.Goals as goal
 

@@ -1,7 +1,5 @@
-use Rattle.std.proofs.Common.{◌∙◌, ◌++◌, [], ap, slice_index_or}
-use Rattle.std.proofs.lemmas.List.{take_more}
-use Rattle.trail_confined.specs.Confining.{circle, circles_of}
-use Rattle.trail_rights.proofs.Stepping.{joins_next, take_past}
+use Rattle.trail_confined.proofs.Vocabulary.{◌∙◌, ◌++◌, [], ap, slice_index_or, take_more, circle, circles_of}
+use Rattle.trail_confined.proofs.Vocabulary.{joins_next, take_past}
 use Rattle.trail_confined.proofs.premises.circles_of.Goals as goal
 
 pub loop-user-init : goal.loop-user-init

@@ -1,9 +1,4 @@
-use Rattle.std.proofs.Common.{◌≡◌, take}
-use Rattle.acl.specs.declared.leaders.Edition.{Edition}
-use Rattle.acl.specs.declared.user_id.UserId.{UserId}
-use Rattle.acl.specs.History.{History}
-use Rattle.hub.specs.Following.{StandsAfter}
-use Rattle.trail_confined.specs.Confining.{circles_of}
+use Rattle.trail_confined.proofs.Vocabulary.{◌≡◌, take, Edition, UserId, History, StandsAfter, circles_of}
 use Rattle.trail_confined.proofs.premises.circles_of.Given as goal
 
 -- the circles of the users before the next one

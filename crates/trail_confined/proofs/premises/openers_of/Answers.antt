@@ -1,8 +1,5 @@
-use Rattle.std.proofs.Common.{◌∙◌, ap, sym, [], slice_index_or}
-use Rattle.std.proofs.lemmas.List.{take_more}
-use Rattle.std.specs.Prelude.{filter}
-use Rattle.trail_confined.specs.Confining.{may_open}
-use Rattle.trail_rights.proofs.Stepping.{keeps_next, leaves_next, take_past}
+use Rattle.trail_confined.proofs.Vocabulary.{◌∙◌, ap, sym, [], slice_index_or, take_more, filter, may_open, take_past}
+use Rattle.trail_rights.proofs.Stepping.{keeps_next, leaves_next}
 use Rattle.trail_confined.proofs.premises.openers_of.Goals as goal
 use Rattle.trail_confined.proofs.premises.openers_of.Goals.{then-may_open+in_ok-push, else-may_open}
 

@@ -1,10 +1,4 @@
-use Rattle.std.proofs.Common.{◌≡◌, take}
-use Rattle.std.specs.Prelude.{filter}
-use Rattle.acl.specs.declared.leaders.Edition.{Edition}
-use Rattle.acl.specs.declared.user_id.UserId.{UserId}
-use Rattle.acl.specs.History.{History}
-use Rattle.hub.specs.Following.{StandsAfter}
-use Rattle.trail_confined.specs.Confining.{may_open}
+use Rattle.trail_confined.proofs.Vocabulary.{◌≡◌, take, filter, Edition, UserId, History, StandsAfter, may_open}
 use Rattle.trail_confined.proofs.premises.openers_of.Given as goal
 
 -- those among the users so far

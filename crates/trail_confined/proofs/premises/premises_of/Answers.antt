@@ -1,6 +1,5 @@
-use Rattle.std.proofs.Common.{◌∙◌}
+use Rattle.trail_confined.proofs.Vocabulary.{◌∙◌, from_none}
 use Rattle.trail_confined.proofs.Circles.{premises_made}
-use Rattle.trail_rights.proofs.Stepping.{from_none}
 use Rattle.trail_confined.proofs.premises.premises_of.Goals as goal
 
 pub returns : goal.returns

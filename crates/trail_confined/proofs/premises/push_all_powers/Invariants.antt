@@ -1,6 +1,4 @@
-use Rattle.std.proofs.Common.{◌≡◌, ◌++◌, take}
-use Rattle.std.specs.List.{flat_map}
-use Rattle.trail_confined.specs.Confining.{powers_of}
+use Rattle.trail_confined.proofs.Vocabulary.{◌≡◌, ◌++◌, take, flat_map, powers_of}
 use Rattle.trail_confined.proofs.premises.push_all_powers.Given as goal
 
 abbrev pub invariant-loop-user : goal.invariant-loop-user

@@ -1,5 +1,4 @@
-use Rattle.std.proofs.Common.{◌∙◌, ◌∷◌, ◌++◌, [], ap, append_assoc, List}
-use Rattle.acl.specs.declared.user_id.UserId.{UserId}
+use Rattle.trail_confined.proofs.Vocabulary.{◌∙◌, ◌∷◌, ◌++◌, [], ap, append_assoc, List, UserId}
 use Rattle.trail_confined.proofs.premises.push_circle.Goals as goal
 
 pub returns : goal.returns

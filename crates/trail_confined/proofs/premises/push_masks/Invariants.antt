@@ -1,6 +1,4 @@
-use Rattle.std.proofs.Common.{◌≡◌, ◌++◌, take}
-use Rattle.std.specs.List.{flat_map}
-use Rattle.trail_confined.specs.Confining.{masks_by}
+use Rattle.trail_confined.proofs.Vocabulary.{◌≡◌, ◌++◌, take, flat_map, masks_by}
 use Rattle.trail_confined.proofs.premises.push_masks.Given as goal
 
 abbrev pub invariant-loop-opener : goal.invariant-loop-opener

@@ -1,6 +1,4 @@
-use Rattle.std.proofs.Common.{◌≡◌, ◌++◌, take}
-use Rattle.std.specs.List.{flat_map}
-use Rattle.trail_confined.specs.Confining.{standing_of}
+use Rattle.trail_confined.proofs.Vocabulary.{◌≡◌, ◌++◌, take, flat_map, standing_of}
 use Rattle.trail_confined.proofs.premises.push_standings.Given as goal
 
 abbrev pub invariant-loop-user : goal.invariant-loop-user

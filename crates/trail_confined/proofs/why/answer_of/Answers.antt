@@ -1,11 +1,8 @@
-use Rattle.std.proofs.Common.{◌≡◌, ◌∙◌, Some, None, refl, ap, sym}
-use Rattle.std.specs.Prelude.{cond}
+use Rattle.trail_confined.proofs.Vocabulary.{◌≡◌, ◌∙◌, Some, None, refl, ap, sym, cond, History, may, there, is_there}
 use Rattle.acl.specs.declared.act.Object.{Object}
 use Rattle.acl.specs.declared.act.Object.TheVariants.{Window, Command}
-use Rattle.acl.specs.History.{History, may, there}
 use Rattle.trail_rights.specs.Windows.{windows_of}
 use Rattle.trail_rights.proofs.Opened.{open_listed}
-use Rattle.trail_confined.specs.Reasons.{is_there}
 use Rattle.trail_confined.proofs.why.answer_of.Goals as goal
 
 there_is : (h : History) (o : Object) → is_there (windows_of h) o ≡ there h o

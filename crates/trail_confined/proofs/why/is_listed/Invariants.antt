@@ -1,5 +1,4 @@
-use Rattle.std.proofs.Common.{◌≡◌, drop}
-use Rattle.trail_confined.specs.Reasons.{is_listed}
+use Rattle.trail_confined.proofs.Vocabulary.{◌≡◌, drop, is_listed}
 use Rattle.trail_confined.proofs.why.is_listed.Given as goal
 
 abbrev pub invariant-loop-other : goal.invariant-loop-other

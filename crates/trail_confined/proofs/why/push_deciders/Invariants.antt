@@ -1,6 +1,4 @@
-use Rattle.std.proofs.Common.{◌≡◌, ◌++◌, take}
-use Rattle.std.specs.List.{flat_map}
-use Rattle.trail_confined.specs.Reasons.{decider_text}
+use Rattle.trail_confined.proofs.Vocabulary.{◌≡◌, ◌++◌, take, flat_map, decider_text}
 use Rattle.trail_confined.proofs.why.push_deciders.Given as goal
 
 abbrev pub invariant-loop-decider : goal.invariant-loop-decider

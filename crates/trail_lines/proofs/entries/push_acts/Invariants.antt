@@ -1,6 +1,4 @@
-use Rattle.std.proofs.Common.{◌≡◌, ◌++◌, take}
-use Rattle.std.specs.List.{flat_map}
-use Rattle.trail_lines.specs.Entries.{done_text}
+use Rattle.trail_lines.proofs.Vocabulary.{◌≡◌, ◌++◌, take, flat_map, done_text}
 use Rattle.trail_lines.proofs.entries.push_acts.Given as goal
 
 abbrev pub invariant-loop-act : goal.invariant-loop-act

@@ -1,6 +1,4 @@
-use Rattle.std.proofs.Common.{refl}
-use Rattle.std.proofs.lemmas.List.{take_more}
-use Rattle.trail_lines.specs.Entries.{checked_text}
+use Rattle.trail_lines.proofs.Vocabulary.{refl, take_more, checked_text}
 use Rattle.trail_lines.proofs.Printing.{mark_more}
 use Rattle.trail_lines.proofs.entries.push_verdicts.Goals as goal
 

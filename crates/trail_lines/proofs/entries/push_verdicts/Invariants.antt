@@ -1,6 +1,4 @@
-use Rattle.std.proofs.Common.{◌≡◌, ◌++◌, take}
-use Rattle.std.specs.List.{flat_map}
-use Rattle.trail_lines.specs.Entries.{checked_text}
+use Rattle.trail_lines.proofs.Vocabulary.{◌≡◌, ◌++◌, take, flat_map, checked_text}
 use Rattle.trail_lines.proofs.entries.push_verdicts.Given as goal
 
 abbrev pub invariant-loop-verdict : goal.invariant-loop-verdict

@@ -1,5 +1,4 @@
-use Rattle.std.proofs.Common.{◌∙◌, ap}
-use Rattle.std.specs.Prelude.{option_copied}
+use Rattle.trail_lines.proofs.Vocabulary.{◌∙◌, ap, option_copied}
 use Rattle.trail_lines.proofs.Printing.{title_read}
 use Rattle.trail_lines.proofs.events.title_of.Goals as goal
 

@@ -1,8 +1,6 @@
-use Rattle.std.proofs.Common.{◌≡◌, ◌++◌, ◌∷◌, [], ℕ, List, ◌∙◌, ap, sym, subst, arith, rules}
-use Rattle.std.specs.Prelude.{false, ◌==◌}
-use Rattle.std.proofs.lemmas.Bool.Decides.{nat_tests}
+use Rattle.trail_lines.proofs.Vocabulary.{◌≡◌, ◌++◌, ◌∷◌, [], ℕ, List, ◌∙◌, ap, sym, subst, arith, rules, false, ◌==◌}
+use Rattle.trail_lines.proofs.Vocabulary.{nat_tests, ComesAs, OfKnown}
 use Rattle.trail_lines.specs.declared.halt.NextLine.TheVariants as came
-use Rattle.trail_lines.specs.Lines.{ComesAs, OfKnown}
 use Rattle.trail_lines.proofs.Coming.{came_whole, came_torn}
 use Rattle.trail_lines.proofs.halt.next_line.Goals as goal
 

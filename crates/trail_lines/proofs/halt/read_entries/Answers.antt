@@ -1,17 +1,7 @@
-use Rattle.std.proofs.Common.{◌≡◌, ◌+◌, ◌++◌, ◌∷◌, [], ℕ, List, Option, Some, ◌∙◌, ap, sym, subst, arith}
-use Rattle.std.specs.Prelude.{IfSome}
-use Rattle.acl.specs.declared.leaders.Edition.{Edition}
-use Rattle.acl.specs.declared.user_id.UserId.{UserId}
-use Rattle.hub.specs.Trails.{Entry}
-use Rattle.trail_lines.specs.Entries.{read_line, said}
-use Rattle.trail_lines.specs.declared.audit.Audit.{Audit}
-use Rattle.trail_lines.specs.declared.halt.Halt.{Halt}
+use Rattle.trail_lines.proofs.Vocabulary.{◌≡◌, ◌+◌, ◌++◌, ◌∷◌, [], ℕ, List, Option, Some, ◌∙◌, ap, sym, subst, arith}
+use Rattle.trail_lines.proofs.Vocabulary.{IfSome, Edition, UserId, Entry, read_line, said, Audit, Halt, Times, OfKnown}
+use Rattle.trail_lines.proofs.Vocabulary.{time_after, HasRead, IsWrong, entries_in, IsEnd, NextIs, TellsOf}
 use Rattle.trail_lines.specs.declared.halt.Halt.TheVariants as halt
-use Rattle.trail_lines.specs.declared.audit.Times.{Times}
-use Rattle.trail_lines.specs.Lines.{OfKnown}
-use Rattle.trail_lines.specs.Times.{time_after}
-use Rattle.trail_lines.specs.Reading.{HasRead, IsWrong, entries_in}
-use Rattle.trail_lines.specs.Halting.{IsEnd, NextIs, TellsOf}
 use Rattle.trail_lines.proofs.Halted.{count_in, count_more, entries_more, times_more, read_more, read_to, stops_at}
 use Rattle.trail_lines.proofs.halt.read_entries.Goals as goal
 

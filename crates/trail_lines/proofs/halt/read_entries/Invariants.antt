@@ -1,7 +1,4 @@
-use Rattle.std.proofs.Common.{[]}
-use Rattle.acl.specs.declared.leaders.Edition.{Edition}
-use Rattle.acl.specs.declared.user_id.UserId.{UserId}
-use Rattle.trail_lines.specs.Reading.{HasRead}
+use Rattle.trail_lines.proofs.Vocabulary.{[], Edition, UserId, HasRead}
 use Rattle.trail_lines.proofs.Halted.{HasComeTo}
 use Rattle.trail_lines.proofs.halt.read_entries.Given as goal
 

@@ -1,7 +1,4 @@
-use Rattle.std.proofs.Common.{◌≡◌, ◌++◌, take, map}
-use Rattle.std.specs.Prelude.{codes}
-use Rattle.acl.specs.Names.{name_of}
-use Rattle.session.specs.Texts.{behind}
+use Rattle.trail_lines.proofs.Vocabulary.{◌≡◌, ◌++◌, take, map, codes, name_of, behind}
 use Rattle.trail_lines.proofs.replies.push_others.Given as goal
 
 abbrev pub invariant-loop-leader : goal.invariant-loop-leader

@@ -1,8 +1,4 @@
-use Rattle.std.proofs.Common.{◌≡◌, ◌∷◌, sym, ◌∙◌, ap}
-use Rattle.std.specs.Prelude.{option_copied}
-use Rattle.line_fields.specs.Cutting.{words_behind}
-use Rattle.line_fields.specs.Parts.{comma}
-use Rattle.trail_lines.specs.Replies.{leaders_of}
+use Rattle.trail_lines.proofs.Vocabulary.{◌≡◌, ◌∷◌, sym, ◌∙◌, ap, option_copied, words_behind, comma, leaders_of}
 use Rattle.trail_lines.proofs.Reading.{no_name, too_many, one_leader, all_leaders}
 use Rattle.trail_lines.proofs.replies.read_names.Goals as goal
 use Rattle.trail_lines.proofs.replies.read_names.Goals.{After-next_word}

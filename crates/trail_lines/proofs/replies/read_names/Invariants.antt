@@ -1,8 +1,4 @@
-use Rattle.std.proofs.Common.{◌≡◌, [], length}
-use Rattle.std.specs.Prelude.{option_copied}
-use Rattle.line_fields.specs.Cutting.{words, words_behind}
-use Rattle.line_fields.specs.Parts.{comma}
-use Rattle.trail_lines.specs.Replies.{leaders_of}
+use Rattle.trail_lines.proofs.Vocabulary.{◌≡◌, [], length, option_copied, words, words_behind, comma, leaders_of}
 use Rattle.trail_lines.proofs.replies.read_names.Given as goal
 
 abbrev pub invariant-names : goal.invariant-names

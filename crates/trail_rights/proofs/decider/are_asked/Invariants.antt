@@ -1,6 +1,4 @@
-use Rattle.std.proofs.Common.{◌≡◌, drop}
-use Rattle.std.specs.List.{list_all}
-use Rattle.trail_rights.specs.Keeping.{is_asked}
+use Rattle.trail_rights.proofs.Vocabulary.{◌≡◌, drop, list_all, is_asked}
 use Rattle.trail_rights.proofs.decider.are_asked.Given as goal
 
 abbrev pub invariant-loop-decider : goal.invariant-loop-decider

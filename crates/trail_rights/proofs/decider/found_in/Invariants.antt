@@ -1,5 +1,4 @@
-use Rattle.std.proofs.Common.{◌≡◌, drop}
-use Rattle.trail_rights.specs.Deciding.{found_in}
+use Rattle.trail_rights.proofs.Vocabulary.{◌≡◌, drop, found_in}
 use Rattle.trail_rights.proofs.decider.found_in.Given as goal
 
 abbrev pub invariant-loop-decider : goal.invariant-loop-decider

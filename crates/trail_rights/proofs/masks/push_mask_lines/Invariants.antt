@@ -1,6 +1,4 @@
-use Rattle.std.proofs.Common.{◌≡◌, ◌++◌, take}
-use Rattle.std.specs.List.{flat_map}
-use Rattle.trail_rights.specs.Masking.{masks_text}
+use Rattle.trail_rights.proofs.Vocabulary.{◌≡◌, ◌++◌, take, flat_map, masks_text}
 use Rattle.trail_rights.proofs.masks.push_mask_lines.Given as goal
 
 abbrev pub invariant-loop-user : goal.invariant-loop-user

@@ -1,8 +1,7 @@
-use Rattle.std.proofs.Common.{◌≡◌, ◌∙◌, ◌++◌, ap, append_assoc, ℕ, List, Result, Ok, Err}
+use Rattle.trail_rights.proofs.Vocabulary.{◌≡◌, ◌∙◌, ◌++◌, ap, append_assoc, ℕ, List, Result, Ok, Err, preset_text}
 use Rattle.std.specs.Prelude.{OnOk, codes, if◌then◌else◌}
 use Rattle.std.specs.Result.{is_ok}
 use Rattle.acl.specs.declared.PresetKind.TheVariants as kind
-use Rattle.trail_rights.specs.Masking.{preset_text}
 use Rattle.trail_rights.proofs.masks.push_newcomer.Goals as goal
 
 -- a list to which something was appended

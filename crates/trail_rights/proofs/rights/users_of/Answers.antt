@@ -1,6 +1,4 @@
-use Rattle.std.proofs.Common.{◌∙◌, ◌++◌, ap, take, arith}
-use Rattle.std.specs.Prelude.{option_to_list}
-use Rattle.acl.specs.History.{users_of}
+use Rattle.trail_rights.proofs.Vocabulary.{◌∙◌, ◌++◌, ap, take, arith, option_to_list, users_of}
 use Rattle.trail_rights.proofs.Stepping.{take_next, take_past}
 use Rattle.trail_rights.proofs.rights.users_of.Goals as goal
 

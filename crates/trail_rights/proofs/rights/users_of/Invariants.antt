@@ -1,8 +1,4 @@
-use Rattle.std.proofs.Common.{◌≡◌, take}
-use Rattle.acl.specs.declared.leaders.Edition.{Edition}
-use Rattle.acl.specs.declared.user_id.UserId.{UserId}
-use Rattle.acl.specs.History.{History, users_of}
-use Rattle.hub.specs.Following.{StandsAfter}
+use Rattle.trail_rights.proofs.Vocabulary.{◌≡◌, take, Edition, UserId, History, users_of, StandsAfter}
 use Rattle.trail_rights.proofs.rights.users_of.Given as goal
 
 -- those so far

@@ -1,9 +1,6 @@
-use Rattle.std.proofs.Common.{◌<◌, length, get_or, arith, None, false, []}
-use Rattle.std.proofs.lemmas.List.{get_or_default}
-use Rattle.std.proofs.lemmas.List.Edits.{map_over_more}
+use Rattle.trail_rights.proofs.Vocabulary.{◌<◌, length, get_or, arith, None, false, [], get_or_default, map_over_more}
+use Rattle.trail_rights.proofs.Vocabulary.{Settler, settler_after}
 use Rattle.trail_rights.specs.declared.settler.RightsSetting.TheVariants as setting
-use Rattle.trail_rights.specs.declared.settler.Settler.{Settler}
-use Rattle.trail_rights.specs.Settling.{settler_after}
 use Rattle.trail_rights.proofs.Settled.{unsettled}
 use Rattle.trail_rights.proofs.settler.settle_all.Goals as goal
 

@@ -1,5 +1,4 @@
-use Rattle.std.proofs.Common.{◌≡◌, ◌++◌, map, take, drop}
-use Rattle.trail_rights.specs.Settling.{settler_after}
+use Rattle.trail_rights.proofs.Vocabulary.{◌≡◌, ◌++◌, map, take, drop, settler_after}
 use Rattle.trail_rights.proofs.settler.settle_all.Given as goal
 
 abbrev pub invariant-loop-settler : goal.invariant-loop-settler

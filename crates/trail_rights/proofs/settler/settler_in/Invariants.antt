@@ -1,5 +1,4 @@
-use Rattle.std.proofs.Common.{◌≡◌, drop}
-use Rattle.trail_rights.specs.Settling.{settler_in}
+use Rattle.trail_rights.proofs.Vocabulary.{◌≡◌, drop, settler_in}
 use Rattle.trail_rights.proofs.settler.settler_in.Given as goal
 
 abbrev pub invariant-loop-settler : goal.invariant-loop-settler

@@ -1,10 +1,5 @@
-use Rattle.std.proofs.Common.{◌<◌, length, get_or, arith, None, false, []}
-use Rattle.std.proofs.lemmas.List.{get_or_default}
-use Rattle.std.proofs.lemmas.List.Edits.{map_over_more}
-use Rattle.acl.specs.declared.bits.Bit.TheVariants.{Read}
-use Rattle.acl.specs.declared.act.Object.TheVariants.{Window}
-use Rattle.trail_rights.specs.declared.decider.Decider.{Decider}
-use Rattle.trail_rights.specs.Deciding.{decider_after}
+use Rattle.trail_rights.proofs.Vocabulary.{◌<◌, length, get_or, arith, None, false, [], get_or_default, map_over_more}
+use Rattle.trail_rights.proofs.Vocabulary.{Read, Window, Decider, decider_after}
 use Rattle.trail_rights.proofs.sight.decide_all.Goals as goal
 
 abbrev blank : Decider

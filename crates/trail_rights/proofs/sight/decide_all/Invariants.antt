@@ -1,5 +1,4 @@
-use Rattle.std.proofs.Common.{◌≡◌, ◌++◌, map, take, drop}
-use Rattle.trail_rights.specs.Deciding.{decider_after}
+use Rattle.trail_rights.proofs.Vocabulary.{◌≡◌, ◌++◌, map, take, drop, decider_after}
 use Rattle.trail_rights.proofs.sight.decide_all.Given as goal
 
 abbrev pub invariant-loop-decider : goal.invariant-loop-decider

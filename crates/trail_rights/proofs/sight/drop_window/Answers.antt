@@ -1,5 +1,4 @@
-use Rattle.std.proofs.Common.{ℕ, not, rules}
-use Rattle.std.specs.Prelude.{◌==◌}
+use Rattle.trail_rights.proofs.Vocabulary.{ℕ, not, rules, ◌==◌}
 use Rattle.std.proofs.lemmas.Fn.{filter_same}
 use Rattle.trail_rights.proofs.sight.drop_window.Goals as goal
 

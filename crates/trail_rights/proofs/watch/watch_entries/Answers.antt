@@ -1,20 +1,14 @@
-use Rattle.std.proofs.Common.{◌≡◌, ◌+◌, ◌≤◌, ◌++◌, ◌∷◌, [], ℕ, List, Option, Some, None, length, rules}
-use Rattle.std.proofs.Common.{refl, ◌∙◌, subst, arith, inl, inr}
+use Rattle.trail_rights.proofs.Vocabulary.{◌≡◌, ◌+◌, ◌≤◌, ◌++◌, ◌∷◌, [], ℕ, List, Option, Some, None, length, rules}
+use Rattle.trail_rights.proofs.Vocabulary.{refl, ◌∙◌, subst, arith, inl, inr, IfSome, Edition, UserId, Said, read_line}
+use Rattle.trail_rights.proofs.Vocabulary.{said, OfKnown, IsWrong, AreRead, entries_in, Follows, HasWatched}
 use denote.Param.Always.{mut_next}
 use Rattle.std.proofs.iter.Next.{called_at}
-use Rattle.std.specs.Prelude.{IfSome}
-use Rattle.acl.specs.declared.leaders.Edition.{Edition}
-use Rattle.acl.specs.declared.user_id.UserId.{UserId}
-use Rattle.trail_lines.specs.Entries.{Said, read_line, said}
 use Rattle.trail_lines.specs.declared.halt.Halt.{Halt}
 use Rattle.trail_lines.specs.declared.halt.Halt.TheVariants as halt
-use Rattle.trail_lines.specs.Lines.{OfKnown}
-use Rattle.trail_lines.specs.Reading.{IsWrong}
-use Rattle.trail_lines.specs.Halting.{IsEnd, AreRead, IsReadTo, NextIs}
+use Rattle.trail_lines.specs.Halting.{IsEnd, IsReadTo, NextIs}
 use Rattle.trail_lines.proofs.Halted.{count_in, count_more, read_more, read_to, stops_at}
 use Rattle.trail_rights.specs.declared.watch.Watch.{Watch}
-use Rattle.trail_rights.specs.Marks.{entries_in}
-use Rattle.trail_rights.specs.Watching.{Follows, HasWatched, IsWatchedTo, TellsAll}
+use Rattle.trail_rights.specs.Watching.{IsWatchedTo, TellsAll}
 use Rattle.trail_rights.proofs.Seen.{folds_more}
 use Rattle.trail_rights.proofs.watch.watch_entries.Goals as goal
 

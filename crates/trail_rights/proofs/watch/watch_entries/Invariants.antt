@@ -1,11 +1,5 @@
-use Rattle.std.proofs.Common.{◌≡◌, ◌+◌, ◌≤◌, [], List, length}
-use Rattle.std.specs.List.{FoldsTo}
-use Rattle.acl.specs.declared.leaders.Edition.{Edition}
-use Rattle.acl.specs.declared.user_id.UserId.{UserId}
-use Rattle.trail_lines.specs.Entries.{Said}
-use Rattle.trail_lines.specs.Lines.{OfKnown}
-use Rattle.trail_lines.specs.Halting.{AreRead}
-use Rattle.trail_rights.specs.Watching.{Follows, HasWatched}
+use Rattle.trail_rights.proofs.Vocabulary.{◌≡◌, ◌+◌, ◌≤◌, [], List, length, FoldsTo, Edition, UserId, Said, OfKnown}
+use Rattle.trail_rights.proofs.Vocabulary.{AreRead, Follows, HasWatched}
 use Rattle.trail_rights.proofs.watch.watch_entries.Given as goal
 
 -- the entries before the line of this number were read and followed; and the callback may be called again

@@ -1,7 +1,4 @@
-use Rattle.std.proofs.Common.{◌∙◌, sym}
-use Rattle.acl.specs.command_name.TheConstants.CommandName.{ALL}
-use Rattle.trail_rights.proofs.Stepping.{passes, stops}
-use Rattle.trail_setup.specs.Giving.{has_just}
+use Rattle.trail_setup.proofs.Vocabulary.{◌∙◌, sym, ALL, passes, stops, has_just}
 use Rattle.trail_setup.proofs.Putting.{all_past}
 use Rattle.trail_setup.proofs.commands.has_on_all.Goals as goal
 

@@ -1,11 +1,4 @@
-use Rattle.std.proofs.Common.{◌≡◌, drop}
-use Rattle.std.specs.List.{list_all}
-use Rattle.acl.specs.command_name.TheConstants.CommandName.{ALL}
-use Rattle.acl.specs.declared.leaders.Edition.{Edition}
-use Rattle.acl.specs.declared.user_id.UserId.{UserId}
-use Rattle.acl.specs.History.{History}
-use Rattle.trail_setup.specs.Alone.{HasEntries}
-use Rattle.trail_setup.specs.Giving.{has_just}
+use Rattle.trail_setup.proofs.Vocabulary.{◌≡◌, drop, list_all, ALL, Edition, UserId, History, HasEntries, has_just}
 use Rattle.trail_setup.proofs.commands.has_on_all.Given as goal
 
 -- those so far passed

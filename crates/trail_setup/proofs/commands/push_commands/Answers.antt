@@ -1,9 +1,4 @@
-use Rattle.std.proofs.Common.{List, subst}
-use Rattle.std.specs.List.{flat_map}
-use Rattle.std.proofs.lemmas.List.{take_more}
-use Rattle.acl.specs.declared.user_id.UserId.{UserId}
-use Rattle.trail_rights.proofs.Stepping.{take_past}
-use Rattle.trail_setup.specs.Giving.{PutsAll, lines_of}
+use Rattle.trail_setup.proofs.Vocabulary.{List, subst, flat_map, take_more, UserId, take_past, PutsAll, lines_of}
 use Rattle.trail_setup.proofs.Putting.{flat_next}
 use Rattle.trail_setup.proofs.commands.push_commands.Goals as goal
 

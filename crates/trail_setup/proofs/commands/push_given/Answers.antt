@@ -1,7 +1,5 @@
-use Rattle.std.proofs.Common.{◌≡◌, ◌∙◌, [], ℕ, List, ap, sym, subst}
-use Rattle.std.specs.Prelude.{OnOk}
-use Rattle.trail_setup.specs.Giving.{given_kind, given_words}
-use Rattle.trail_setup.specs.Lines.{Kind, PutsLines, kind_of}
+use Rattle.trail_setup.proofs.Vocabulary.{◌≡◌, ◌∙◌, [], ℕ, List, ap, sym, subst, OnOk, given_kind, given_words, Kind}
+use Rattle.trail_setup.proofs.Vocabulary.{PutsLines, kind_of}
 use Rattle.trail_setup.proofs.Putting.{reformed}
 use Rattle.trail_setup.proofs.commands.push_given.Goals as goal
 

@@ -1,8 +1,5 @@
-use Rattle.std.proofs.Common.{◌∙◌, ◌++◌, [], ap, append_assoc, slice_index_or, take}
-use Rattle.std.specs.List.{flat_map}
-use Rattle.std.proofs.lemmas.List.{take_more}
-use Rattle.trail_rights.proofs.Stepping.{joins_next}
-use Rattle.trail_setup.specs.Giving.{leader_line, leader_lines}
+use Rattle.trail_setup.proofs.Vocabulary.{◌∙◌, ◌++◌, [], ap, append_assoc, slice_index_or, take, flat_map, take_more}
+use Rattle.trail_setup.proofs.Vocabulary.{joins_next, leader_line, leader_lines}
 use Rattle.trail_setup.proofs.commands.push_leaders.Goals as goal
 
 pub loop-user-preserved : goal.loop-user-preserved

@@ -1,10 +1,5 @@
-use Rattle.std.proofs.Common.{◌≡◌, ◌++◌, take}
-use Rattle.std.specs.List.{flat_map}
-use Rattle.acl.specs.declared.leaders.Edition.{Edition}
-use Rattle.acl.specs.declared.user_id.UserId.{UserId}
-use Rattle.acl.specs.History.{History}
-use Rattle.hub.specs.Following.{StandsAfter}
-use Rattle.trail_setup.specs.Giving.{leader_lines}
+use Rattle.trail_setup.proofs.Vocabulary.{◌≡◌, ◌++◌, take, flat_map, Edition, UserId, History, StandsAfter}
+use Rattle.trail_setup.proofs.Vocabulary.{leader_lines}
 use Rattle.trail_setup.proofs.commands.push_leaders.Given as goal
 
 abbrev pub invariant-loop-user : goal.invariant-loop-user

@@ -1,6 +1,4 @@
-use Rattle.std.proofs.Common.{◌≡◌, ◌++◌, take}
-use Rattle.std.specs.List.{flat_map}
-use Rattle.trail_setup.specs.Giving.{leader_line}
+use Rattle.trail_setup.proofs.Vocabulary.{◌≡◌, ◌++◌, take, flat_map, leader_line}
 use Rattle.trail_setup.proofs.commands.push_leaders_of.Given as goal
 
 abbrev pub invariant-loop-leader : goal.invariant-loop-leader

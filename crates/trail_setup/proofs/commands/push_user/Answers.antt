@@ -1,7 +1,4 @@
-use Rattle.std.proofs.Common.{List, Bool, map, subst}
-use Rattle.std.proofs.lemmas.List.{take_more}
-use Rattle.trail_rights.proofs.Stepping.{take_past}
-use Rattle.trail_setup.specs.Giving.{PutsAll, all_given, given_line}
+use Rattle.trail_setup.proofs.Vocabulary.{List, Bool, map, subst, take_more, take_past, PutsAll, all_given, given_line}
 use Rattle.trail_setup.proofs.Putting.{maps_next}
 use Rattle.trail_setup.proofs.commands.push_user.Goals as goal
 

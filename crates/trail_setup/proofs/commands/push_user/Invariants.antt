@@ -1,9 +1,5 @@
-use Rattle.std.proofs.Common.{map, take}
-use Rattle.acl.specs.declared.leaders.Edition.{Edition}
-use Rattle.acl.specs.declared.user_id.UserId.{UserId}
-use Rattle.acl.specs.History.{History}
-use Rattle.trail_setup.specs.Alone.{HasEntries}
-use Rattle.trail_setup.specs.Giving.{PutsAll, all_given, given_line}
+use Rattle.trail_setup.proofs.Vocabulary.{map, take, Edition, UserId, History, HasEntries, PutsAll, all_given}
+use Rattle.trail_setup.proofs.Vocabulary.{given_line}
 use Rattle.trail_setup.proofs.commands.push_user.Given as goal
 
 abbrev pub invariant-loop-given : goal.invariant-loop-given

@@ -1,10 +1,5 @@
-use Rattle.std.proofs.Common.{◌∙◌, ◌∷◌, [], Bool, sym, subst, map}
-use Rattle.std.specs.Prelude.{OnOk, codes, filter, if◌then◌else◌}
-use Rattle.std.proofs.lemmas.List.{take_more}
-use Rattle.acl.specs.command_name.TheConstants.CommandName.{ALL}
-use Rattle.command_lang.specs.Names.{name_text}
-use Rattle.trail_setup.specs.Giving.{has_just}
-use Rattle.trail_setup.specs.Lines.{HoldWords, kind_of}
+use Rattle.trail_setup.proofs.Vocabulary.{◌∙◌, ◌∷◌, [], Bool, sym, subst, map, OnOk, codes, filter, if◌then◌else◌}
+use Rattle.trail_setup.proofs.Vocabulary.{take_more, ALL, name_text, has_just, HoldWords, kind_of}
 use Rattle.trail_setup.proofs.Putting.{leaves_out, put_all, puts_next, reformed}
 use Rattle.trail_setup.proofs.commands.put_commands.Goals as goal
 use Rattle.trail_setup.proofs.commands.put_commands.Goals.{then-has_just+in_ok-put, else-has_just}

@@ -1,12 +1,5 @@
-use Rattle.std.proofs.Common.{◌≡◌, [], ℕ, List, map, filter, take}
-use Rattle.acl.specs.command_name.TheConstants.CommandName.{ALL}
-use Rattle.acl.specs.declared.leaders.Edition.{Edition}
-use Rattle.acl.specs.declared.user_id.UserId.{UserId}
-use Rattle.acl.specs.History.{History}
-use Rattle.command_lang.specs.Names.{name_text}
-use Rattle.trail_setup.specs.Alone.{HasEntries}
-use Rattle.trail_setup.specs.Giving.{has_just}
-use Rattle.trail_setup.specs.Lines.{HoldWords, kind_of}
+use Rattle.trail_setup.proofs.Vocabulary.{◌≡◌, [], ℕ, List, map, filter, take, ALL, Edition, UserId, History, name_text}
+use Rattle.trail_setup.proofs.Vocabulary.{HasEntries, has_just, HoldWords, kind_of}
 use Rattle.trail_setup.proofs.commands.put_commands.Given as goal
 
 -- those so far with just these bits were put

@@ -1,7 +1,5 @@
-use Rattle.std.proofs.Common.{◌++◌, [], ℕ, List, Result, Ok, Err, refl}
-use Rattle.std.specs.Prelude.{OnOk, true}
-use Rattle.trail_setup.specs.Giving.{Part, PutsAll}
-use Rattle.trail_setup.specs.Masks.{known_in, mask_parts}
+use Rattle.trail_setup.proofs.Vocabulary.{◌++◌, [], ℕ, List, Result, Ok, Err, refl, OnOk, true, Part, PutsAll, known_in}
+use Rattle.trail_setup.proofs.Vocabulary.{mask_parts}
 use Rattle.trail_setup.specs.Setup.{later_start, mode_text}
 use Rattle.trail_setup.proofs.Putting.{puts_text}
 use Rattle.trail_setup.proofs.setup.push_later.Goals as goal

@@ -1,9 +1,5 @@
-use Rattle.std.proofs.Common.{◌≡◌, ◌∙◌, [], List, ap, subst}
-use Rattle.std.specs.Prelude.{OnOk}
-use Rattle.acl.specs.declared.user_id.UserId.{UserId}
-use Rattle.acl.specs.History.{users_of}
+use Rattle.trail_setup.proofs.Vocabulary.{◌≡◌, ◌∙◌, [], List, ap, subst, OnOk, UserId, users_of, PutsAll}
 use Rattle.trail_rights.specs.Marks.{acts_in, marked_after}
-use Rattle.trail_setup.specs.Giving.{PutsAll}
 use Rattle.trail_setup.specs.Setup.{others_of, parts_for}
 use Rattle.trail_setup.proofs.Listing.{all_listed}
 use Rattle.trail_setup.proofs.setup.push_setup.Goals as goal

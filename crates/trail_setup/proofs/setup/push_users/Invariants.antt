@@ -1,7 +1,4 @@
-use Rattle.std.proofs.Common.{◌≡◌, ◌++◌, map, take}
-use Rattle.acl.specs.Names.{name_of}
-use Rattle.trail_setup.specs.Giving.{first_text, users_kind}
-use Rattle.trail_setup.specs.Lines.{HoldWords, kind_of}
+use Rattle.trail_setup.proofs.Vocabulary.{◌≡◌, ◌++◌, map, take, name_of, first_text, users_kind, HoldWords, kind_of}
 use Rattle.trail_setup.proofs.setup.push_users.Given as goal
 
 -- the names so far were put

@@ -1,7 +1,4 @@
-use Rattle.std.proofs.Common.{ℕ, not, rules}
-use Rattle.std.specs.Prelude.{◌==◌}
-use Rattle.std.proofs.lemmas.Fn.{filter_same}
-use Rattle.acl.specs.declared.user_id.UserId.{UserId}
+use Rattle.trail_setup.proofs.Vocabulary.{ℕ, not, rules, ◌==◌, filter_same, UserId}
 use Rattle.trail_setup.proofs.state.close.Goals as goal
 
 pub returns : goal.returns

@@ -1,7 +1,4 @@
-use Rattle.std.proofs.Common.{◌&&◌, not, rules}
-use Rattle.std.proofs.lemmas.Fn.{filter_same}
-use Rattle.acl.specs.Same.{same_user}
-use Rattle.trail_setup.specs.declared.state.SetMask.{SetMask}
+use Rattle.trail_setup.proofs.Vocabulary.{◌&&◌, not, rules, filter_same, same_user, SetMask}
 use Rattle.trail_setup.proofs.state.forget.Goals as goal
 
 pub returns : goal.returns

@@ -1,5 +1,4 @@
-use Rattle.std.proofs.Common.{◌≡◌, ◌∙◌, ◌<◌, ◌≤◌, length, ap, sym, arith}
-use Rattle.trail_setup.specs.Keeping.{masked_in}
+use Rattle.trail_setup.proofs.Vocabulary.{◌≡◌, ◌∙◌, ◌<◌, ◌≤◌, length, ap, sym, arith, masked_in}
 use Rattle.trail_setup.proofs.Keeping.{masked_here, masked_last, masked_past}
 use Rattle.trail_setup.proofs.state.set_mask.Goals as goal
 

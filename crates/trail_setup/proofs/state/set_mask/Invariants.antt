@@ -1,5 +1,4 @@
-use Rattle.std.proofs.Common.{◌≡◌, ◌++◌, length, take, drop}
-use Rattle.trail_setup.specs.Keeping.{masked_in}
+use Rattle.trail_setup.proofs.Vocabulary.{◌≡◌, ◌++◌, length, take, drop, masked_in}
 use Rattle.trail_setup.proofs.state.set_mask.Given as goal
 
 abbrev pub invariant-loop-place : goal.invariant-loop-place

@@ -1,8 +1,4 @@
-use Rattle.std.proofs.Common.{◌+◌, map, ap, ◌∙◌}
-use Rattle.terminal_model.specs.Places.{place}
-use Rattle.terminal_model.specs.Shows.{View}
-use Rattle.terminal_model.proofs.Places.{blank-at}
-use Rattle.view.specs.Granted.{part_of}
+use Rattle.view.proofs.Vocabulary.{◌+◌, map, ap, ◌∙◌, place, View, blank-at, part_of}
 use Rattle.view.proofs.FreePages.{blank_free}
 use Rattle.view.proofs.composing.compose.Goals as goal
 

@@ -1,14 +1,6 @@
-use Rattle.std.proofs.Common.{◌≡◌, ◌+◌, ◌<◌, ℕ, List, arith, map, sym, ap, ◌∙◌, length, subst, get_or}
-use Rattle.std.proofs.lemmas.List.{get_or_default}
-use Rattle.cells.specs.Page.{IsGrid}
-use Rattle.terminal_model.specs.Shows.{View}
-use Rattle.regions.specs.declared.rect.Rect.{Rect}
-use Rattle.view.specs.declared.view.Pane.{Pane}
-use Rattle.view.specs.declared.view.Pane.TheVariants.{Empty}
-use Rattle.view.specs.Composing.{HasPageSize}
-use Rattle.view.specs.Granted.{Part, AreParts, part_of, part_at, box_at, pieces}
-use Rattle.view.specs.Rows.{IsPlaced, FocusesOn}
-use Rattle.regions.specs.Shapes.{Shape}
+use Rattle.view.proofs.Vocabulary.{◌≡◌, ◌+◌, ◌<◌, ℕ, List, arith, map, sym, ap, ◌∙◌, length, subst, get_or}
+use Rattle.view.proofs.Vocabulary.{get_or_default, IsGrid, View, Rect, Pane, Empty, HasPageSize, Part, AreParts}
+use Rattle.view.proofs.Vocabulary.{part_of, part_at, box_at, pieces, IsPlaced, FocusesOn, Shape}
 use Rattle.view.proofs.Stages.{Stage, no_stage, box_stage, separator_stage, status_stage, focus_placed, composed}
 use Rattle.view.proofs.Stages.{drawable_view, part_is}
 use Rattle.view.proofs.composing.compose_on.Goals as goal

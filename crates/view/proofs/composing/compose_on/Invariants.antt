@@ -1,7 +1,4 @@
-use Rattle.std.proofs.Common.{ℕ, ◌+◌, map, length}
-use Rattle.regions.specs.Shapes.{Shape}
-use Rattle.view.specs.Composing.{HasPageSize}
-use Rattle.view.specs.Granted.{AreParts, part_of}
+use Rattle.view.proofs.Vocabulary.{ℕ, ◌+◌, map, length, Shape, HasPageSize, AreParts, part_of}
 use Rattle.view.proofs.Stages.{Stage}
 use Rattle.view.proofs.composing.compose_on.Given as goal
 

@@ -1,5 +1,4 @@
-use Rattle.std.proofs.Common.{map, refl}
-use Rattle.view.specs.Granted.{part_of}
+use Rattle.view.proofs.Vocabulary.{map, refl, part_of}
 use Rattle.view.proofs.FreePages.{lone_free}
 use Rattle.view.proofs.composing.compose_over.Goals as goal
 

@@ -1,5 +1,4 @@
-use Rattle.std.proofs.Common.{◌≡◌, ◌<◌, ℕ, false}
-use Rattle.cells.specs.Line.{cell_at}
+use Rattle.view.proofs.Vocabulary.{◌≡◌, ◌<◌, ℕ, false, cell_at}
 use Rattle.view.proofs.region_rows.are_unprotected.Given as goal
 
 abbrev pub invariant-loop-cell : goal.invariant-loop-cell

@@ -1,8 +1,5 @@
-use Rattle.std.proofs.Common.{◌≡◌, ℕ, List, true, subst}
-use Rattle.std.specs.Str.{all_scalars}
-use Rattle.std.specs.String.{string_bytes}
+use Rattle.view.proofs.Vocabulary.{◌≡◌, ℕ, List, true, subst, all_scalars, string_bytes, IfOk-weaker}
 use Rattle.std.proofs.lemmas.Str.{scalars-chars, IsUtf8-string_bytes}
-use Rattle.std.proofs.lemmas.Result.{IfOk-weaker}
 use Rattle.view.proofs.region_rows.caption_row.Goals as goal
 
 pub returns-clause-characters : goal.returns-clause-characters

@@ -1,5 +1,4 @@
-use Rattle.std.proofs.Common.{arith}
-use Rattle.std.proofs.lemmas.Result.{IfOk-weaker}
+use Rattle.view.proofs.Vocabulary.{arith, IfOk-weaker}
 use Rattle.view.proofs.Writing.{vacant_text, unread_text, read_text}
 use Rattle.view.proofs.region_rows.caption_text.Goals as goal
 

@@ -1,6 +1,4 @@
-use Rattle.std.proofs.Common.{◌≡◌, ◌<◌, ◌≤◌, ℕ, false}
-use Rattle.cells.specs.Line.{cell_at}
-use Rattle.view.specs.Granted.{shown_cell}
+use Rattle.view.proofs.Vocabulary.{◌≡◌, ◌<◌, ◌≤◌, ℕ, false, cell_at, shown_cell}
 use Rattle.view.proofs.region_rows.unprotect.Given as goal
 
 abbrev pub invariant-loop-column : goal.invariant-loop-column

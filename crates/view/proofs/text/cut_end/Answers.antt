@@ -1,11 +1,7 @@
-use Rattle.std.proofs.Common.{◌≡◌, ◌-◌, ◌<◌, ℕ, length, arith, sym, ap, ◌∙◌, get_or, List}
-use Rattle.std.proofs.Common.{false, slice_set, get_or-set_other, ⊎_elim}
-use Rattle.std.proofs.lemmas.Bool.{cases_eq}
-use Rattle.std.proofs.lemmas.List.{get_or_default, length-set}
+use Rattle.view.proofs.Vocabulary.{◌≡◌, ◌-◌, ◌<◌, ℕ, length, arith, sym, ap, ◌∙◌, get_or, List, false, slice_set}
+use Rattle.view.proofs.Vocabulary.{get_or-set_other, ⊎_elim, cases_eq, get_or_default, Cell, blank, narrow_cell, uncut}
+use Rattle.std.proofs.lemmas.List.{length-set}
 use Rattle.std.proofs.lemmas.Grind.{get_or-set_at}
-use Rattle.cells.specs.declared.cell.Cell.{Cell}
-use Rattle.cells.specs.Line.{blank, narrow_cell}
-use Rattle.view.specs.Texts.{uncut}
 use Rattle.view.proofs.Pairing.{uncut_before}
 use Rattle.view.proofs.text.cut_end.Goals as goal
 

@@ -1,6 +1,4 @@
-use Rattle.std.proofs.Common.{◌≡◌, ◌++◌, drop, length}
-use Rattle.std.specs.Str.{chars}
-use Rattle.view.specs.Texts.{text_cells}
+use Rattle.view.proofs.Vocabulary.{◌≡◌, ◌++◌, drop, length, chars, text_cells}
 use Rattle.view.proofs.text.text_cells.Given as goal
 
 abbrev pub invariant-loop-character : goal.invariant-loop-character

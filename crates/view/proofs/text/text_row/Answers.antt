@@ -1,13 +1,9 @@
-use Rattle.std.proofs.Common.{◌≡◌, ◌<◌, ◌≤◌, ◌++◌, ◌-◌, chars, false, length, ℕ, List, get_or, take, drop}
-use Rattle.std.proofs.Common.{replicate, arith, ⊎_elim, sym, ap, ◌∙◌, subst}
-use Rattle.std.proofs.lemmas.Bool.{cases_lt}
-use Rattle.std.proofs.lemmas.List.{get_or_append_left, get_or-take, get_or_default, get_or-append_right}
-use Rattle.std.proofs.lemmas.List.{get_or-replicate, get_or_past, take_all, take_at, length-take}
-use Rattle.cells.specs.declared.cell.Cell.{Cell}
-use Rattle.cells.specs.Line.{blank, cell_at, narrow_cell}
+use Rattle.view.proofs.Vocabulary.{◌≡◌, ◌<◌, ◌≤◌, ◌++◌, ◌-◌, chars, false, length, ℕ, List, get_or, take, drop}
+use Rattle.view.proofs.Vocabulary.{replicate, arith, ⊎_elim, sym, ap, ◌∙◌, subst, cases_lt, get_or_append_left}
+use Rattle.view.proofs.Vocabulary.{get_or_default, get_or_past, Cell, blank, cell_at, narrow_cell, uncut, text_at}
+use Rattle.view.proofs.Vocabulary.{text_cells, IsRow}
+use Rattle.std.proofs.lemmas.List.{get_or-take, get_or-append_right, get_or-replicate, take_all, take_at, length-take}
 use Rattle.cells.specs.Rendition.{Rendition}
-use Rattle.view.specs.Texts.{uncut, text_at, text_cells}
-use Rattle.view.specs.Rows.{IsRow}
 use Rattle.view.proofs.text.text_row.Goals as goal
 
 -- a column of cells that are cut to n, or filled up

@@ -1,7 +1,4 @@
-use Rattle.std.proofs.Common.{refl, replicate, ◌-◌}
-use Rattle.cells.specs.Line.{blank, spliced}
-use Rattle.cells.specs.Page.{edited}
-use Rattle.cells.proofs.Pages.{IsPage-page_from}
+use Rattle.vt_screen.proofs.Vocabulary.{refl, replicate, ◌-◌, blank, spliced, edited, IsPage-page_from}
 use Rattle.vt_screen.proofs.erasing.erase_part.Goals as goal
 
 pub returns-clause-value : goal.returns-clause-value

@@ -1,7 +1,5 @@
-use Rattle.std.proofs.Common.{◌≡◌, ◌<◌, refl, sym, ap, ◌∙◌, arith, length}
-use Rattle.cells.specs.Page.{line_at}
+use Rattle.vt_screen.proofs.Vocabulary.{◌≡◌, ◌<◌, refl, sym, ap, ◌∙◌, arith, length, line_at, unprotected_lines}
 use Rattle.cells.proofs.Pages.{length-page_from, width-page_from}
-use Rattle.terminal_model.specs.Erasing.{unprotected_lines}
 use Rattle.vt_screen.proofs.Unprotected.{unprotected_none, unprotected_more}
 use Rattle.vt_screen.proofs.erasing.erase_unprotected_lines.Goals as goal
 

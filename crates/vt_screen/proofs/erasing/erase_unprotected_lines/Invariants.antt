@@ -1,6 +1,4 @@
-use Rattle.std.proofs.Common.{◌≡◌}
-use Rattle.cells.specs.Page.{page_from}
-use Rattle.terminal_model.specs.Erasing.{unprotected_lines}
+use Rattle.vt_screen.proofs.Vocabulary.{◌≡◌, page_from, unprotected_lines}
 use Rattle.vt_screen.proofs.erasing.erase_unprotected_lines.Given as goal
 
 abbrev pub invariant-loop-line : goal.invariant-loop-line

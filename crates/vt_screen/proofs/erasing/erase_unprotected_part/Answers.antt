@@ -1,7 +1,4 @@
-use Rattle.std.proofs.Common.{refl}
-use Rattle.cells.specs.Line.{unprotected_erased}
-use Rattle.cells.specs.Page.{edited, line_at}
-use Rattle.cells.proofs.Pages.{IsPage-page_from}
+use Rattle.vt_screen.proofs.Vocabulary.{refl, unprotected_erased, edited, line_at, IsPage-page_from}
 use Rattle.vt_screen.proofs.erasing.erase_unprotected_part.Goals as goal
 
 pub returns-clause-value : goal.returns-clause-value

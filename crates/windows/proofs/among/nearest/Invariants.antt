@@ -1,6 +1,4 @@
-use Rattle.std.proofs.Common.{◌≡◌, ◌≤◌, length, filter, drop}
-use Rattle.std.specs.Prelude.{option_copied}
-use Rattle.windows.specs.Among.{is_among, nearest}
+use Rattle.windows.proofs.Vocabulary.{◌≡◌, ◌≤◌, length, filter, drop, option_copied, is_among, nearest}
 use Rattle.windows.proofs.among.nearest.Given as goal
 
 abbrev pub invariant-loop-place : goal.invariant-loop-place

@@ -1,6 +1,4 @@
-use Rattle.std.proofs.Common.{◌≡◌, ◌<◌, ◌^◌, true, take}
-use Rattle.std.specs.List.{list_all}
-use Rattle.windows_model.specs.Naming.{is_digit, number_after}
+use Rattle.windows.proofs.Vocabulary.{◌≡◌, ◌<◌, ◌^◌, true, take, list_all, is_digit, number_after}
 use Rattle.windows.proofs.numbers.number_of.Given as goal
 
 abbrev pub invariant-loop-c : goal.invariant-loop-c

@@ -1,8 +1,4 @@
-use Rattle.std.proofs.Common.{◌∙◌, sym, subst, ap, rules, ◌++◌}
-use Rattle.std.proofs.lemmas.Result.{IfOk-at_ok}
-use Rattle.acl.specs.Table.{StandsFor}
-use Rattle.acl.specs.History.{users_of}
-use Rattle.acl.specs.Commands.{change_acts}
+use Rattle.acl.proofs.Vocabulary.{◌∙◌, sym, subst, ap, rules, ◌++◌, IfOk-at_ok, StandsFor, users_of, change_acts}
 use Rattle.acl.proofs.FollowingLemmas.{allowed-change_acts, known-among, on_ok_all, is_done}
 use Rattle.acl.proofs.acl.Acl.change.Goals as goal
 

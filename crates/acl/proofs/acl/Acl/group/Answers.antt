@@ -1,8 +1,4 @@
-use Rattle.std.proofs.Common.{◌∙◌, sym, subst, rules}
-use Rattle.std.proofs.lemmas.Result.{IfOk-at_ok}
-use Rattle.acl.specs.Table.{StandsFor}
-use Rattle.acl.specs.History.{users_of}
-use Rattle.acl.specs.Commands.{group_fault}
+use Rattle.acl.proofs.Vocabulary.{◌∙◌, sym, subst, rules, IfOk-at_ok, StandsFor, users_of, group_fault}
 use Rattle.acl.proofs.FollowingLemmas.{allowed-group_acts, known-among, at_ok, on_ok_all, is_done}
 use Rattle.acl.proofs.acl.Acl.group.Goals as goal
 

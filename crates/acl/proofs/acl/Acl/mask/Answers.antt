@@ -1,6 +1,4 @@
-use Rattle.std.proofs.Common.{sym, subst, rules}
-use Rattle.std.proofs.lemmas.Result.{IfOk-at_ok}
-use Rattle.acl.specs.Table.{StandsFor}
+use Rattle.acl.proofs.Vocabulary.{sym, subst, rules, IfOk-at_ok, StandsFor}
 use Rattle.acl.proofs.FollowingLemmas.{allowed-mask_acts, on_ok_all, is_done}
 use Rattle.acl.proofs.acl.Acl.mask.Goals as goal
 

@@ -1,8 +1,4 @@
-use Rattle.std.proofs.Common.{◌∙◌, sym, subst, rules}
-use Rattle.std.proofs.lemmas.Result.{IfOk-at_ok}
-use Rattle.acl.specs.Table.{StandsFor}
-use Rattle.acl.specs.History.{users_of}
-use Rattle.acl.specs.Commands.{known_name_fault}
+use Rattle.acl.proofs.Vocabulary.{◌∙◌, sym, subst, rules, IfOk-at_ok, StandsFor, users_of, known_name_fault}
 use Rattle.acl.proofs.FollowingLemmas.{allowed-removal_acts, on_ok_all, is_done, at_ok}
 use Rattle.acl.proofs.acl.Acl.remove.Goals as goal
 

@@ -1,7 +1,4 @@
-use Rattle.std.proofs.Common.{◌∷◌, sym, subst}
-use Rattle.acl.specs.Commands.{MayFollow}
-use Rattle.acl.specs.Table.{StandsFor}
-use Rattle.acl.specs.Lists.{table_of}
+use Rattle.acl.proofs.Vocabulary.{◌∷◌, sym, subst, MayFollow, StandsFor, table_of}
 use Rattle.acl.proofs.lists.Lists.apply.Goals as goal
 
 pub returns-in-Known-clause-stands : goal.returns-in-Known-clause-stands

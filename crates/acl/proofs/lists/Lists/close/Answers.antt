@@ -1,8 +1,4 @@
-use Rattle.std.proofs.Common.{subst, sym, ◌∷◌}
-use Rattle.acl_words.specs.declared.act.Act.TheVariants.{Closed}
-use Rattle.acl.specs.Table.{StandsFor, Table}
-use Rattle.acl.specs.History.{is_open, open_count}
-use Rattle.acl.specs.Lists.{table_of}
+use Rattle.acl.proofs.Vocabulary.{subst, sym, ◌∷◌, Closed, StandsFor, Table, is_open, open_count, table_of}
 use Rattle.acl_words.proofs.SlotLemmas.{slot_of-closed, slots-closed}
 use Rattle.acl.proofs.StandsForWindows.{StandsFor-Closed}
 use Rattle.acl.proofs.lists.Lists.close.Goals as goal

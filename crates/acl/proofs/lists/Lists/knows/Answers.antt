@@ -1,5 +1,4 @@
-use Rattle.std.proofs.Common.{◌∙◌}
-use Rattle.acl_words.specs.Same.{same_user}
+use Rattle.acl.proofs.Vocabulary.{◌∙◌, same_user}
 use Rattle.acl.proofs.RowLemmas.{is_some-lookup}
 use Rattle.acl.proofs.lists.Lists.knows.Goals as goal
 

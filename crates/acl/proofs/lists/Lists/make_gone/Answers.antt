@@ -1,11 +1,6 @@
-use Rattle.std.proofs.Common.{◌≡◌, ◌∙◌, ap, Option, None, Bool, true, false, if◌then◌else◌, refl}
-use Rattle.std.specs.Option.{option_map}
-use Rattle.std.specs.Map.{lookup, keys_of}
+use Rattle.acl.proofs.Vocabulary.{◌≡◌, ◌∙◌, ap, Option, None, Bool, true, false, if◌then◌else◌, refl, option_map}
+use Rattle.acl.proofs.Vocabulary.{lookup, keys_of, Row, same_user, without_leader, same_pair, users_in, table_of}
 use Rattle.indexmap.proofs.CallerLemmas.{keys-shift_remove_entry}
-use Rattle.acl.specs.declared.rows.Row.{Row}
-use Rattle.acl_words.specs.Same.{same_user}
-use Rattle.acl.specs.Table.{without_leader, same_pair, users_in}
-use Rattle.acl.specs.Lists.{table_of}
 use Rattle.acl.proofs.RowLemmas.{lookup-revalued, lookup-without_user, keys_of-revalued, remove_key-user}
 use Rattle.acl.proofs.StandsForUsers.{StandsFor-Gone}
 use Rattle.acl.proofs.lists.Lists.make_gone.Goals as goal

@@ -1,10 +1,6 @@
-use Rattle.std.proofs.Common.{◌≡◌, ◌∙◌, ap, refl, Option, None, Some, is_some, false, if◌then◌else◌, true≢false}
-use Rattle.std.specs.Map.{lookup, keys_of}
+use Rattle.acl.proofs.Vocabulary.{◌≡◌, ◌∙◌, ap, refl, Option, None, Some, is_some, false, if◌then◌else◌, true≢false}
+use Rattle.acl.proofs.Vocabulary.{lookup, keys_of, Row, same_user, same_pair, row_of, new_row, table_of}
 use Rattle.indexmap.proofs.CallerLemmas.{insert_entry-new}
-use Rattle.acl.specs.declared.rows.Row.{Row}
-use Rattle.acl_words.specs.Same.{same_user}
-use Rattle.acl.specs.Table.{same_pair, row_of, new_row}
-use Rattle.acl.specs.Lists.{table_of}
 use Rattle.acl.proofs.RowLemmas.{lookup-without_user, bits_on-new_row, keys_of-push}
 use Rattle.acl.proofs.StandsForUsers.{StandsFor-Known}
 use Rattle.acl.proofs.lists.Lists.make_known.Goals as goal

@@ -1,13 +1,6 @@
-use Rattle.std.proofs.Common.{◌∙◌, ap, sym, subst, List, [], Some, None, replicate, if◌then◌else◌}
-use Rattle.std.specs.Map.{lookup, keys_of}
-use Rattle.indexmap.specs.IndexMap.{insert_entry}
-use Rattle.acl_words.specs.declared.user_id.UserId.{UserId}
-use Rattle.acl_words.specs.declared.bits.Bits.{Bits}
-use Rattle.acl.specs.declared.rows.Row.{Row}
+use Rattle.acl.proofs.Vocabulary.{◌∙◌, ap, sym, subst, List, [], Some, None, replicate, if◌then◌else◌, lookup, keys_of}
+use Rattle.acl.proofs.Vocabulary.{insert_entry, UserId, Bits, Row, all_bits, same_user, StandsFor}
 use Rattle.acl_words.specs.declared.slots.Slots.{Slots}
-use Rattle.acl_words.specs.BitSets.{all_bits}
-use Rattle.acl_words.specs.Same.{same_user}
-use Rattle.acl.specs.Table.{StandsFor}
 use Rattle.acl.proofs.RowLemmas.{StandsFor-new}
 use Rattle.acl.proofs.lists.Lists.new.Goals as goal
 

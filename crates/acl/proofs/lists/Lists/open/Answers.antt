@@ -1,12 +1,6 @@
-use Rattle.std.proofs.Common.{◌≡◌, ◌∙◌, ◌∷◌, ap, sym, subst, refl, arith, Option, None, Some, is_some, false}
-use Rattle.std.proofs.Common.{true≢false, ℕ, ◌<◌, length}
-use Rattle.std.specs.Map.{lookup, keys_of}
-use Rattle.acl_words.specs.declared.act.Act.TheVariants.{Opened}
-use Rattle.acl_words.specs.Same.{same_user}
-use Rattle.acl_words.specs.Slots.{slot_of}
-use Rattle.acl.specs.Table.{with_window, opening_bits, StandsFor, Table}
-use Rattle.acl.specs.History.{is_open, open_count}
-use Rattle.acl.specs.Lists.{table_of}
+use Rattle.acl.proofs.Vocabulary.{◌≡◌, ◌∙◌, ◌∷◌, ap, sym, subst, refl, arith, Option, None, Some, is_some, false}
+use Rattle.acl.proofs.Vocabulary.{true≢false, ℕ, ◌<◌, length, lookup, keys_of, Opened, same_user, slot_of, with_window}
+use Rattle.acl.proofs.Vocabulary.{opening_bits, StandsFor, Table, is_open, open_count, table_of}
 use Rattle.acl.proofs.RowLemmas.{lookup-revalued, keys_of-revalued}
 use Rattle.acl_words.proofs.SlotLemmas.{found, slot_of-opened, slot_of-free, free_slot-empty, slots-opened, slots-free}
 use Rattle.acl.proofs.StandsForWindows.{StandsFor-Opened}

@@ -1,7 +1,4 @@
-use Rattle.std.proofs.Common.{◌∙◌, ap, sym, subst, IsSome, is_some, refl, true≢false}
-use Rattle.acl_words.specs.BitSets.{allows}
-use Rattle.acl.specs.Table.{bits_on}
-use Rattle.acl.specs.Lists.{table_of}
+use Rattle.acl.proofs.Vocabulary.{◌∙◌, ap, sym, subst, IsSome, is_some, refl, true≢false, allows, bits_on, table_of}
 use Rattle.acl.proofs.RowLemmas.{allows-with_right, leaders-with_right}
 use Rattle.acl.proofs.StandsForLemmas.{there-StandsFor}
 use Rattle.acl.proofs.StandsForUsers.{StandsFor-Set}

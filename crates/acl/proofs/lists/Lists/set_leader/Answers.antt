@@ -1,11 +1,6 @@
-use Rattle.std.proofs.Common.{◌≡◌, ◌∙◌, ◌≤◌, [], ap, sym, subst, IsSome, is_some, refl, true≢false, Some, length}
-use Rattle.std.proofs.Common.{if◌then◌else◌}
-use Rattle.std.specs.Option.{option_map_or}
-use Rattle.acl_words.specs.Same.{same_user}
-use Rattle.acl.specs.History.{leaders_with, leaders_of}
-use Rattle.acl.specs.Table.{row_of}
-use Rattle.acl.specs.Lists.{table_of}
-use Rattle.acl.specs.declared.rows.Row.{Row}
+use Rattle.acl.proofs.Vocabulary.{◌≡◌, ◌∙◌, ◌≤◌, [], ap, sym, subst, IsSome, is_some, refl, true≢false, Some, length}
+use Rattle.acl.proofs.Vocabulary.{if◌then◌else◌, option_map_or, same_user, leaders_with, leaders_of, row_of, table_of}
+use Rattle.acl.proofs.Vocabulary.{Row}
 use Rattle.acl.proofs.StandsForUsers.{StandsFor-Grouped}
 use Rattle.acl.proofs.lists.Lists.set_leader.Goals as goal
 

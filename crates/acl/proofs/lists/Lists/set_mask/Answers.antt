@@ -1,8 +1,4 @@
-use Rattle.std.proofs.Common.{◌∙◌, ap, Some, if◌then◌else◌}
-use Rattle.std.specs.Map.{lookup}
-use Rattle.acl_words.specs.BitSets.{with_bit}
-use Rattle.acl.specs.Table.{same_pair}
-use Rattle.acl.specs.Lists.{table_of}
+use Rattle.acl.proofs.Vocabulary.{◌∙◌, ap, Some, if◌then◌else◌, lookup, with_bit, same_pair, table_of}
 use Rattle.acl.proofs.StandsForUsers.{StandsFor-Masked}
 use Rattle.acl.proofs.lists.Lists.set_mask.Goals as goal
 

@@ -1,9 +1,5 @@
-use Rattle.std.proofs.Common.{◌∷◌, sym, subst}
-use Rattle.acl_words.specs.declared.act.Act.TheVariants.{Preset}
+use Rattle.acl.proofs.Vocabulary.{◌∷◌, sym, subst, Preset, Bits, StandsFor, table_of}
 use Rattle.acl_words.specs.declared.act.PresetKind.TheVariants as preset
-use Rattle.acl_words.specs.declared.bits.Bits.{Bits}
-use Rattle.acl.specs.Table.{StandsFor}
-use Rattle.acl.specs.Lists.{table_of}
 use Rattle.acl.proofs.StandsForWindows.{StandsFor-Preset-windows, StandsFor-Preset-commands}
 use Rattle.acl.proofs.lists.Lists.set_preset.Goals as goal
 

@@ -1,8 +1,4 @@
-use Rattle.std.proofs.Common.{◌≡◌, true, sym, ap, ◌∙◌, refl}
-use Rattle.std.proofs.lemmas.Bool.{and_parts, eq-eqb, eqb-true}
-use Rattle.cells.specs.declared.cell.Cell.{Cell}
-use Rattle.cells.specs.Marks.{codes_of}
-use Rattle.cells.specs.Rendition.{bits_of}
+use Rattle.cells.proofs.Vocabulary.{◌≡◌, true, sym, ap, ◌∙◌, refl, and_parts, eq-eqb, eqb-true, Cell, codes_of, bits_of}
 use Rattle.cells.proofs.Alike.{alike, same_marks, same_rendition}
 use Rattle.cells.proofs.cell.Cell.is_like.Goals as goal
 

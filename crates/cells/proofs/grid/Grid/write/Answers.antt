@@ -1,6 +1,4 @@
-use Rattle.std.proofs.Common.{◌+◌, ◌<◌, List, length, ◌∙◌, ap, subst, sym}
-use Rattle.cells.specs.declared.cell.Cell.{Cell}
-use Rattle.cells.specs.Line.{cells_from, spliced}
+use Rattle.cells.proofs.Vocabulary.{◌+◌, ◌<◌, List, length, ◌∙◌, ap, subst, sym, Cell, cells_from, spliced}
 use Rattle.cells.specs.Page.{IsGrid, line_at, page_from, edited}
 use Rattle.cells.proofs.Pages.{edit_is, IsGrid-page_from}
 use Rattle.cells.proofs.grid.Grid.write.Goals as goal

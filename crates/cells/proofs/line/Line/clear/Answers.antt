@@ -1,7 +1,5 @@
-use Rattle.std.proofs.Common.{List, drop, length, replicate, sym, ap, ◌∙◌, subst}
-use Rattle.std.proofs.lemmas.List.{take_at}
-use Rattle.cells.specs.declared.cell.Cell.{Cell}
-use Rattle.cells.specs.Line.{blank, ArePlainFrom}
+use Rattle.cells.proofs.Vocabulary.{List, drop, length, replicate, sym, ap, ◌∙◌, subst, take_at, Cell, blank}
+use Rattle.cells.proofs.Vocabulary.{ArePlainFrom}
 use Rattle.cells.proofs.OverPlain.{noted_blank}
 use Rattle.cells.proofs.line.Line.clear.Goals as goal
 

@@ -1,7 +1,5 @@
-use Rattle.std.proofs.Common.{◌≡◌, List, drop, false, length, replicate, ap, sym, ◌∙◌, subst, arith}
-use Rattle.std.proofs.lemmas.List.{take_at}
-use Rattle.cells.specs.declared.cell.Cell.{Cell}
-use Rattle.cells.specs.Line.{blank, plain, cells_spliced, narrow_cells, ArePlainFrom}
+use Rattle.cells.proofs.Vocabulary.{◌≡◌, List, drop, false, length, replicate, ap, sym, ◌∙◌, subst, arith, take_at}
+use Rattle.cells.proofs.Vocabulary.{Cell, blank, plain, cells_spliced, narrow_cells, ArePlainFrom}
 use Rattle.cells.proofs.OverPlain.{noted_run}
 use Rattle.cells.proofs.line.Line.clear_behind_run.Goals as goal
 

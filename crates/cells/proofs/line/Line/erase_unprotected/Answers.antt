@@ -1,6 +1,4 @@
-use Rattle.std.proofs.Common.{List, ◌∙◌, ap}
-use Rattle.cells.specs.declared.cell.Cell.{Cell}
-use Rattle.cells.specs.Line.{taken, unprotected_erased}
+use Rattle.cells.proofs.Vocabulary.{List, ◌∙◌, ap, Cell, taken, unprotected_erased}
 use Rattle.cells.proofs.Used.{IsUsed-stored, erased_behind}
 use Rattle.cells.proofs.OverPlain.{plain-stored, erased_plain}
 use Rattle.cells.proofs.line.Line.erase_unprotected.Goals as goal

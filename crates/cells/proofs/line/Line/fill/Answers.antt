@@ -1,5 +1,4 @@
-use Rattle.std.proofs.Common.{◌≡◌, ◌∙◌, length, replicate, rules, sym}
-use Rattle.std.proofs.lemmas.List.{take_at}
+use Rattle.cells.proofs.Vocabulary.{◌≡◌, ◌∙◌, length, replicate, rules, sym, take_at}
 use Rattle.cells.proofs.Used.{IsUsed-filled}
 use Rattle.cells.proofs.line.Line.fill.Goals as goal
 

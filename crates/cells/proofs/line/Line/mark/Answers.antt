@@ -1,7 +1,4 @@
-use Rattle.std.proofs.Common.{ap, ◌∙◌}
-use Rattle.std.proofs.lemmas.List.{get_or_default}
-use Rattle.cells.specs.declared.cell.Cell.{Cell}
-use Rattle.cells.specs.Line.{blank}
+use Rattle.cells.proofs.Vocabulary.{ap, ◌∙◌, get_or_default, Cell, blank}
 use Rattle.cells.proofs.Used.{IsUsed-set}
 use Rattle.cells.proofs.line.Line.mark.Goals as goal
 

@@ -1,5 +1,4 @@
-use Rattle.std.proofs.Common.{subst}
-use Rattle.cells.specs.Line.{ArePlainFrom}
+use Rattle.cells.proofs.Vocabulary.{subst, ArePlainFrom}
 use Rattle.cells.proofs.OverPlain.{blanks_plain}
 use Rattle.cells.proofs.line.Line.plain_from.Goals as goal
 

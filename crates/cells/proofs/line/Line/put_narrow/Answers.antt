@@ -1,6 +1,4 @@
-use Rattle.std.proofs.Common.{[], ◌∷◌, List, length, ◌∙◌, sym, ap, arith}
-use Rattle.cells.specs.declared.cell.Cell.{Cell}
-use Rattle.cells.specs.Line.{spliced}
+use Rattle.cells.proofs.Vocabulary.{[], ◌∷◌, List, length, ◌∙◌, sym, ap, arith, Cell, spliced}
 use Rattle.cells.proofs.OverPlain.{plain-stored, plain_one, plain_spliced}
 use Rattle.cells.proofs.Used.{IsUsed-spliced}
 use Rattle.cells.proofs.line.Line.put_narrow.Goals as goal

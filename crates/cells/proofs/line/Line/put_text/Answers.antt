@@ -1,11 +1,8 @@
-use Rattle.std.proofs.Common.{◌≡◌, ℕ, ◌+◌, ◌-◌, List, length, take, drop, false, ◌∙◌, ap, sym, subst, arith}
-use Rattle.std.proofs.lemmas.List.{length-take-le, take_at}
-use Rattle.charsets.specs.Text.{text}
-use Rattle.cells.specs.declared.cell.Cell.{Cell}
-use Rattle.cells.specs.Line.{cells_spliced, narrow_cells, plain, spliced, ArePlainFrom, IsPaired}
-use Rattle.cells.specs.Texts.{text_cells}
-use Rattle.cells.proofs.OverPlain.{first_over_plain, over_written, plain-stored, plain_spliced, plain_cells}
-use Rattle.cells.proofs.OverPlain.{put_paired, put_stands}
+use Rattle.cells.proofs.Vocabulary.{◌≡◌, ℕ, ◌+◌, ◌-◌, List, length, take, drop, false, ◌∙◌, ap, sym, subst, arith}
+use Rattle.cells.proofs.Vocabulary.{length-take-le, take_at, text, Cell, cells_spliced, narrow_cells, plain, spliced}
+use Rattle.cells.proofs.Vocabulary.{ArePlainFrom, IsPaired, text_cells}
+use Rattle.cells.proofs.OverPlain.{first_over_plain, over_written, plain-stored, plain_spliced, plain_cells, put_paired}
+use Rattle.cells.proofs.OverPlain.{put_stands}
 use Rattle.cells.proofs.Putting.{length-narrow_cells}
 use Rattle.cells.proofs.TextCells.{plain_puts, text_over_plain}
 use Rattle.cells.proofs.Used.{IsUsed-spliced}

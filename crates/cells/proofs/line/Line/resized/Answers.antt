@@ -1,6 +1,4 @@
-use Rattle.std.proofs.Common.{◌≡◌, min, List, length, take, sym, ap, ◌∙◌}
-use Rattle.cells.specs.declared.cell.Cell.{Cell}
-use Rattle.cells.specs.Resizing.{line_resized}
+use Rattle.cells.proofs.Vocabulary.{◌≡◌, min, List, length, take, sym, ap, ◌∙◌, Cell, line_resized}
 use Rattle.cells.proofs.Resizing.{resized_is}
 use Rattle.cells.proofs.line.Line.resized.Goals as goal
 

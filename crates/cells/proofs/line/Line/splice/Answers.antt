@@ -1,8 +1,5 @@
-use Rattle.std.proofs.Common.{◌≡◌, ◌<◌, ◌≤◌, List, length, replicate, ◌∙◌, ap, sym, subst, arith, ⊎_elim}
-use Rattle.std.proofs.lemmas.List.{length-replicate}
-use Rattle.std.proofs.lemmas.Bool.{cases_lt}
-use Rattle.cells.specs.declared.cell.Cell.{Cell}
-use Rattle.cells.specs.Line.{blank, taken, spliced, IsUsed}
+use Rattle.cells.proofs.Vocabulary.{◌≡◌, ◌<◌, ◌≤◌, List, length, replicate, ◌∙◌, ap, sym, subst, arith, ⊎_elim}
+use Rattle.cells.proofs.Vocabulary.{length-replicate, cases_lt, Cell, blank, taken, spliced, IsUsed}
 use Rattle.cells.proofs.Used.{IsUsed-stored, spliced_behind}
 use Rattle.cells.proofs.OverPlain.{plain-stored, plain_spliced, plain_blanks}
 use Rattle.cells.proofs.UsedSplices.{all_blank_from, blanks_at}

@@ -1,5 +1,4 @@
-use Rattle.std.proofs.Common.{◌≡◌, ◌+◌, sym, ap, ◌∙◌, arith, bit_and}
-use Rattle.cells.specs.Rendition.{bits_of, rendition_of, rendition_with}
+use Rattle.cells.proofs.Vocabulary.{◌≡◌, ◌+◌, sym, ap, ◌∙◌, arith, bit_and, bits_of, rendition_of, rendition_with}
 use Rattle.cells.proofs.Packed.{few, rendition_back}
 use Rattle.cells.proofs.rendition.Rendition.with.Goals as goal
 

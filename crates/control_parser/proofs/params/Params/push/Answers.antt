@@ -1,5 +1,4 @@
-use Rattle.std.proofs.Common.{◌≡◌, length, take, ap, arith}
-use Rattle.control_parser.specs.Arrays.{length-front}
+use Rattle.control_parser.proofs.Vocabulary.{◌≡◌, length, take, ap, arith, length-front}
 use Rattle.control_parser.proofs.Arrays.{front_pushed}
 use Rattle.control_parser.proofs.params.Params.push.Goals as goal
 

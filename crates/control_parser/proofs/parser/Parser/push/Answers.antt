@@ -1,6 +1,4 @@
-use Rattle.std.proofs.Common.{◌≡◌, ◌++◌, ap, sym, ◌∙◌, option_to_list, rules}
-use Rattle.control_parser.specs.Grammar.{functions}
-use Rattle.control_parser.specs.Steps.{step_of}
+use Rattle.control_parser.proofs.Vocabulary.{◌≡◌, ◌++◌, ap, sym, ◌∙◌, option_to_list, rules, functions, step_of}
 use Rattle.control_parser.proofs.Keeping.{stands-push, gives-push, next-push}
 use Rattle.control_parser.proofs.parser.Parser.push.Goals as goal
 

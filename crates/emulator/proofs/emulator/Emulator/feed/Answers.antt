@@ -1,6 +1,4 @@
-use Rattle.std.proofs.Common.{refl, sym, subst}
-use Rattle.charsets.specs.Units.{unit_list}
-use Rattle.emulator.specs.Standing.{Parts, StandsFor}
+use Rattle.emulator.proofs.Vocabulary.{refl, sym, subst, unit_list, Parts, StandsFor}
 use Rattle.emulator.proofs.Feeding.{byte-read}
 use Rattle.emulator.proofs.emulator.Emulator.feed.Goals as goal
 

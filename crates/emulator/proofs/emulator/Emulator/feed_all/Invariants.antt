@@ -1,6 +1,5 @@
-use Rattle.std.proofs.Common.{◌+◌, ◌-◌, ◌*◌, ◌≤◌, length, take, vec_len, vec_capacity}
-use Rattle.terminal_model.specs.Reading.{Terminal}
-use Rattle.emulator.specs.Standing.{StandsFor, HasRead}
+use Rattle.emulator.proofs.Vocabulary.{◌+◌, ◌-◌, ◌*◌, ◌≤◌, length, take, vec_len, vec_capacity, Terminal, StandsFor}
+use Rattle.emulator.proofs.Vocabulary.{HasRead}
 use Rattle.emulator.proofs.emulator.Emulator.feed_all.Given as goal
 
 abbrev pub invariant-bytes : goal.invariant-bytes

@@ -1,6 +1,4 @@
-use Rattle.std.proofs.Common.{◌≡◌, ◌++◌, ℕ, List, take, ap, ◌∙◌, subst, arith}
-use Rattle.terminal_model.specs.Reading.{reads}
-use Rattle.emulator.specs.Standing.{HasRead}
+use Rattle.emulator.proofs.Vocabulary.{◌≡◌, ◌++◌, ℕ, List, take, ap, ◌∙◌, subst, arith, reads, HasRead}
 use Rattle.emulator.proofs.Feeding.{byte-has-read}
 use Rattle.emulator.proofs.emulator.Emulator.feed_some.Goals as goal
 

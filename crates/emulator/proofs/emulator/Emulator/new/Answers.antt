@@ -1,5 +1,4 @@
-use Rattle.terminal_model.specs.Screen.{starting}
-use Rattle.terminal_model.proofs.Sound.{IsSound-starting}
+use Rattle.emulator.proofs.Vocabulary.{starting, IsSound-starting}
 use Rattle.emulator.proofs.Feeding.{stands-ready}
 use Rattle.emulator.proofs.emulator.Emulator.new.Goals as goal
 

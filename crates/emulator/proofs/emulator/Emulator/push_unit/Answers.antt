@@ -1,5 +1,4 @@
-use Rattle.std.proofs.Common.{◌∷◌, [], refl, sym, ◌∙◌, subst, append-nil}
-use Rattle.emulator.specs.Standing.{Parts, StandsWithin}
+use Rattle.emulator.proofs.Vocabulary.{◌∷◌, [], refl, sym, ◌∙◌, subst, append-nil, Parts, StandsWithin}
 use Rattle.emulator.proofs.Feeding.{unit-read}
 use Rattle.emulator.proofs.emulator.Emulator.push_unit.Goals as goal
 

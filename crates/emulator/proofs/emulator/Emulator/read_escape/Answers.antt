@@ -1,9 +1,5 @@
-use Rattle.std.proofs.Common.{◌+◌, [], List, ℕ, take, refl, ap, arith}
-use Rattle.charsets.specs.declared.decoder.Coding.TheVariants.{Utf8}
-use Rattle.control_parser.specs.declared.parser.Func.{Func}
-use Rattle.control_parser.specs.declared.parser.Func.TheVariants.{Csi}
+use Rattle.emulator.proofs.Vocabulary.{◌+◌, [], List, ℕ, take, refl, ap, arith, Utf8, Func, Csi, effect-coding}
 use Rattle.control_parser.proofs.Readings.{reads-spelled}
-use Rattle.terminal_model.proofs.Codings.{effect-coding}
 use Rattle.vt_screen.specs.Stored.{Stored}
 use Rattle.emulator.proofs.Wholes.{one-taken, quiet-taken, front-two, front-more, nothing-whole}
 use Rattle.emulator.proofs.emulator.Emulator.read_escape.Goals as goal

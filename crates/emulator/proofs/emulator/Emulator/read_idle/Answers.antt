@@ -1,8 +1,5 @@
-use Rattle.std.proofs.Common.{rules, ◌≡◌, ◌+◌, ◌-◌, ℕ, List, length, take, drop, ◌∙◌, subst, arith}
-use Rattle.std.proofs.lemmas.List.{length-take}
-use Rattle.charsets.specs.declared.decoder.Coding.TheVariants.{Utf8}
-use Rattle.charsets.specs.Text.{text}
-use Rattle.emulator.specs.Standing.{TakesWhole}
+use Rattle.emulator.proofs.Vocabulary.{rules, ◌≡◌, ◌+◌, ◌-◌, ℕ, List, length, take, drop, ◌∙◌, subst, arith}
+use Rattle.emulator.proofs.Vocabulary.{length-take, Utf8, text, TakesWhole}
 use Rattle.emulator.proofs.Wholes.{nothing-whole, both-taken, still-between, quiet-taken, quiet-prints, prints-are}
 use Rattle.emulator.proofs.Wholes.{plain-reads}
 use Rattle.emulator.proofs.emulator.Emulator.read_idle.Goals as goal

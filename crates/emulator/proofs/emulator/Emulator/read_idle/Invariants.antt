@@ -1,6 +1,4 @@
-use Rattle.std.proofs.Common.{◌-◌, length}
-use Rattle.charsets.specs.declared.decoder.Coding.TheVariants.{Utf8}
-use Rattle.emulator.specs.Standing.{TakesWhole, IsBetween}
+use Rattle.emulator.proofs.Vocabulary.{◌-◌, length, Utf8, TakesWhole, IsBetween}
 use Rattle.emulator.proofs.emulator.Emulator.read_idle.Given as goal
 
 abbrev pub invariant-loop-taken : goal.invariant-loop-taken

@@ -1,10 +1,5 @@
-use Rattle.std.proofs.Common.{◌∷◌, [], ◌++◌, List, ℕ, get_or, take, ◌≡◌, refl, ap, ◌∙◌, arith}
-use Rattle.std.proofs.lemmas.List.{take_more}
-use Rattle.charsets.specs.declared.decoder.Coding.TheVariants.{Utf8}
-use Rattle.control_parser.specs.declared.parser.Func.TheVariants.{Esc}
-use Rattle.control_parser.proofs.Spelled.{spelled_reads}
-use Rattle.terminal_model.proofs.Codings.{effect-coding, escape-coding}
-use Rattle.emulator.specs.Standing.{TakesWhole}
+use Rattle.emulator.proofs.Vocabulary.{◌∷◌, [], ◌++◌, List, ℕ, get_or, take, ◌≡◌, refl, ap, ◌∙◌, arith, take_more, Utf8}
+use Rattle.emulator.proofs.Vocabulary.{Esc, spelled_reads, effect-coding, escape-coding, TakesWhole}
 use Rattle.emulator.proofs.Wholes.{one-taken, front-two, nothing-whole}
 use Rattle.emulator.proofs.emulator.Emulator.read_other_escape.Goals as goal
 

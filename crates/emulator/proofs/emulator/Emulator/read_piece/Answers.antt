@@ -1,20 +1,9 @@
-use Rattle.std.proofs.Common.{◌≡◌, ◌∷◌, [], true, ℕ, List, ◌-◌, ◌+◌, ◌<◌, length, take, drop, get_or, refl, sym}
-use Rattle.std.proofs.Common.{ap, ◌∙◌}
-use Rattle.std.proofs.Common.{subst, arith, map}
-use Rattle.std.proofs.lemmas.List.{take_more}
-use Rattle.std.proofs.lemmas.Bool.Decides.{nat_tests}
-use Rattle.charsets.specs.declared.decoder.Coding.TheVariants.{Utf8}
-use Rattle.charsets.specs.Text.{text}
-use Rattle.charsets.specs.Units.{is_plain}
-use Rattle.control_parser.specs.declared.parser.Func.{Func}
-use Rattle.control_parser.specs.declared.parser.Func.TheVariants.{Print, Control}
+use Rattle.emulator.proofs.Vocabulary.{◌≡◌, ◌∷◌, [], true, ℕ, List, ◌-◌, ◌+◌, ◌<◌, length, take, drop, get_or, refl}
+use Rattle.emulator.proofs.Vocabulary.{sym, ap, ◌∙◌, subst, arith, map, take_more, nat_tests, Utf8, text, is_plain}
+use Rattle.emulator.proofs.Vocabulary.{Func, Print, Control, ReadsAs, spelled_reads, effect-coding, Parts, TakesWhole}
 use Rattle.control_parser.specs.Grammar.{is_control}
-use Rattle.control_parser.specs.Spelling.{ReadsAs}
 use Rattle.control_parser.proofs.Readings.{reads-plain}
-use Rattle.control_parser.proofs.Spelled.{spelled_reads}
 use Rattle.terminal_model.specs.Table.{effect}
-use Rattle.terminal_model.proofs.Codings.{effect-coding}
-use Rattle.emulator.specs.Standing.{Parts, TakesWhole}
 use Rattle.emulator.proofs.Wholes.{one-taken, quiet-taken, quiet-prints, quiet-line, prints-are, text-reads, line-reads}
 use Rattle.emulator.proofs.Wholes.{front-two, front-more, nothing-whole}
 use Rattle.emulator.proofs.emulator.Emulator.read_piece.Goals as goal

@@ -1,5 +1,4 @@
-use Rattle.std.proofs.Common.{refl, sym, subst}
-use Rattle.emulator.specs.Standing.{Parts, StandsFor}
+use Rattle.emulator.proofs.Vocabulary.{refl, sym, subst, Parts, StandsFor}
 use Rattle.emulator.proofs.Feeding.{stands-resized}
 use Rattle.emulator.proofs.emulator.Emulator.resized.Goals as goal
 

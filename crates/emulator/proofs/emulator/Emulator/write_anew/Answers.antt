@@ -1,8 +1,5 @@
-use Rattle.std.proofs.Common.{[], sym, ap, ◌∙◌, subst, arith}
-use Rattle.charsets.specs.declared.decoder.Coding.{Coding}
-use Rattle.terminal_model.specs.Reading.{Terminal, ready, reads}
-use Rattle.terminal_model.specs.Screen.{Screen}
-use Rattle.emulator.specs.Standing.{Parts, StandsFor}
+use Rattle.emulator.proofs.Vocabulary.{[], sym, ap, ◌∙◌, subst, arith, Coding, Terminal, ready, reads, Screen, Parts}
+use Rattle.emulator.proofs.Vocabulary.{StandsFor}
 use Rattle.emulator.proofs.Feeding.{reads-more, stands-ready}
 use Rattle.emulator.proofs.emulator.Emulator.write_anew.Goals as goal
 

@@ -1,6 +1,4 @@
-use Rattle.std.proofs.Common.{take}
-use Rattle.terminal_model.specs.Reading.{Terminal, ready, reads}
-use Rattle.emulator.specs.Standing.{StandsFor}
+use Rattle.emulator.proofs.Vocabulary.{take, Terminal, ready, reads, StandsFor}
 use Rattle.emulator.proofs.emulator.Emulator.write_anew.Given as goal
 
 abbrev pub invariant-bytes : goal.invariant-bytes

@@ -1,6 +1,4 @@
-use Rattle.std.proofs.Common.{◌≡◌, ◌<◌, length, sym, ap, ◌∙◌, arith}
-use Rattle.cells.specs.Page.{line_at}
-use Rattle.terminal_model.specs.Screen.{Page}
+use Rattle.emulator.proofs.Vocabulary.{◌≡◌, ◌<◌, length, sym, ap, ◌∙◌, arith, line_at, Page}
 use Rattle.emulator.proofs.Backs.{length-moved, moved-above, kept-line}
 use Rattle.emulator.proofs.moved_page.MovedPage.line.Goals as goal
 

@@ -1,10 +1,5 @@
-use Rattle.std.proofs.Common.{◌<◌, arith, subst, sym}
-use Rattle.cells.specs.Line.{blank}
-use Rattle.control_parser.specs.Spelling.{spelling}
-use Rattle.redraw.specs.declared.pen.Pen.{Pen}
-use Rattle.redraw.specs.declared.command.Command.TheVariants.{EraseCells}
-use Rattle.redraw.specs.Commands.{func_of}
-use Rattle.redraw.specs.Drawing.{Drawing, Takes, Writes}
+use Rattle.redraw.proofs.Vocabulary.{◌<◌, arith, subst, sym, blank, spelling, Pen, EraseCells, func_of, Drawing, Takes}
+use Rattle.redraw.proofs.Vocabulary.{Writes}
 use Rattle.redraw.proofs.Screens.{at_place}
 use Rattle.redraw.proofs.Erasing.{erase_leads}
 use Rattle.redraw.proofs.Takings.{takes_bytes}

@@ -1,7 +1,4 @@
-use Rattle.std.proofs.Common.{refl, subst}
-use Rattle.control_parser.specs.Spelling.{spelling}
-use Rattle.redraw.specs.Commands.{func_of}
-use Rattle.redraw.specs.Drawing.{Drawing, Keeps, IsWay}
+use Rattle.redraw.proofs.Vocabulary.{refl, subst, spelling, func_of, Drawing, Keeps, IsWay}
 use Rattle.redraw.proofs.Screens.{way_leads, at_place}
 use Rattle.redraw.proofs.Takings.{takes_nothing, takes_bytes}
 use Rattle.redraw.proofs.pen.Pen.move_to.Goals as goal

@@ -1,5 +1,4 @@
-use Rattle.std.proofs.Common.{ℕ, ◌<◌, arith}
-use Rattle.redraw.specs.Drawing.{width_of}
+use Rattle.redraw.proofs.Vocabulary.{ℕ, ◌<◌, arith, width_of}
 use Rattle.redraw.proofs.Inking.{put_takes, width_some}
 use Rattle.redraw.proofs.pen.Pen.put_cell.Goals as goal
 

@@ -1,8 +1,4 @@
-use Rattle.std.proofs.Common.{Some, refl}
-use Rattle.control_parser.specs.Spelling.{spelling}
-use Rattle.redraw.specs.declared.command.Command.TheVariants.{Render}
-use Rattle.redraw.specs.Commands.{func_of}
-use Rattle.redraw.specs.Drawing.{Drawing, Keeps}
+use Rattle.redraw.proofs.Vocabulary.{Some, refl, spelling, Render, func_of, Drawing, Keeps}
 use Rattle.redraw.proofs.Screens.{render_leads}
 use Rattle.redraw.proofs.Takings.{takes_nothing, takes_bytes}
 use Rattle.redraw.proofs.pen.Pen.render.Goals as goal

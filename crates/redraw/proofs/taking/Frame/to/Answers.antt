@@ -1,9 +1,5 @@
-use Rattle.std.proofs.Common.{◌≡◌, refl, subst, sym, []}
-use Rattle.std.proofs.lemmas.Option.{MatchOption-at_some}
-use Rattle.terminal_model.specs.Shows.{View, NeedsDraw}
-use Rattle.view.specs.Drawable.{IsDrawable}
-use Rattle.redraw.specs.Shadow.{Knowledge}
-use Rattle.redraw.specs.Frames.{CanBeShown, DrawsBytes, IsFrameFor}
+use Rattle.redraw.proofs.Vocabulary.{◌≡◌, refl, subst, sym, [], MatchOption-at_some, View, NeedsDraw, IsDrawable}
+use Rattle.redraw.proofs.Vocabulary.{Knowledge, CanBeShown, DrawsBytes, IsFrameFor}
 use Rattle.redraw.proofs.Ends.{redraws}
 use Rattle.redraw.proofs.taking.Frame.to.Goals as goal
 

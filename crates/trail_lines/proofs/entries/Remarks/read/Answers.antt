@@ -1,8 +1,4 @@
-use Rattle.std.proofs.Common.{◌≡◌, ◌∷◌, sym, ◌∙◌, ap}
-use Rattle.std.specs.Prelude.{option_copied}
-use Rattle.line_fields.specs.Cutting.{words_behind}
-use Rattle.line_fields.specs.Parts.{blank}
-use Rattle.trail_lines.specs.Entries.{notes_of, noted}
+use Rattle.trail_lines.proofs.Vocabulary.{◌≡◌, ◌∷◌, sym, ◌∙◌, ap, option_copied, words_behind, blank, notes_of, noted}
 use Rattle.trail_lines.proofs.Reading.{no_note, one_note, all_notes}
 use Rattle.trail_lines.proofs.entries.Remarks.read.Goals as goal
 use Rattle.trail_lines.proofs.entries.Remarks.read.Goals.{After-next_word}

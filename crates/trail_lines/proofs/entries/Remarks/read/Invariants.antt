@@ -1,8 +1,4 @@
-use Rattle.std.proofs.Common.{◌≡◌, [], length}
-use Rattle.std.specs.Prelude.{option_copied}
-use Rattle.line_fields.specs.Cutting.{words_behind}
-use Rattle.line_fields.specs.Parts.{blank}
-use Rattle.trail_lines.specs.Entries.{notes_of, noted}
+use Rattle.trail_lines.proofs.Vocabulary.{◌≡◌, [], length, option_copied, words_behind, blank, notes_of, noted}
 use Rattle.trail_lines.proofs.entries.Remarks.read.Given as goal
 
 abbrev pub invariant-notes : goal.invariant-notes

@@ -1,7 +1,4 @@
-use Rattle.std.proofs.Common.{◌∙◌, [], ap}
-use Rattle.writelock.specs.Holding.{clients_after}
-use Rattle.trail_rights.specs.Marks.{marked_on}
-use Rattle.trail_rights.specs.Keeping.{tells, told}
+use Rattle.trail_rights.proofs.Vocabulary.{◌∙◌, [], ap, clients_after, marked_on, tells, told}
 use Rattle.trail_rights.proofs.Kept.{kept_more}
 use Rattle.trail_rights.proofs.acts.MarkedActs.add.Goals as goal
 

@@ -1,8 +1,5 @@
-use Rattle.std.proofs.Common.{◌∙◌, ◌∷◌, [], refl, ap, sym, subst, slice_index_or, arith}
-use Rattle.acl.specs.declared.act.Act.TheVariants.{Known}
-use Rattle.acl.proofs.InPlace.{drop-next, drop-past}
-use Rattle.trail_rights.specs.Marks.{marked_by}
-use Rattle.trail_rights.specs.Keeping.{HasKept}
+use Rattle.trail_rights.proofs.Vocabulary.{◌∙◌, ◌∷◌, [], refl, ap, sym, subst, slice_index_or, arith, Known, drop-next}
+use Rattle.trail_rights.proofs.Vocabulary.{drop-past, marked_by, HasKept}
 use Rattle.trail_rights.proofs.acts.MarkedActs.add_all.Goals as goal
 
 pub loop-act-init : goal.loop-act-init

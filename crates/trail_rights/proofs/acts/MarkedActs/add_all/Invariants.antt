@@ -1,6 +1,4 @@
-use Rattle.std.proofs.Common.{◌≡◌, drop}
-use Rattle.trail_rights.specs.Marks.{Marked, marked_by}
-use Rattle.trail_rights.specs.Keeping.{HasKept}
+use Rattle.trail_rights.proofs.Vocabulary.{◌≡◌, drop, Marked, marked_by, HasKept}
 use Rattle.trail_rights.proofs.acts.MarkedActs.add_all.Given as goal
 
 -- the acts that were followed, and those that are left

@@ -1,8 +1,4 @@
-use Rattle.std.proofs.Common.{◌∙◌, ap, subst}
-use Rattle.writelock.specs.Holding.{clients_of}
-use Rattle.trail_lines.specs.Entries.{said}
-use Rattle.trail_rights.specs.Marks.{marked_by, mark_among, acts_in}
-use Rattle.trail_rights.specs.Keeping.{HasKept}
+use Rattle.trail_rights.proofs.Vocabulary.{◌∙◌, ap, subst, clients_of, said, marked_by, mark_among, acts_in, HasKept}
 use Rattle.trail_rights.proofs.acts.MarkedActs.take.Goals as goal
 
 pub returns-clause-keeps : goal.returns-clause-keeps

@@ -1,9 +1,5 @@
-use Rattle.std.proofs.Common.{◌∙◌, ◌∷◌, ap, ap₂, sym, subst}
-use Rattle.std.specs.Prelude.{map}
-use Rattle.std.specs.List.{AllByRecursion}
-use Rattle.trail_rights.specs.Deciding.{HasDecided, sought_by}
-use Rattle.trail_rights.specs.Windows.{windows_after}
-use Rattle.trail_rights.specs.Settling.{HasSettled, setting_by}
+use Rattle.trail_rights.proofs.Vocabulary.{◌∙◌, ◌∷◌, ap, ap₂, sym, subst, map, AllByRecursion, HasDecided, sought_by}
+use Rattle.trail_rights.proofs.Vocabulary.{windows_after, HasSettled, setting_by}
 use Rattle.trail_rights.proofs.Seen.{all_decided, settings_stay, sought_stays}
 use Rattle.trail_rights.proofs.Settled.{all_settled}
 use Rattle.trail_rights.proofs.sight.Sight.follow.Goals as goal

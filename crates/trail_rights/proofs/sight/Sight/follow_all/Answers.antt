@@ -1,10 +1,5 @@
-use Rattle.std.proofs.Common.{◌∙◌, ◌∷◌, [], None, refl, ap, sym, subst, slice_index_or, arith}
-use Rattle.acl.specs.declared.act.Act.{Act}
-use Rattle.acl.specs.declared.act.Act.TheVariants.{Known}
-use Rattle.acl.proofs.InPlace.{drop-next, drop-past}
-use Rattle.trail_rights.specs.declared.acts.Mark.{Mark}
-use Rattle.trail_rights.specs.Marks.{marked_on}
-use Rattle.trail_rights.specs.Seeing.{HasSeen}
+use Rattle.trail_rights.proofs.Vocabulary.{◌∙◌, ◌∷◌, [], None, refl, ap, sym, subst, slice_index_or, arith, Act, Known}
+use Rattle.trail_rights.proofs.Vocabulary.{drop-next, drop-past, Mark, marked_on, HasSeen}
 use Rattle.trail_rights.proofs.sight.Sight.follow_all.Goals as goal
 
 abbrev blank : Mark × Act

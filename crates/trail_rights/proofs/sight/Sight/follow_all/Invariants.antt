@@ -1,7 +1,4 @@
-use Rattle.std.proofs.Common.{◌≡◌, drop}
-use Rattle.acl.specs.declared.user_id.UserId.{UserId}
-use Rattle.trail_rights.specs.Marks.{Marked, marked_on}
-use Rattle.trail_rights.specs.Seeing.{HasSeen, sought}
+use Rattle.trail_rights.proofs.Vocabulary.{◌≡◌, drop, UserId, Marked, marked_on, HasSeen, sought}
 use Rattle.trail_rights.proofs.sight.Sight.follow_all.Given as goal
 
 -- the acts that were followed, and those that are left; and what is looked for

@@ -1,6 +1,4 @@
-use Rattle.std.proofs.Common.{[], subst}
-use Rattle.hub.specs.Following.{StandsAfter}
-use Rattle.trail_rights.specs.Marks.{entries_in}
+use Rattle.trail_rights.proofs.Vocabulary.{[], subst, StandsAfter, entries_in}
 use Rattle.trail_rights.proofs.Seen.{acts_are}
 use Rattle.trail_rights.proofs.watch.Watch.replay.Goals as goal
 

@@ -1,8 +1,5 @@
-use Rattle.std.proofs.Common.{◌≡◌, ◌∙◌, [], true, ap, sym, subst}
-use Rattle.std.specs.List.{list_all}
-use Rattle.trail_rights.specs.Keeping.{is_asked}
-use Rattle.trail_rights.specs.Marks.{marked_after, marked_on}
-use Rattle.trail_rights.specs.Seeing.{HasSeen}
+use Rattle.trail_rights.proofs.Vocabulary.{◌≡◌, ◌∙◌, [], true, ap, sym, subst, list_all, is_asked, marked_after}
+use Rattle.trail_rights.proofs.Vocabulary.{marked_on, HasSeen}
 use Rattle.trail_rights.proofs.Kept.{seen_whole}
 use Rattle.trail_rights.proofs.watch.Watch.sight.Goals as goal
 

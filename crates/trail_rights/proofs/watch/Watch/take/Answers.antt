@@ -1,8 +1,4 @@
-use Rattle.std.proofs.Common.{[], sym, subst}
-use Rattle.trail_lines.specs.Entries.{said}
-use Rattle.trail_lines.specs.Reading.{HasRead}
-use Rattle.trail_rights.specs.Marks.{entries_in, marked_after}
-use Rattle.trail_rights.specs.Keeping.{HasKept}
+use Rattle.trail_rights.proofs.Vocabulary.{[], sym, subst, said, HasRead, entries_in, marked_after, HasKept}
 use Rattle.trail_rights.proofs.Seen.{entries_more, marked_more}
 use Rattle.trail_rights.proofs.watch.Watch.take.Goals as goal
 

@@ -1,6 +1,4 @@
-use Rattle.std.proofs.Common.{◌∷◌, ◌∙◌, Bool, sym, subst, if◌then◌else◌}
-use Rattle.hub.specs.Following.{StandsAfter}
-use Rattle.trail_setup.specs.Alone.{alone}
+use Rattle.trail_setup.proofs.Vocabulary.{◌∷◌, ◌∙◌, Bool, sym, subst, if◌then◌else◌, StandsAfter, alone}
 use Rattle.trail_setup.proofs.Alike.{follows_alone}
 use Rattle.trail_setup.proofs.entries.Entries.follow.Goals as goal
 

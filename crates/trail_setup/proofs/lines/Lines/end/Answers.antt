@@ -1,5 +1,4 @@
-use Rattle.std.proofs.Common.{◌≡◌, ◌∙◌, ℕ, List, [], ◌∷◌, ◌++◌, sym, ap, subst, rules}
-use Rattle.trail_setup.specs.Lines.{PutsLines, kind_of}
+use Rattle.trail_setup.proofs.Vocabulary.{◌≡◌, ◌∙◌, ℕ, List, [], ◌∷◌, ◌++◌, sym, ap, subst, rules, PutsLines, kind_of}
 use Rattle.trail_setup.proofs.Filling.{ended, three}
 use Rattle.trail_setup.proofs.lines.Lines.end.Goals as goal
 

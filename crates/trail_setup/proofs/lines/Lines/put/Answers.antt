@@ -1,8 +1,8 @@
-use Rattle.std.proofs.Common.{◌≡◌, refl}
-use Rattle.trail_setup.specs.Lines.{HoldWords, kind_of}
+use Rattle.trail_setup.proofs.Vocabulary.{◌≡◌, refl, HoldWords, kind_of}
 use Rattle.trail_setup.proofs.Filling.{pushed}
 use Rattle.trail_setup.proofs.lines.Lines.put.Goals as goal
-use Rattle.trail_setup.proofs.lines.Lines.put.Goals.{then-saturating_add-ge-LONGEST+in_ok-end, else-saturating_add-ge-LONGEST}
+use Rattle.trail_setup.proofs.lines.Lines.put.Goals.{then-saturating_add-ge-LONGEST+in_ok-end}
+use Rattle.trail_setup.proofs.lines.Lines.put.Goals.{else-saturating_add-ge-LONGEST}
 
 pub returns-clause-holds : goal.returns-clause-holds
 returns-clause-holds c = λ start words h.

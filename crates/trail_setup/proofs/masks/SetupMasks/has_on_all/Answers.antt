@@ -1,9 +1,5 @@
-use Rattle.std.proofs.Common.{◌≡◌, ◌∙◌, ℕ, List, true, refl, sym, subst, drop}
-use Rattle.std.specs.List.{AllByRecursion, list_all}
-use Rattle.acl.specs.declared.user_id.UserId.{UserId}
-use Rattle.acl.specs.History.{is_open}
-use Rattle.trail_rights.proofs.Stepping.{passes, stops}
-use Rattle.trail_setup.specs.Masks.{has_if_back, has_on_all, known_in}
+use Rattle.trail_setup.proofs.Vocabulary.{◌≡◌, ◌∙◌, ℕ, List, true, refl, sym, subst, drop, AllByRecursion, list_all}
+use Rattle.trail_setup.proofs.Vocabulary.{UserId, is_open, passes, stops, has_if_back, has_on_all, known_in}
 use Rattle.trail_setup.proofs.Putting.{all_past, nth}
 use Rattle.trail_setup.proofs.masks.SetupMasks.has_on_all.Goals as goal
 

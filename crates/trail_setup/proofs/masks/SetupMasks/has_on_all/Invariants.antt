@@ -1,9 +1,5 @@
-use Rattle.std.proofs.Common.{◌≡◌, drop}
-use Rattle.std.specs.List.{list_all}
-use Rattle.acl.specs.declared.leaders.Edition.{Edition}
-use Rattle.acl.specs.declared.user_id.UserId.{UserId}
-use Rattle.acl.specs.History.{History}
-use Rattle.trail_setup.specs.Masks.{Stands, has_if_back, has_on_all, known_in}
+use Rattle.trail_setup.proofs.Vocabulary.{◌≡◌, drop, list_all, Edition, UserId, History, Stands, has_if_back}
+use Rattle.trail_setup.proofs.Vocabulary.{has_on_all, known_in}
 use Rattle.trail_setup.proofs.masks.SetupMasks.has_on_all.Given as goal
 
 -- those so far passed

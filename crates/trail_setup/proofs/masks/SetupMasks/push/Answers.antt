@@ -1,10 +1,5 @@
-use Rattle.std.proofs.Common.{List, subst}
-use Rattle.std.specs.List.{flat_map}
-use Rattle.std.proofs.lemmas.List.{take_more}
-use Rattle.acl.specs.declared.user_id.UserId.{UserId}
-use Rattle.trail_rights.proofs.Stepping.{take_past}
-use Rattle.trail_setup.specs.Giving.{PutsAll}
-use Rattle.trail_setup.specs.Masks.{known_in, parts_by}
+use Rattle.trail_setup.proofs.Vocabulary.{List, subst, flat_map, take_more, UserId, take_past, PutsAll, known_in}
+use Rattle.trail_setup.proofs.Vocabulary.{parts_by}
 use Rattle.trail_setup.proofs.Putting.{flat_next}
 use Rattle.trail_setup.proofs.masks.SetupMasks.push.Goals as goal
 

@@ -1,10 +1,4 @@
-use Rattle.std.proofs.Common.{take}
-use Rattle.std.specs.List.{flat_map}
-use Rattle.acl.specs.declared.leaders.Edition.{Edition}
-use Rattle.acl.specs.declared.user_id.UserId.{UserId}
-use Rattle.acl.specs.History.{History}
-use Rattle.trail_setup.specs.Giving.{PutsAll}
-use Rattle.trail_setup.specs.Masks.{Stands, known_in, parts_by}
+use Rattle.trail_setup.proofs.Vocabulary.{take, flat_map, Edition, UserId, History, PutsAll, Stands, known_in, parts_by}
 use Rattle.trail_setup.proofs.masks.SetupMasks.push.Given as goal
 
 abbrev pub invariant-loop-by : goal.invariant-loop-by

@@ -1,7 +1,6 @@
-use Rattle.std.proofs.Common.{◌≡◌, ◌∙◌, ◌∷◌, [], Bool, true, false, ap, sym, subst, if◌then◌else◌}
-use Rattle.std.specs.Prelude.{OnOk}
-use Rattle.trail_setup.specs.Giving.{Part, PutsAll}
-use Rattle.trail_setup.specs.Masks.{are_any, is_first, is_lent, known_in, mask_kind, other_parts, owner_head, words_of}
+use Rattle.trail_setup.proofs.Vocabulary.{◌≡◌, ◌∙◌, ◌∷◌, [], Bool, true, false, ap, sym, subst, if◌then◌else◌, OnOk}
+use Rattle.trail_setup.proofs.Vocabulary.{Part, PutsAll, are_any, is_first, is_lent, known_in, mask_kind, other_parts}
+use Rattle.trail_setup.proofs.Vocabulary.{owner_head, words_of}
 use Rattle.trail_setup.proofs.Putting.{one_put}
 use Rattle.trail_setup.proofs.masks.SetupMasks.push_by.Goals as goal
 

@@ -1,10 +1,6 @@
-use Rattle.std.proofs.Common.{◌∙◌, ◌++◌, [], Bool, List, ap, sym, subst, take, slice_index_or}
-use Rattle.std.specs.Prelude.{OnOk, Option}
-use Rattle.std.specs.List.{flat_map}
-use Rattle.std.proofs.lemmas.List.{take_more}
-use Rattle.trail_rights.proofs.Stepping.{joins_next, take_past}
-use Rattle.trail_setup.specs.Lines.{HoldWords, Kind, PutsLines, kind_of}
-use Rattle.trail_setup.specs.Masks.{known_in, mask_kind, word_of, words_in, words_of}
+use Rattle.trail_setup.proofs.Vocabulary.{◌∙◌, ◌++◌, [], Bool, List, ap, sym, subst, take, slice_index_or, OnOk, Option}
+use Rattle.trail_setup.proofs.Vocabulary.{flat_map, take_more, joins_next, take_past, HoldWords, Kind, PutsLines}
+use Rattle.trail_setup.proofs.Vocabulary.{kind_of, known_in, mask_kind, word_of, words_in, words_of}
 use Rattle.trail_setup.proofs.Putting.{rewritten}
 use Rattle.trail_setup.proofs.masks.SetupMasks.push_of.Goals as goal
 

@@ -1,10 +1,5 @@
-use Rattle.std.proofs.Common.{◌≡◌, take}
-use Rattle.std.specs.List.{flat_map}
-use Rattle.acl.specs.declared.leaders.Edition.{Edition}
-use Rattle.acl.specs.declared.user_id.UserId.{UserId}
-use Rattle.acl.specs.History.{History}
-use Rattle.trail_setup.specs.Lines.{HoldWords, kind_of}
-use Rattle.trail_setup.specs.Masks.{Stands, known_in, mask_kind, word_of}
+use Rattle.trail_setup.proofs.Vocabulary.{◌≡◌, take, flat_map, Edition, UserId, History, HoldWords, kind_of, Stands}
+use Rattle.trail_setup.proofs.Vocabulary.{known_in, mask_kind, word_of}
 use Rattle.trail_setup.proofs.masks.SetupMasks.push_of.Given as goal
 
 -- what is said of those so far was put

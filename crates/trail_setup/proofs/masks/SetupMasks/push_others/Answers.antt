@@ -1,7 +1,5 @@
-use Rattle.std.proofs.Common.{◌∙◌, Bool, ap, sym, subst}
-use Rattle.std.specs.Prelude.{OnOk, codes}
-use Rattle.trail_setup.specs.Giving.{PutsAll}
-use Rattle.trail_setup.specs.Masks.{known_in, lent_text, mask_kind, other_parts, words_of}
+use Rattle.trail_setup.proofs.Vocabulary.{◌∙◌, Bool, ap, sym, subst, OnOk, codes, PutsAll, known_in, lent_text}
+use Rattle.trail_setup.proofs.Vocabulary.{mask_kind, other_parts, words_of}
 use Rattle.trail_setup.proofs.Putting.{lent_put, one_put}
 use Rattle.trail_setup.proofs.masks.SetupMasks.push_others.Goals as goal
 

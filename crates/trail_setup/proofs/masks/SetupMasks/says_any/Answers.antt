@@ -1,6 +1,5 @@
-use Rattle.std.proofs.Common.{◌∙◌, ◌==◌, [], ℕ, List, ap, length, not, subst}
-use Rattle.trail_setup.specs.Lines.{PutsLines}
-use Rattle.trail_setup.specs.Masks.{known_in, mask_kind, words_of}
+use Rattle.trail_setup.proofs.Vocabulary.{◌∙◌, ◌==◌, [], ℕ, List, ap, length, not, subst, PutsLines, known_in}
+use Rattle.trail_setup.proofs.Vocabulary.{mask_kind, words_of}
 use Rattle.trail_setup.proofs.Putting.{any_said}
 use Rattle.trail_setup.proofs.masks.SetupMasks.says_any.Goals as goal
 

@@ -1,7 +1,4 @@
-use Rattle.std.proofs.Common.{List, subst, sym, take}
-use Rattle.std.proofs.lemmas.List.{take_more}
-use Rattle.acl.specs.declared.act.Act.{Act}
-use Rattle.trail_setup.specs.Keeping.{FollowsEach}
+use Rattle.trail_setup.proofs.Vocabulary.{List, subst, sym, take, take_more, Act, FollowsEach}
 use Rattle.trail_setup.proofs.Keeping.{each_more}
 use Rattle.trail_setup.proofs.state.SetupState.follow_all.Goals as goal
 

@@ -1,5 +1,4 @@
-use Rattle.std.proofs.Common.{take}
-use Rattle.trail_setup.specs.Keeping.{FollowsEach}
+use Rattle.trail_setup.proofs.Vocabulary.{take, FollowsEach}
 use Rattle.trail_setup.proofs.state.SetupState.follow_all.Given as goal
 
 abbrev pub invariant-loop-act : goal.invariant-loop-act

@@ -1,5 +1,4 @@
-use Rattle.std.proofs.Common.{◌≡◌, drop}
-use Rattle.trail_setup.specs.Masks.{mask_in}
+use Rattle.trail_setup.proofs.Vocabulary.{◌≡◌, drop, mask_in}
 use Rattle.trail_setup.proofs.state.SetupState.mask_of.Given as goal
 
 abbrev pub invariant-loop-mask : goal.invariant-loop-mask

@@ -1,10 +1,5 @@
-use Rattle.std.proofs.Common.{◌≡◌, ap, ◌∙◌, length}
-use Rattle.std.specs.Prelude.{IfSome}
-use Rattle.cells.specs.Page.{line_at, IsGrid}
-use Rattle.terminal_model.specs.Screen.{IsInside}
-use Rattle.terminal_model.specs.Shows.{View}
-use Rattle.view.specs.View.{place_of}
-use Rattle.view.specs.Granted.{Part, part_of, cursor_of}
+use Rattle.view.proofs.Vocabulary.{◌≡◌, ap, ◌∙◌, length, IfSome, line_at, IsGrid, IsInside, View, place_of, Part}
+use Rattle.view.proofs.Vocabulary.{part_of, cursor_of}
 use Rattle.view.specs.declared.view.KeyModes.{KeyModes}
 use Rattle.view.proofs.Focusing.{line_fits, column_fits, cursor_inside, same_view}
 use Rattle.view.proofs.view.View.focus.Goals as goal

@@ -1,7 +1,4 @@
-use Rattle.std.proofs.Common.{◌+◌, List, length, refl}
-use Rattle.cells.specs.declared.cell.Cell.{Cell}
-use Rattle.cells.specs.Line.{spliced}
-use Rattle.cells.specs.Page.{line_at, edited}
+use Rattle.view.proofs.Vocabulary.{◌+◌, List, length, refl, Cell, spliced, line_at, edited}
 use Rattle.cells.proofs.Pages.{IsGrid-page_from, length-page_from, width-page_from}
 use Rattle.view.proofs.view.View.put.Goals as goal
 

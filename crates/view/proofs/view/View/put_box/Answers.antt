@@ -1,5 +1,4 @@
-use Rattle.std.proofs.Common.{◌≡◌, arith, refl, ◌∙◌}
-use Rattle.view.specs.Granted.{Piece, part_of, box_cell}
+use Rattle.view.proofs.Vocabulary.{◌≡◌, arith, refl, ◌∙◌, Piece, part_of, box_cell}
 use Rattle.view.proofs.Laying.{none_lays, row_is_free, one_more_row, all_rows}
 use Rattle.view.proofs.view.View.put_box.Goals as goal
 

@@ -1,9 +1,5 @@
-use Rattle.std.proofs.Common.{◌≡◌, ◌<◌, true, length}
-use Rattle.std.specs.Str.{all_scalars}
-use Rattle.cells.specs.Page.{line_at}
-use Rattle.view.specs.View.{HasSize}
-use Rattle.view.specs.Rows.{IsFree, Lays}
-use Rattle.view.specs.Granted.{part_of, box_cell, caption_text, HasPairedLines}
+use Rattle.view.proofs.Vocabulary.{◌≡◌, ◌<◌, true, length, all_scalars, line_at, HasSize, IsFree, Lays, part_of}
+use Rattle.view.proofs.Vocabulary.{box_cell, caption_text, HasPairedLines}
 use Rattle.view.proofs.Laying.{first_rows}
 use Rattle.view.proofs.view.View.put_box.Given as goal
 

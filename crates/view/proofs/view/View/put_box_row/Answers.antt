@@ -1,7 +1,5 @@
-use Rattle.std.proofs.Common.{List, subst, sym}
-use Rattle.cells.specs.declared.cell.Cell.{Cell}
-use Rattle.view.specs.Granted.{part_of, box_cell}
-use Rattle.view.specs.Rows.{IsRow, IsBoxRow}
+use Rattle.view.proofs.Vocabulary.{List, subst, sym, Cell, part_of, box_cell, IsRow}
+use Rattle.view.specs.Rows.{IsBoxRow}
 use Rattle.view.proofs.Pairing.{box_pairs}
 use Rattle.view.proofs.view.View.put_box_row.Goals as goal
 

@@ -1,5 +1,4 @@
-use Rattle.std.proofs.Common.{refl}
-use Rattle.view.specs.Rows.{row_of}
+use Rattle.view.proofs.Vocabulary.{refl, row_of}
 use Rattle.view.proofs.Laying.{row_lays, line_inside, cells_fit}
 use Rattle.view.proofs.view.View.put_row.Goals as goal
 

@@ -1,9 +1,6 @@
-use Rattle.std.proofs.Common.{◌≡◌, false, List, [], ◌∷◌, arith, refl, ap, ◌∙◌}
-use Rattle.cells.specs.declared.cell.Cell.{Cell}
+use Rattle.view.proofs.Vocabulary.{◌≡◌, false, List, [], ◌∷◌, arith, refl, ap, ◌∙◌, Cell, narrow_cell, Piece}
+use Rattle.view.proofs.Vocabulary.{separator_piece, reverse, IsRow}
 use Rattle.cells.specs.Rendition.{Rendition}
-use Rattle.cells.specs.Line.{narrow_cell}
-use Rattle.view.specs.Granted.{Piece, separator_piece, reverse}
-use Rattle.view.specs.Rows.{IsRow}
 use Rattle.view.proofs.Laying.{none_lays, row_is_free, one_more_row, all_rows}
 use Rattle.view.proofs.Pairing.{bar_row, bar_pairs}
 use Rattle.view.proofs.view.View.put_separator.Goals as goal

@@ -1,8 +1,4 @@
-use Rattle.std.proofs.Common.{◌≡◌, length}
-use Rattle.cells.specs.Page.{line_at}
-use Rattle.view.specs.View.{HasSize}
-use Rattle.view.specs.Rows.{IsFree, Lays}
-use Rattle.view.specs.Granted.{separator_piece}
+use Rattle.view.proofs.Vocabulary.{◌≡◌, length, line_at, HasSize, IsFree, Lays, separator_piece}
 use Rattle.view.proofs.Laying.{first_rows}
 use Rattle.view.proofs.view.View.put_separator.Given as goal
 

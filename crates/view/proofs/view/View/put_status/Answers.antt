@@ -1,13 +1,6 @@
-use Rattle.std.proofs.Common.{true, ◌≡◌, ℕ, List, arith, subst, sym, ap, ◌∙◌}
-use Rattle.std.specs.Str.{chars, all_scalars}
-use Rattle.std.specs.String.{string_bytes}
+use Rattle.view.proofs.Vocabulary.{true, ◌≡◌, ℕ, List, arith, subst, sym, ap, ◌∙◌, chars, all_scalars, string_bytes}
+use Rattle.view.proofs.Vocabulary.{Cell, plain, utf8_lossy, Piece, status_piece, text_at, IsRow}
 use Rattle.std.proofs.lemmas.Str.{scalars-chars, IsUtf8-string_bytes}
-use Rattle.cells.specs.declared.cell.Cell.{Cell}
-use Rattle.cells.specs.Line.{plain}
-use Rattle.std.specs.Str.Lossy.{utf8_lossy}
-use Rattle.view.specs.Granted.{Piece, status_piece}
-use Rattle.view.specs.Texts.{text_at}
-use Rattle.view.specs.Rows.{IsRow}
 use Rattle.view.proofs.Laying.{none_lays, row_is_free, one_more_row, all_rows}
 use Rattle.view.proofs.Pairing.{text_row_pairs}
 use Rattle.view.proofs.view.View.put_status.Goals as goal

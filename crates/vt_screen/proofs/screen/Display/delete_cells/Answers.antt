@@ -1,5 +1,4 @@
-use Rattle.std.proofs.Common.{refl}
-use Rattle.terminal_model.specs.Table.{acted_from}
+use Rattle.vt_screen.proofs.Vocabulary.{refl, acted_from}
 use Rattle.vt_screen.proofs.Widths.{line_width}
 use Rattle.vt_screen.proofs.screen.Display.delete_cells.Goals as goal
 

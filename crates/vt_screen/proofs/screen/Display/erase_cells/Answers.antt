@@ -1,5 +1,4 @@
-use Rattle.std.proofs.Common.{refl}
-use Rattle.terminal_model.specs.Table.{acted_from}
+use Rattle.vt_screen.proofs.Vocabulary.{refl, acted_from}
 use Rattle.vt_screen.proofs.screen.Display.erase_cells.Goals as goal
 
 pub returns-clause-screen : goal.returns-clause-screen

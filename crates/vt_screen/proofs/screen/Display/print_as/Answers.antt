@@ -1,6 +1,4 @@
-use Rattle.std.proofs.Common.{sym, ap, ◌∙◌}
-use Rattle.terminal_model.specs.Printing.{placed_narrow, printed_as}
-use Rattle.vt_screen.specs.Displays.{screen_of}
+use Rattle.vt_screen.proofs.Vocabulary.{sym, ap, ◌∙◌, placed_narrow, printed_as, screen_of}
 use Rattle.vt_screen.proofs.screen.Display.print_as.Goals as goal
 
 pub returns-then-columns-eq1-clause-screen : goal.returns-then-columns-eq1-clause-screen

@@ -1,5 +1,4 @@
-use Rattle.std.proofs.Common.{sym, ◌∙◌}
-use Rattle.vt_screen.specs.Displays.{screen_of}
+use Rattle.vt_screen.proofs.Vocabulary.{sym, ◌∙◌, screen_of}
 use Rattle.vt_screen.proofs.Known.{IsKnown, known_letter, known_mark, lines_known, printed_known}
 use Rattle.vt_screen.proofs.screen.Display.print_beyond.Goals as goal
 

@@ -1,7 +1,4 @@
-use Rattle.std.proofs.Common.{sym, ◌≤◌, ◌∙◌, arith}
-use Rattle.charsets.specs.declared.decoder.Unit.TheVariants.{Code}
-use Rattle.terminal_model.specs.declared.action.Action.TheVariants.{Print}
-use Rattle.vt_screen.specs.Displays.{screen_of}
+use Rattle.vt_screen.proofs.Vocabulary.{sym, ◌≤◌, ◌∙◌, arith, Code, Print, screen_of}
 use Rattle.vt_screen.proofs.Known.{beyond_places, beyond_printed}
 use Rattle.vt_screen.proofs.Widths.{acted_fit}
 use Rattle.vt_screen.proofs.screen.Display.print_code.Goals as goal

@@ -1,14 +1,6 @@
-use Rattle.std.proofs.Common.{◌≡◌, ◌==◌, [], ◌∷◌, true, take, refl, sym, ap}
-use Rattle.std.proofs.Common.{◌∙◌, eq-eqb}
-use Rattle.cells.specs.Page.{line_at}
-use Rattle.terminal_model.specs.declared.action.Action.TheVariants.{CarriageReturn, LineFeed}
-use Rattle.terminal_model.specs.declared.state.State.{State}
-use Rattle.terminal_model.specs.Screen.{with_state}
-use Rattle.terminal_model.specs.Table.{acted, acted_from}
-use Rattle.vt_screen.specs.declared.screen.Display.{Display}
-use Rattle.vt_screen.specs.Displays.{screen_of}
-use Rattle.vt_screen.specs.Places.{indexed_places}
-use Rattle.vt_screen.specs.Runs.{ScrollsPlain, prints}
+use Rattle.vt_screen.proofs.Vocabulary.{◌≡◌, ◌==◌, [], ◌∷◌, true, take, refl, sym, ap, ◌∙◌, eq-eqb, line_at}
+use Rattle.vt_screen.proofs.Vocabulary.{CarriageReturn, LineFeed, State, with_state, acted, acted_from, Display}
+use Rattle.vt_screen.proofs.Vocabulary.{screen_of, indexed_places, ScrollsPlain, prints}
 use Rattle.vt_screen.proofs.Acted.{all_acted_fit}
 use Rattle.vt_screen.proofs.KeptLines.{reverse-with_line}
 use Rattle.vt_screen.proofs.LineRuns.{scrolled_places, scrolled_run}

@@ -1,5 +1,4 @@
-use Rattle.std.proofs.Common.{ap, ◌∙◌}
-use Rattle.terminal_model.specs.Printing.{placed_narrow}
+use Rattle.vt_screen.proofs.Vocabulary.{ap, ◌∙◌, placed_narrow}
 use Rattle.vt_screen.proofs.screen.Display.print_narrow.Goals as goal
 
 pub returns-clause-screen : goal.returns-clause-screen

@@ -1,7 +1,4 @@
-use Rattle.std.proofs.Common.{◌≡◌, [], ◌∷◌, true, sym, ◌∙◌}
-use Rattle.cells.specs.Texts.{is_letter}
-use Rattle.vt_screen.specs.Displays.{screen_of}
-use Rattle.vt_screen.specs.Runs.{prints}
+use Rattle.vt_screen.proofs.Vocabulary.{◌≡◌, [], ◌∷◌, true, sym, ◌∙◌, is_letter, screen_of, prints}
 use Rattle.vt_screen.proofs.Acted.{all_acted_fit}
 use Rattle.vt_screen.proofs.LineRuns.{plain_letter}
 use Rattle.vt_screen.proofs.TextRuns.{letter_makes, letter_placed}

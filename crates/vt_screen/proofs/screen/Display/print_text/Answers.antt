@@ -1,6 +1,4 @@
-use Rattle.std.proofs.Common.{◌≡◌, ℕ, [], take, sym, subst, arith}
-use Rattle.vt_screen.specs.declared.screen.Display.{Display}
-use Rattle.vt_screen.specs.Texts.{PrintsText}
+use Rattle.vt_screen.proofs.Vocabulary.{◌≡◌, ℕ, [], take, sym, subst, arith, Display, PrintsText}
 use Rattle.vt_screen.proofs.Texts.{more_printed, none_printed}
 use Rattle.vt_screen.proofs.screen.Display.print_text.Goals as goal
 use Rattle.vt_screen.proofs.screen.Display.print_text.Goals.{After-print_first, else-takes_runs}

@@ -1,6 +1,4 @@
-use Rattle.std.proofs.Common.{sym, ap, ◌∙◌}
-use Rattle.terminal_model.specs.Printing.{wrapped}
-use Rattle.vt_screen.specs.Displays.{screen_of}
+use Rattle.vt_screen.proofs.Vocabulary.{sym, ap, ◌∙◌, wrapped, screen_of}
 use Rattle.vt_screen.proofs.WideLemmas.{widely_is}
 use Rattle.vt_screen.proofs.screen.Display.print_wide.Goals as goal
 

@@ -1,6 +1,5 @@
-use Rattle.std.proofs.Common.{refl}
+use Rattle.vt_screen.proofs.Vocabulary.{refl, resized}
 use Rattle.cells.specs.Resizing.{line_resized}
-use Rattle.terminal_model.specs.Sizing.{resized}
 use Rattle.vt_screen.proofs.KeptLines.{reverse-map}
 use Rattle.vt_screen.proofs.screen.Display.resized.Goals as goal
 

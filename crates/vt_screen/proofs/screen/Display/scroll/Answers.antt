@@ -1,6 +1,5 @@
-use Rattle.std.proofs.Common.{refl}
+use Rattle.vt_screen.proofs.Vocabulary.{refl, line_at}
 use Rattle.vt_screen.proofs.KeptLines.{reverse-with_line}
-use Rattle.cells.specs.Page.{line_at}
 use Rattle.vt_screen.proofs.screen.Display.scroll.Goals as goal
 
 pub returns-then-self-eq0-clause-screen : goal.returns-then-self-eq0-clause-screen

@@ -1,9 +1,5 @@
-use Rattle.std.proofs.Common.{sym, subst, get_or, ℕ, List, Some, arith}
-use Rattle.std.proofs.lemmas.List.{drop_more, drop_all}
-use Rattle.charsets.specs.declared.decoder.Unit.TheVariants.{Code}
-use Rattle.terminal_model.specs.declared.action.Action.TheVariants.{Print}
-use Rattle.vt_screen.specs.Runs.{prints}
-use Rattle.vt_screen.specs.Stored.{Performs}
+use Rattle.vt_screen.proofs.Vocabulary.{sym, subst, get_or, ℕ, List, Some, arith, drop_more, drop_all, Code, Print}
+use Rattle.vt_screen.proofs.Vocabulary.{prints, Performs}
 use Rattle.vt_screen.proofs.Turns.{performs-on, performs-none}
 use Rattle.vt_screen.proofs.screen.Screen.print_run.Goals as goal
 

@@ -1,6 +1,4 @@
-use Rattle.std.proofs.Common.{drop}
-use Rattle.vt_screen.specs.Runs.{prints}
-use Rattle.vt_screen.specs.Stored.{Stored, Performs}
+use Rattle.vt_screen.proofs.Vocabulary.{drop, prints, Stored, Performs}
 use Rattle.vt_screen.proofs.screen.Screen.print_run.Given as goal
 
 abbrev pub invariant-loop-code : goal.invariant-loop-code

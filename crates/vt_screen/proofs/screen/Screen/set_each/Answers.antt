@@ -1,9 +1,5 @@
-use Rattle.std.proofs.Common.{sym, subst, ◌∙◌, get_or, ℕ, List, Option, arith}
-use Rattle.std.proofs.lemmas.List.{drop_more, drop_all}
-use Rattle.terminal_model.specs.declared.action.Action.{Action}
-use Rattle.terminal_model.specs.Functions.{alone, each}
-use Rattle.vt_screen_state.specs.Meanings.{meaning}
-use Rattle.vt_screen.specs.Stored.{Stored, Performs}
+use Rattle.vt_screen.proofs.Vocabulary.{sym, subst, ◌∙◌, get_or, ℕ, List, Option, arith, drop_more, drop_all, Action}
+use Rattle.vt_screen.proofs.Vocabulary.{alone, each, meaning, Stored, Performs}
 use Rattle.vt_screen.proofs.Turns.{performs-on, performs-none}
 use Rattle.vt_screen.proofs.screen.Screen.set_each.Goals.{in-Some, in_default}
 use Rattle.vt_screen.proofs.screen.Screen.set_each.Goals as goal

@@ -1,7 +1,4 @@
-use Rattle.std.proofs.Common.{refl}
-use Rattle.windows_model.specs.Terminals.{terminal_of}
-use Rattle.terminal_model.specs.Writing.{Size}
-use Rattle.windows.specs.Standing.{written_to}
+use Rattle.windows.proofs.Vocabulary.{refl, terminal_of, Size, written_to}
 use Rattle.windows.proofs.Writings.{stands_written}
 use Rattle.windows.proofs.window.Window.resize.Goals as goal
 

@@ -1,5 +1,4 @@
-use Rattle.std.proofs.Common.{refl, true, ◌≡◌, sym, ◌∙◌}
-use Rattle.windows_model.specs.Naming.{is_title}
+use Rattle.windows.proofs.Vocabulary.{refl, true, ◌≡◌, sym, ◌∙◌, is_title}
 use Rattle.windows.proofs.Writings.{stands_retitled, retitled_ok}
 use Rattle.windows.proofs.window.Window.retitle.Goals as goal
 

@@ -1,5 +1,4 @@
-use Rattle.windows_model.specs.Terminals.{terminal_of}
-use Rattle.emulator.specs.Commanded.{writing_in}
+use Rattle.windows.proofs.Vocabulary.{terminal_of, writing_in}
 use Rattle.windows.proofs.Writings.{stands_written, is_writing}
 use Rattle.windows.proofs.window.Window.write.Goals as goal
 

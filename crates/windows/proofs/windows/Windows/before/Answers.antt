@@ -1,8 +1,4 @@
-use Rattle.std.proofs.Common.{◌∙◌, filter}
-use Rattle.std.specs.Option.{option_or}
-use Rattle.windows.specs.Among.{is_among, nearest}
-use Rattle.windows.specs.declared.among.Among.TheVariants.{All, Below}
-use Rattle.windows.specs.declared.among.End.TheVariants.{Highest}
+use Rattle.windows.proofs.Vocabulary.{◌∙◌, filter, option_or, is_among, nearest, All, Below, Highest}
 use Rattle.windows.proofs.Nearest.{seen, or_found, before_both}
 use Rattle.windows.proofs.windows.Windows.before.Goals as goal
 

@@ -1,9 +1,6 @@
-use Rattle.std.proofs.Common.{◌∙◌, filter}
-use Rattle.std.specs.Option.{option_or, option_and_then}
+use Rattle.windows.proofs.Vocabulary.{◌∙◌, filter, option_or, option_and_then, is_among, nearest, numbered, Titled}
+use Rattle.windows.proofs.Vocabulary.{Lowest}
 use Rattle.windows_model.specs.Naming.{spelled}
-use Rattle.windows.specs.Among.{is_among, nearest, numbered}
-use Rattle.windows.specs.declared.among.Among.TheVariants.{Titled}
-use Rattle.windows.specs.declared.among.End.TheVariants.{Lowest}
 use Rattle.windows.proofs.Nearest.{seen, or_found, both_or, spelled_both, lowest_titled}
 use Rattle.windows.proofs.windows.Windows.by_name.Goals as goal
 

@@ -1,5 +1,4 @@
-use Rattle.std.proofs.Common.{◌∙◌}
-use Rattle.windows.specs.Among.{numbered}
+use Rattle.windows.proofs.Vocabulary.{◌∙◌, numbered}
 use Rattle.windows.proofs.Nearest.{seen, numbered_both}
 use Rattle.windows.proofs.windows.Windows.by_number.Goals as goal
 

@@ -1,8 +1,5 @@
-use Rattle.std.proofs.Common.{◌≡◌, ◌∙◌, sym, ap, subst, List, Some, None, filter, not}
-use Rattle.std.specs.Prelude.{◌==◌, option_copied}
-use Rattle.windows_model.specs.Finding.{row_of}
-use Rattle.windows.specs.declared.window.Window.{Window}
-use Rattle.windows.specs.Rows.{AreRows}
+use Rattle.windows.proofs.Vocabulary.{◌≡◌, ◌∙◌, sym, ap, subst, List, Some, None, filter, not, ◌==◌, option_copied}
+use Rattle.windows.proofs.Vocabulary.{row_of, Window, AreRows}
 use Rattle.windows.proofs.Rows.{rows_kept, row_lost, none_lost}
 use Rattle.windows.proofs.Answering.{own, one_closed, none_closed}
 use Rattle.windows.proofs.windows.Windows.close.Goals as goal

@@ -1,9 +1,5 @@
-use Rattle.std.proofs.Common.{subst}
-use Rattle.windows.specs.Rows.{AreRows}
+use Rattle.windows.proofs.Vocabulary.{subst, AreRows, Output, Window, written}
 use Rattle.windows.proofs.Rows.{row_writes, rows_written}
-use Rattle.terminal_model.specs.Writing.{Output}
-use Rattle.windows.specs.declared.window.Window.{Window}
-use Rattle.windows.specs.Standing.{written}
 use Rattle.windows.proofs.Answering.{lent, not_lent, put_back, row_became, row_stays, missing_if_room, fed_becomes}
 use Rattle.windows.proofs.Answering.{fed_answers, both_stay}
 use Rattle.windows.proofs.windows.Windows.feed_all.Goals as goal

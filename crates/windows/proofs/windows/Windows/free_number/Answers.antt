@@ -1,6 +1,4 @@
-use Rattle.std.proofs.Common.{◌∙◌, ap, List}
-use Rattle.windows.specs.Among.{first_free}
-use Rattle.windows.specs.declared.window.Window.{Window}
+use Rattle.windows.proofs.Vocabulary.{◌∙◌, ap, List, first_free, Window}
 use Rattle.windows.proofs.Nearest.{free_both}
 use Rattle.windows.proofs.windows.Windows.free_number.Goals as goal
 

@@ -1,6 +1,4 @@
-use Rattle.windows_model.specs.Finding.{row_of}
-use Rattle.windows_model.proofs.Matching.{rows_match}
-use Rattle.windows.specs.Standing.{WindowStands, serial}
+use Rattle.windows.proofs.Vocabulary.{row_of, rows_match, WindowStands, serial}
 use Rattle.windows.proofs.Answering.{own, same}
 use Rattle.windows.proofs.Nearest.{seen}
 use Rattle.windows.proofs.windows.Windows.get.Goals as goal

@@ -1,7 +1,4 @@
-use Rattle.std.proofs.Common.{◌∙◌, filter}
-use Rattle.windows.specs.Among.{is_among, nearest}
-use Rattle.windows.specs.declared.among.Among.TheVariants.{All}
-use Rattle.windows.specs.declared.among.End.TheVariants.{Lowest}
+use Rattle.windows.proofs.Vocabulary.{◌∙◌, filter, is_among, nearest, All, Lowest}
 use Rattle.windows.proofs.Nearest.{seen, lowest_of_all}
 use Rattle.windows.proofs.windows.Windows.lowest.Goals as goal
 

@@ -1,12 +1,7 @@
-use Rattle.std.proofs.Common.{◌≡◌, ◌∙◌, ℕ, Bool, ap, sym, List, Option, Some, None}
+use Rattle.windows.proofs.Vocabulary.{◌≡◌, ◌∙◌, ℕ, Bool, ap, sym, List, Option, Some, None, is_above, first_free}
+use Rattle.windows.proofs.Vocabulary.{StandFor, Window, IfSome, IsFree, if_true, if_false}
 use Rattle.windows_model.specs.Table as model
-use Rattle.windows.specs.Among.{is_above, first_free}
 use Rattle.windows.specs.Standing as standing
-use Rattle.windows.specs.Standing.{StandFor}
-use Rattle.windows.specs.declared.window.Window.{Window}
-use Rattle.std.specs.Prelude.{IfSome}
-use Rattle.windows.specs.Asking.{IsFree}
-use Rattle.windows_model.proofs.Serials.{if_true, if_false}
 use Rattle.windows.proofs.Nearest.{above_both, free_both}
 use Rattle.windows.proofs.windows.Windows.number_for.Goals as goal
 

@@ -1,7 +1,4 @@
-use Rattle.std.proofs.Common.{◌≡◌, ◌∙◌, sym, ap, subst, true, List, ◌∷◌, ◌++◌, []}
-use Rattle.windows_model.specs.Naming.{is_title}
-use Rattle.windows.specs.declared.window.Window.{Window}
-use Rattle.windows.specs.Rows.{AreRows}
+use Rattle.windows.proofs.Vocabulary.{◌≡◌, ◌∙◌, sym, ap, subst, true, List, ◌∷◌, ◌++◌, [], is_title, Window, AreRows}
 use Rattle.windows.proofs.Rows.{small_free, rows_added}
 use Rattle.windows.proofs.Answering.{one_opened}
 use Rattle.windows.proofs.windows.Windows.open.Goals as goal

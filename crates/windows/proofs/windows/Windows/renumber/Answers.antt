@@ -1,8 +1,5 @@
-use Rattle.std.proofs.Common.{◌≡◌, ◌∙◌, true, false, sym, ap, subst, refl, List}
-use Rattle.windows_model.proofs.Serials.{with_back}
-use Rattle.windows.specs.Among.{taken_by_other}
-use Rattle.windows.specs.declared.window.Window.{Window}
-use Rattle.windows.specs.Rows.{AreRows, ChangesRow}
+use Rattle.windows.proofs.Vocabulary.{◌≡◌, ◌∙◌, true, false, sym, ap, subst, refl, List, with_back, taken_by_other}
+use Rattle.windows.proofs.Vocabulary.{Window, AreRows, ChangesRow}
 use Rattle.windows.proofs.Rows.{row_changes, none_changes, rows_renumbered}
 use Rattle.windows.proofs.Answering.{own, lent, not_lent, put_back, number_missing, number_taken, number_given}
 use Rattle.windows.proofs.windows.Windows.renumber.Goals as goal

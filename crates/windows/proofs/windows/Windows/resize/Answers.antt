@@ -1,7 +1,5 @@
-use Rattle.std.proofs.Common.{subst}
-use Rattle.windows.specs.Rows.{AreRows}
+use Rattle.windows.proofs.Vocabulary.{subst, AreRows, Window}
 use Rattle.windows.proofs.Rows.{row_writes, rows_written}
-use Rattle.windows.specs.declared.window.Window.{Window}
 use Rattle.windows.specs.Standing.{resized}
 use Rattle.windows.proofs.Answering.{lent, not_lent, put_back, row_became, row_stays, missing_if_room}
 use Rattle.windows.proofs.windows.Windows.resize.Goals as goal

@@ -1,9 +1,5 @@
-use Rattle.std.proofs.Common.{subst, refl}
-use Rattle.windows.specs.Rows.{AreRows}
+use Rattle.windows.proofs.Vocabulary.{subst, refl, AreRows, writing_in, Window, written, written_to}
 use Rattle.windows.proofs.Rows.{row_writes, rows_written}
-use Rattle.emulator.specs.Commanded.{writing_in}
-use Rattle.windows.specs.declared.window.Window.{Window}
-use Rattle.windows.specs.Standing.{written, written_to}
 use Rattle.windows.proofs.Answering.{lent, not_lent, put_back, row_changed, row_missing}
 use Rattle.windows.proofs.windows.Windows.write.Goals as goal
 

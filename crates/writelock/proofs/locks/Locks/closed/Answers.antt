@@ -1,9 +1,5 @@
-use Rattle.std.proofs.Common.{◌∙◌, ap, sym, subst, ◌∷◌}
-use Rattle.acl.specs.declared.act.Act.TheVariants.{Closed}
-use Rattle.acl.specs.History.{is_open, open_count}
-use Rattle.acl.specs.Slots.{SlotsStandFor}
+use Rattle.writelock.proofs.Vocabulary.{◌∙◌, ap, sym, subst, ◌∷◌, Closed, is_open, open_count, SlotsStandFor, lock_at}
 use Rattle.acl.proofs.OpenSlots.{slots-closed}
-use Rattle.writelock.specs.LockTable.{lock_at}
 use Rattle.writelock.proofs.WindowLemmas.{AreLocks-Closed}
 use Rattle.writelock.proofs.SlotViews.{lock_at-closed}
 use Rattle.writelock.proofs.locks.Locks.closed.Goals as goal

@@ -1,11 +1,5 @@
-use Rattle.std.proofs.Common.{◌∙◌, ◌∷◌, ap, sym, subst, if◌then◌else◌, nat_eq}
-use Rattle.std.specs.Option.{option_map}
-use Rattle.acl.specs.declared.act.Act.TheVariants.{Entered}
-use Rattle.acl.specs.Slots.{Slots}
-use Rattle.acl.specs.History.{is_open, open_count}
-use Rattle.acl.specs.Slots.{SlotsStandFor}
-use Rattle.writelock.specs.declared.lock.Lock.{Lock}
-use Rattle.writelock.specs.LockTable.{AreLocks, lock_in, entered_by}
+use Rattle.writelock.proofs.Vocabulary.{◌∙◌, ◌∷◌, ap, sym, subst, if◌then◌else◌, nat_eq, option_map, Entered, Slots}
+use Rattle.writelock.proofs.Vocabulary.{SlotsStandFor, is_open, open_count, Lock, AreLocks, lock_in, entered_by}
 use Rattle.writelock.proofs.LockLemmas.{AreLocks-Entered}
 use Rattle.writelock.proofs.SlotViews.{changed_at, unchanged_at}
 use Rattle.writelock.proofs.locks.Locks.entered.Goals as goal

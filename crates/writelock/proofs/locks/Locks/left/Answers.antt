@@ -1,11 +1,5 @@
-use Rattle.std.proofs.Common.{◌∙◌, ◌∷◌, ap, sym, subst, if◌then◌else◌, nat_eq}
-use Rattle.std.specs.Option.{option_map}
-use Rattle.acl.specs.declared.act.Act.TheVariants.{Left}
-use Rattle.acl.specs.Slots.{Slots}
-use Rattle.acl.specs.History.{is_open, open_count}
-use Rattle.acl.specs.Slots.{SlotsStandFor}
-use Rattle.writelock.specs.declared.lock.Lock.{Lock}
-use Rattle.writelock.specs.LockTable.{AreLocks, lock_in, left_by}
+use Rattle.writelock.proofs.Vocabulary.{◌∙◌, ◌∷◌, ap, sym, subst, if◌then◌else◌, nat_eq, option_map, Left, Slots}
+use Rattle.writelock.proofs.Vocabulary.{SlotsStandFor, is_open, open_count, Lock, AreLocks, lock_in, left_by}
 use Rattle.writelock.proofs.LockLemmas.{AreLocks-Left}
 use Rattle.writelock.proofs.SlotViews.{changed_at, unchanged_at}
 use Rattle.writelock.proofs.locks.Locks.left.Goals as goal

@@ -1,10 +1,7 @@
-use Rattle.std.proofs.Common.{◌≡◌, ◌∙◌, ◌∷◌, ℕ, sym, subst, refl, Option, Some, None, is_some, false, true≢false}
-use Rattle.std.proofs.Common.{slice_set}
-use Rattle.acl.specs.declared.act.Act.TheVariants.{Opened}
-use Rattle.acl.specs.History.{is_open, open_count}
-use Rattle.acl.specs.Slots.{SlotsStandFor, slot_of}
+use Rattle.writelock.proofs.Vocabulary.{◌≡◌, ◌∙◌, ◌∷◌, ℕ, sym, subst, refl, Option, Some, None, false, true≢false}
+use Rattle.writelock.proofs.Vocabulary.{slice_set, Opened, is_open, open_count, SlotsStandFor, slot_of, lock_at}
+use Rattle.std.proofs.Common.{is_some}
 use Rattle.acl.proofs.OpenSlots.{slots-opened, slots-free}
-use Rattle.writelock.specs.LockTable.{lock_at}
 use Rattle.writelock.proofs.WindowLemmas.{AreLocks-Opened}
 use Rattle.writelock.proofs.SlotViews.{lock_at-opened, length-set_lock}
 use Rattle.writelock.proofs.locks.Locks.opened.Goals as goal

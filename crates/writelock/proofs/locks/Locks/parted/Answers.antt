@@ -1,9 +1,5 @@
-use Rattle.std.proofs.Common.{◌∙◌, ◌∷◌, ap, sym, subst, arith}
-use Rattle.acl.specs.declared.act.Act.TheVariants.{Parted}
-use Rattle.acl.specs.Slots.{Slots}
-use Rattle.acl.specs.History.{is_open, open_count}
-use Rattle.acl.specs.Slots.{SlotsStandFor}
-use Rattle.writelock.specs.LockTable.{AreLocks, lock_in, lock_at, without_holder}
+use Rattle.writelock.proofs.Vocabulary.{◌∙◌, ◌∷◌, ap, sym, subst, arith, Parted, Slots, SlotsStandFor, is_open}
+use Rattle.writelock.proofs.Vocabulary.{open_count, AreLocks, lock_in, lock_at, without_holder}
 use Rattle.writelock.proofs.LockLemmas.{AreLocks-Parted}
 use Rattle.writelock.proofs.SlotViews.{changed_below-more, changed_below-all, lock_at-changed}
 use Rattle.writelock.proofs.locks.Locks.parted.Goals as goal

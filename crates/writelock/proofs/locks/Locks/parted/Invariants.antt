@@ -1,5 +1,4 @@
-use Rattle.std.proofs.Common.{◌≡◌}
-use Rattle.writelock.specs.LockTable.{without_holder}
+use Rattle.writelock.proofs.Vocabulary.{◌≡◌, without_holder}
 use Rattle.writelock.proofs.SlotViews.{ChangedBelow}
 use Rattle.writelock.proofs.locks.Locks.parted.Given as goal
 

@@ -1,9 +1,5 @@
-use Rattle.std.proofs.Common.{◌∙◌, ◌∷◌, ap, sym, subst, arith, None, slice_index_or}
-use Rattle.acl.specs.Slots.{Slots}
-use Rattle.acl.specs.Lists.{table_of}
-use Rattle.acl.specs.History.{is_open, open_count}
-use Rattle.acl.specs.Slots.{SlotsStandFor}
-use Rattle.writelock.specs.LockTable.{AreLocks, lock_in, lock_at, after_act}
+use Rattle.writelock.proofs.Vocabulary.{◌∙◌, ◌∷◌, ap, sym, subst, arith, None, slice_index_or, Slots, SlotsStandFor}
+use Rattle.writelock.proofs.Vocabulary.{table_of, is_open, open_count, AreLocks, lock_in, lock_at, after_act}
 use Rattle.writelock.proofs.RightsLemmas.{AreLocks-rights, slots-rights}
 use Rattle.writelock.proofs.SlotViews.{changed_below-next, changed_below-all, lock_at-changed}
 use Rattle.writelock.proofs.locks.Locks.withdraw.Goals as goal

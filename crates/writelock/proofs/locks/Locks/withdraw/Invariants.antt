@@ -1,6 +1,4 @@
-use Rattle.std.proofs.Common.{◌≡◌}
-use Rattle.acl.specs.Lists.{table_of}
-use Rattle.writelock.specs.LockTable.{after_act}
+use Rattle.writelock.proofs.Vocabulary.{◌≡◌, table_of, after_act}
 use Rattle.writelock.proofs.SlotViews.{ChangedBelow}
 use Rattle.writelock.proofs.locks.Locks.withdraw.Given as goal
 
