@@ -13,7 +13,7 @@ ghost use Rattle.charsets.specs.declared.decoder.Coding.{Coding};
 ghost use Rattle.terminal_model.specs.Reading.{Terminal, ready, reads};
 ghost use Rattle.terminal_model.specs.Screen.{Screen, starting};
 ghost use Rattle.terminal_model.specs.Scrollback.{all_left, moved_back};
-ghost use Rattle.terminal_model.specs.Writing.{Writing, Clear, Reset, Encoding, IsWriting, writes, writes_all};
+ghost use Rattle.terminal_model.specs.Writing.{Writing as Written, Clear, Reset, Encoding, IsWriting, writes, writes_all};
 ghost use Rattle.emulator.specs.Standing.{Parts, StandsFor, HasRead};
 
 pub use emulator::{Emulator, Stopped, Writing};
@@ -42,7 +42,7 @@ pub fn unmoved_page_is_the_page()
 /// Of all lines that left a window's page while it wrote, a page that is moved back shows the last
 /// ones, above its own lines.
 pub fn moved_page_shows_the_last_lines()
-    ensures { (e : Parts) (rows columns keep offset : ℕ) (writings : List Writing)
+    ensures { (e : Parts) (rows columns keep offset : ℕ) (writings : List Written)
         → IsGridSize rows columns → AllByRecursion IsWriting writings
         → let t : Terminal = ready (starting rows columns keep) in
         StandsFor e (writes_all t writings).terminal

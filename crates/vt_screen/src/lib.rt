@@ -18,7 +18,7 @@ mod text;
 ghost use Rattle.std.specs.Prelude.{◌≡◌, ℕ, ◌+◌, ◌-◌, ◌<◌, ◌≤◌, ◌⊎◌, List, [], None, length, slice_index};
 ghost use Rattle.control_parser.specs.declared.parser.Func.TheVariants.{Control, Csi, Esc};
 ghost use Rattle.terminal_model.specs.Functions.{count};
-ghost use Rattle.terminal_model.specs.Screen.{Screen};
+ghost use Rattle.terminal_model.specs.Screen.{Screen as Modelled};
 ghost use Rattle.vt_screen_page.specs.Store.{turned};
 ghost use Rattle.vt_screen.specs.Places.{indexed_places, lowered_places, inserted_places, deleted_places};
 ghost use Rattle.vt_screen.specs.Stored.{effect_places};
@@ -43,18 +43,18 @@ pub fn lines_stay_stored()
 /// LF, IND and NEL rotate the places of the lines of the margins as they scroll the lines, and so
 /// do RI, IL and DL with the lines that they scroll.
 pub fn scrolls_turn_places()
-    ensures line_feed { (x : Screen) (places : List ℕ)
+    ensures line_feed { (x : Modelled) (places : List ℕ)
         → effect_places x (Control 0x0A) places ≡ indexed_places x.state places }
-    ensures index { (x : Screen) (places : List ℕ)
+    ensures index { (x : Modelled) (places : List ℕ)
         → effect_places x (Esc [] 0x44) places ≡ indexed_places x.state places }
-    ensures next_line { (x : Screen) (places : List ℕ)
+    ensures next_line { (x : Modelled) (places : List ℕ)
         → effect_places x (Esc [] 0x45) places ≡ indexed_places x.state places }
-    ensures reverse_index { (x : Screen) (places : List ℕ)
+    ensures reverse_index { (x : Modelled) (places : List ℕ)
         → effect_places x (Esc [] 0x4D) places ≡ lowered_places x.state places }
-    ensures insert_lines { (x : Screen) (params places : List ℕ)
+    ensures insert_lines { (x : Modelled) (params places : List ℕ)
         → effect_places x (Csi None params [] 0x4C) places
         ≡ inserted_places (count params) x.state places }
-    ensures delete_lines { (x : Screen) (params places : List ℕ)
+    ensures delete_lines { (x : Modelled) (params places : List ℕ)
         → effect_places x (Csi None params [] 0x4D) places
         ≡ deleted_places (count params) x.state places }
 {}
