@@ -18,6 +18,7 @@ ghost use Rattle.emulator.specs.Standing.{Parts, StandsFor, HasRead};
 
 pub use emulator::{Emulator, Stopped, Writing};
 pub use moved_page::MovedPage;
+pub use terminal_model::Report;
 
 /// Bytes read in two pieces give the same as all of them at once.
 pub fn pieces_are_whole()

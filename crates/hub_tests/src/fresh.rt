@@ -90,7 +90,9 @@ fn is_told<L: Begun, R: Wait>(
     let (none, is_marked_again) = hub.take(rt, seat);
     let is_denied = is_denied(effects.as_slice()) && is_marked;
     let is_once = none.as_slice().is_empty() && !is_marked_again;
-    is_begun && is_typed && is_denied && is_once
+    // Each entry of the trail is in a receipt of the one seat.
+    let is_counted = seat.receipts().len() == 9;
+    is_begun && is_typed && is_denied && is_once && is_counted
 }
 
 /// Whether a seat of a new hub is told so.

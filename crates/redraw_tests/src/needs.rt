@@ -20,6 +20,9 @@ fn is_due(alloc: Global, shadow: &mut Shadow, page: PageLines<'_>) -> Option<(bo
     ensures columns { shadow.new.columns ≡ 80 }
 {
     let view = view_of(alloc, None, page).ok()?;
+    if view.grid().rows() != 24 {
+        return None;
+    }
     let was_due = needs_draw(shadow, &view);
     let mut out = Vec::new(alloc);
     put(alloc, shadow, page, &mut out).ok()?;

@@ -13,7 +13,7 @@ const LINE_FEED: Func = Func::Control(b'\n');
 
 fn letter_at(screen: &Screen, line: usize, column: usize) -> Option<char> {
     if line < screen.rows() && column < screen.columns() {
-        Some(screen.cell(line, column).character)
+        Some(screen.cell(line, column).glyph())
     } else {
         None
     }

@@ -1,3 +1,4 @@
+pub use Rattle.session_core.specs.Headline
 pub use Rattle.session_core.specs.MayType
 pub use Rattle.session_core.specs.Noted
 pub use Rattle.session_core.specs.Stands

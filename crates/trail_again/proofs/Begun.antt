@@ -3,7 +3,7 @@ use Rattle.trail_again.proofs.Vocabulary.{◌≡◌, ◌∙◌, ℕ, true, false
 use Rattle.trail_again.proofs.Vocabulary.{UserId, AreDone, StopsAt, command_of, outcome, Tables, BeginsAsTaken}
 use Rattle.trail_again.proofs.Vocabulary.{AreTaken}
 use Rattle.program_words.specs.SetupLines.{Line, line_of}
-use Rattle.session_core.specs.Headline.{with_steps}
+use Rattle.session.specs.Headline.{with_steps}
 use Rattle.session.specs.Run.{after, drawn, tables_of}
 use Rattle.session.specs.Trace.{Entry, Trace, begun, with_step}
 

@@ -11,7 +11,7 @@ use Rattle.acl.specs.Same.{same_user}
 use Rattle.program_words.specs.SetupLines.{commands_in, first_fault, line_of}
 use Rattle.session.specs.Setup.{SetsUp, StopsAt, command_of}
 use Rattle.session.specs.declared.setup_file.Beginning.{Beginning}
-use Rattle.session_core.specs.Headline.{with_steps}
+use Rattle.session.specs.Headline.{with_steps}
 use Rattle.session.specs.Run.{tables_of}
 use Rattle.session.specs.Tables.{Tables, fresh}
 use Rattle.session.specs.Trace.{Entry, begun}

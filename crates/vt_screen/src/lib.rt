@@ -24,6 +24,7 @@ ghost use Rattle.vt_screen.specs.Places.{indexed_places, lowered_places, inserte
 ghost use Rattle.vt_screen.specs.Stored.{effect_places};
 
 pub use screen::Screen;
+pub use terminal_model::{Modes, Report};
 
 /// If the lines from `top` to `bottom` go up or down by a count, each line that stays keeps its
 /// stored line, and so does each line outside of them.
