@@ -8,9 +8,8 @@ use Rattle.std.specs.Cmp.Lexicographic.{pointwise}
 use Rattle.std.proofs.lemmas.Bool.{and_parts, not-false, eqb-true as numbers}
 use denote.Struct.Declared.{Declared}
 use denote.Struct.Cover.{Cover-one}
-use Rattle.charsets.specs.contracts.sets as of_sets
 use Rattle.charsets.specs.contracts.shifts as of_shifts
-use Rattle.charsets.specs.contracts.unit as of_units
+use Rattle.charsets.specs.contracts.decoder as of_units
 use Rattle.cells.specs.contracts.cell as of_cells
 use Rattle.cells.specs.contracts.marks as of_marks
 use Rattle.cells.specs.contracts.rendition as of_renditions
@@ -55,7 +54,7 @@ flags x y = (booleans_Decides x y).0
 places : Tells of_shifts.PlacePartialEq.TheImpl.eq-value.it
 places a b e = search rules
 
-sets : Tells of_sets.CharacterSetPartialEq.TheImpl.eq-value.it
+sets : Tells of_shifts.CharacterSetPartialEq.TheImpl.eq-value.it
 sets a b e = search rules
 
 codings : Tells of_units.CodingPartialEq.TheImpl.eq-value.it

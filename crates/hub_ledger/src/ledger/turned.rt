@@ -2,7 +2,7 @@
 
 ghost use Rattle.std.specs.Prelude.{◌≡◌, IfSome, true};
 ghost use Rattle.std.specs.List.{AllByRecursion};
-ghost use Rattle.acl.specs.declared.edition.Edition.TheVariants.{Second};
+ghost use Rattle.acl.specs.declared.leaders.Edition.TheVariants.{Second};
 ghost use Rattle.acl.specs.History.{History};
 ghost use Rattle.hub_trail.specs.Judging.{is_on_there};
 
