@@ -4,7 +4,7 @@ use crate::ask::ask;
 use crate::diary::tell_log;
 use crate::streams::{Following, Outlet};
 use crate::words::{GivenArgs, Mistake, TrailArgs, Verb, asked_of, given_in};
-use acl::{Edition, UserId};
+use acl::UserId;
 use clap::Error;
 use client_words::put_visible;
 use std::alloc::Global;
@@ -13,29 +13,11 @@ use std::io::{self, BufRead, BufReader, Read, Write};
 use std::rt::Files;
 use std::time::Clock;
 use trail_files::{
-    Heading, ILLEGAL, LEGAL, LineFormat, TROUBLE, TrailFault, check_lines, finish_of, heading_of,
-    place_at, show_lines, tell_back, tell_finish, tell_heading,
+    Heading, ILLEGAL, LEGAL, LineFormat, TROUBLE, TrailFault, finish_of, heading_of, judge,
+    place_at, show_lines, tell_finish, tell_heading,
 };
-use trail_lines::Audit;
 use trail_rights::{AskedBits, Watch, watch_entries};
 use trail_setup::{SetupState, push_setup};
-
-/// Judges the entries of a reader.
-fn judge<R: BufRead, W: Write>(
-    alloc: Global,
-    edition: Edition,
-    owner: UserId,
-    reader: &mut R,
-    output: &mut W,
-) -> io::Result<u8> {
-    let mut audit = Audit::new(alloc, edition, owner)?;
-    let finish = check_lines(alloc, &mut audit, reader)?;
-    let status = tell_finish(alloc, finish, audit.count(), owner, output)?;
-    if !finish.is_bad() {
-        tell_back(audit.times().back(), output)?;
-    }
-    Ok(status)
-}
 
 /// Judges what a reader has.
 fn check<R: BufRead, W: Write>(

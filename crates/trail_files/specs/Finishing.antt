@@ -10,6 +10,7 @@ use Rattle.trail_lines.specs.declared.halt.Halt.TheVariants as halt
 use Rattle.trail_lines.specs.declared.audit.Times.{Times}
 use Rattle.trail_lines.specs.Halting.{IsRead}
 use Rattle.trail_lines.specs.Heading.{read_end}
+use Rattle.trail_lines.specs.Times.{no_times}
 use Rattle.trail_files.specs.declared.check.Finish.{Finish}
 use Rattle.trail_files.specs.declared.check.Finish.TheVariants as finish
 
@@ -66,3 +67,8 @@ pub record IsChecked (f : Finish) (before : Times) (audit : Audit) (edition : Ed
   pub rest : Option (List ℕ)
   pub read : IsRead halt_is before audit line edition owner old rest
   pub finishes : Finishes f halt_is (length read.said) line rest
+
+-- the entries of a reader's bytes were judged from the first one on, and the status says how the file ends
+abbrev pub IsJudged : ℕ → Edition → UserId → Option (List ℕ) → Type 0
+IsJudged status edition owner old =
+    (audit : Audit) × (f : Finish) × IsChecked f no_times audit edition owner old × (status_of f ≡ Some status)

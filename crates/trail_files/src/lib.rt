@@ -13,4 +13,4 @@ pub use check::{Finish, check_lines, finish_at, finish_of};
 pub use fault::TrailFault;
 pub use heading::{Heading, heading_of, place_at};
 pub use show::{LineFormat, show_lines};
-pub use tell::{ILLEGAL, LEGAL, TROUBLE, UNCONFINED, tell_back, tell_finish, tell_heading};
+pub use tell::{ILLEGAL, LEGAL, TROUBLE, UNCONFINED, judge, tell_finish, tell_heading};

@@ -1,15 +1,15 @@
 //! What the program prints of a file that it has read, and the status to exit with.
 
 ghost use Rattle.std.specs.Prelude.{◌≡◌, Some, IfOk};
-ghost use Rattle.trail_files.specs.Finishing.{status_of};
+ghost use Rattle.trail_files.specs.Finishing.{IsJudged, status_of};
 
-use crate::check::Finish;
+use crate::check::{Finish, check_lines};
 use crate::heading::Heading;
-use acl::UserId;
+use acl::{Edition, UserId};
 use std::alloc::{AllocError, Global};
-use std::io::{self, Write};
+use std::io::{self, BufRead, Write};
 use std::str;
-use trail_lines::{Ended, Wrong};
+use trail_lines::{Audit, Ended, Wrong};
 use trail_rights::{text_of, write_when};
 
 /// The file is legal and whole.
@@ -132,7 +132,7 @@ pub fn tell_finish<W: Write>(
 
 /// Writes that the time of an entry runs backwards, if one does. Nothing is wrong with that: the clock may
 /// have been set back.
-pub fn tell_back<W: Write>(back: Option<u64>, output: &mut W) -> io::Result<()> {
+fn tell_back<W: Write>(back: Option<u64>, output: &mut W) -> io::Result<()> {
     match back {
         Some(place) => writeln!(
             output,
@@ -148,4 +148,23 @@ pub fn tell_heading<W: Write>(alloc: Global, heading: Heading, output: &mut W) -
     write!(output, "owner {}", text_of(&heading.owner))?;
     let _has_time = write_when(alloc, b", begun at ", heading.ms, output)?;
     output.write_all(b"\n")
+}
+
+/// Judges the entries of a reader, from the file's line 2 on, writes how the file ends, and gives the status to exit with.
+pub fn judge<R: BufRead, W: Write>(
+    alloc: Global,
+    edition: Edition,
+    owner: UserId,
+    reader: &mut R,
+    output: &mut W,
+) -> io::Result<u8>
+    ensures { IfOk result (λ status. IsJudged status edition owner (R.remaining reader.old)) }
+{
+    let mut audit = Audit::new(alloc, edition, owner)?;
+    let finish = check_lines(alloc, &mut audit, reader)?;
+    let status = tell_finish(alloc, finish, audit.count(), owner, output)?;
+    if !finish.is_bad() {
+        tell_back(audit.times().back(), output)?;
+    }
+    Ok(status)
 }
