@@ -9,6 +9,21 @@ use std::alloc::{AllocError, AllocFailed};
 use std::io::ErrorKind;
 use std::{fmt, io};
 
+/// An error of the system. Its text has no number if the error has a plain name.
+#[derive(Clone, Copy, Debug, Drop)]
+pub struct SystemError(pub io::Error);
+
+impl fmt::Display for SystemError {
+    fn fmt<W: fmt::Write>(&self, f: &mut fmt::Formatter<W>) -> fmt::Result {
+        let SystemError(error) = *self;
+        match error.kind() {
+            ErrorKind::NotFound => f.write_str("no such file"),
+            ErrorKind::Other | ErrorKind::Uncategorized => write!(f, "{error}"),
+            kind => write!(f, "{kind}"),
+        }
+    }
+}
+
 /// Why `mux` failed.
 #[derive(Clone, Copy)]
 pub enum PeerFault {
@@ -80,15 +95,6 @@ impl RefusedPart {
             RefusedPart::Input | RefusedPart::Output | RefusedPart::Stream | RefusedPart::Other =>
                 "",
         }
-    }
-}
-
-// The system's text for an error. The commonest two have no error number.
-fn write_error<W: fmt::Write>(error: io::Error, f: &mut fmt::Formatter<W>) -> fmt::Result {
-    match error.kind() {
-        ErrorKind::NotFound => f.write_str("no such file"),
-        ErrorKind::PermissionDenied => f.write_str("permission denied"),
-        _ => write!(f, "{error}"),
     }
 }
 
@@ -215,8 +221,7 @@ impl fmt::Display for ToldFault<'_> {
             PeerFault::NoMemory => write!(f, "out of memory: {}", self.arguments.place()),
             PeerFault::Refused(part, error) => {
                 part.write(self.arguments, f)?;
-                write_error(error, f)?;
-                f.write_str(part.advice())
+                write!(f, "{}{}", SystemError(error), part.advice())
             }
         }
     }

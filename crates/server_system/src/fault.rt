@@ -1,27 +1,11 @@
 //! What can be wrong, and what to do about it.
 
+use client_words::SystemError;
 use server_trail::JournalFault;
 use server_users::{OpenFolder, UsersFault};
 use std::alloc::{AllocError, AllocFailed, Global};
-use std::fmt::{Display, Formatter};
-use std::io::ErrorKind;
-use std::{fmt, io};
+use std::io::{self, ErrorKind};
 use thiserror::Error;
-
-/// An error of the system. Its text has no number if the error has a plain name.
-#[derive(Debug, Drop)]
-pub struct SystemError(pub io::Error);
-
-impl Display for SystemError {
-    fn fmt<W: fmt::Write>(&self, f: &mut Formatter<W>) -> fmt::Result {
-        let SystemError(error) = self;
-        match error.kind() {
-            ErrorKind::NotFound => f.write_str("no such file"),
-            ErrorKind::PermissionDenied => f.write_str("permission denied"),
-            _ => write!(f, "{error}"),
-        }
-    }
-}
 
 /// Why a server can't listen on its socket.
 #[derive(Debug, Drop, Error)]

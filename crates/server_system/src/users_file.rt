@@ -5,7 +5,8 @@ ghost use Rattle.std.specs.Option.{option_copied};
 ghost use Rattle.server_system.specs.Looking.{AreOf, IsWrong, LooksAt, MayBeTold, access_of, after_look};
 ghost use Rattle.server_system.specs.declared.fault.ServeFault.TheVariants.{NoMemory};
 
-use crate::fault::{ServeFault, SystemError};
+use crate::fault::ServeFault;
+use client_words::SystemError;
 use server_users::{Access, Flaw, OpenFolder, Users, UsersFault, open_folder, own_account};
 use std::alloc::{AllocError, Global};
 use std::fs::Metadata;

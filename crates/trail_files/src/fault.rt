@@ -1,6 +1,6 @@
 //! Why a file isn't read to its end, as the program tells it.
 
-use client_words::put_visible;
+use client_words::{SystemError, put_visible};
 use std::alloc::Global;
 use std::io::{self, ErrorKind, Write};
 use std::str;
@@ -31,8 +31,7 @@ fn write_unopened<W: Write>(error: io::Error, path: &str, output: &mut W) -> io:
     write!(output, "can't open the file: {path}: ")?;
     match error.kind() {
         ErrorKind::NotFound => writeln!(output, "no such file: give the path of a trail"),
-        ErrorKind::PermissionDenied => writeln!(output, "permission denied"),
-        _ => writeln!(output, "{error}"),
+        _ => writeln!(output, "{}", SystemError(error)),
     }
 }
 
@@ -49,10 +48,15 @@ impl TrailFault {
         output.write_all(b"mux-trail: ")?;
         match self {
             TrailFault::NotOpened(error) => write_unopened(error, path, output),
-            TrailFault::Io(error) => writeln!(output, "can't go on: {path}: {error}"),
+            TrailFault::Io(error) => writeln!(
+                output,
+                "can't go on: {path}: {}",
+                SystemError(error)
+            ),
             TrailFault::NotWritten(error) => writeln!(
                 output,
-                "can't write to standard output: {error}"
+                "can't write to standard output: {}",
+                SystemError(error)
             ),
             TrailFault::NoHeader(line) => writeln!(
                 output,
