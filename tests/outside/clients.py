@@ -349,9 +349,9 @@ def nested():
     with Server() as server, Server() as other:
         token = token_of(server)
         common = ["--socket", server.path, "--user", "own", "--token", token]
-        shell = subprocess.Popen([script("mux-shell"), *common, "--title", "sh", "env", "PS1=in> ", "sh"],
+        shell = subprocess.Popen([script("mux-shell"), *common, "--title", "-sh", "env", "PS1=in> ", "sh"],
                                  env={**os.environ, "MUX": WORDS.mux, "HOME": server.folder.name})
-        subprocess.run([script("muxd-wait"), *common, "--window", "sh"], check=True,
+        subprocess.run([script("muxd-wait"), *common, "--window", "-sh"], check=True,
                        env={**os.environ, "MUX": WORDS.mux})
         with Terminal(attach_words(server)) as it:
             assert it.shows(b"in>"), f"no shell: {it.out[-200:]}"
