@@ -78,9 +78,14 @@ class Connection:
         while True:
             for kind, payload in self.receive():
                 if kind == SAY:
-                    said.append(payload.decode())
+                    said.append(visible(payload))
                 elif kind == GONE:
                     return said, payload[0]
+
+
+def visible(payload):
+    """A text of the server's, which may be anybody's: what can't be seen is a question mark."""
+    return "".join(it if it.isprintable() else "?" for it in payload.decode(errors="replace"))
 
 
 def size_of(terminal, rows=24, cols=80):
@@ -121,7 +126,7 @@ def attach(server, user, token):
                         if kind == DRAW:
                             os.write(1, payload)
                         elif kind == SAY:
-                            said = payload.decode()
+                            said = visible(payload)
                         elif kind == GONE:
                             # A SAY before reason 6 says what was refused.
                             return payload[0] in (0, 4), said if said and payload[0] == 6 else WHY[payload[0]]
@@ -161,7 +166,7 @@ def window(server, user, token, words):
                     elif kind == SIZE and terminal is not None:
                         set_size(terminal, *struct.unpack(">HH", payload))
                     elif kind == SAY:
-                        print(payload.decode(), file=sys.stderr)
+                        print(visible(payload), file=sys.stderr)
                     elif kind == GONE:
                         return payload[0] in (0, 3, 4), WHY[payload[0]]
     finally:
@@ -210,7 +215,7 @@ def main(words):
             well, why = attach(server, user, token)
         else:
             well, why = window(server, user, token, rest or [os.environ.get("SHELL") or "/bin/sh"])
-    except (OSError, EOFError) as error:
+    except (OSError, EOFError, ValueError) as error:
         well, why = False, error
     if not well:
         print(f"client.py: {why}", file=sys.stderr)

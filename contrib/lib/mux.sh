@@ -149,6 +149,21 @@ give() {
         return
     [ -z "$answer" ] || printf '%s\n' "$answer"
 }
+# calm TEXT: sets said to what mux printed, but for its warning that others may read the token's file.
+calm() {
+    said=$1
+    case $said in
+    "mux: others may read the token's file: "*"$newline"*) said=${said#*"$newline"} ;;
+    "mux: others may read the token's file: "*) said='' ;;
+    esac
+}
+# hear LINE: gives a command, and sets said to the answer or to the reason of a refusal.
+hear() {
+    heard=0
+    said=$(give "$1" 2>&1) || heard=$?
+    calm "$said"
+    return "$heard"
+}
 # Prints the windows, a line each.
 listed() {
     text=$(give windows) || return 1

@@ -349,9 +349,9 @@ def nested():
     with Server() as server, Server() as other:
         token = token_of(server)
         common = ["--socket", server.path, "--user", "own", "--token", token]
-        shell = subprocess.Popen([script("mux-shell"), *common, "--title", "sh", "env", "PS1=in> ", "sh"],
+        shell = subprocess.Popen([script("mux-shell"), *common, "--title", "-sh", "env", "PS1=in> ", "sh"],
                                  env={**os.environ, "MUX": WORDS.mux, "HOME": server.folder.name})
-        subprocess.run([script("muxd-wait"), *common, "--window", "sh"], check=True,
+        subprocess.run([script("muxd-wait"), *common, "--window", "-sh"], check=True,
                        env={**os.environ, "MUX": WORDS.mux})
         with Terminal(attach_words(server)) as it:
             assert it.shows(b"in>"), f"no shell: {it.out[-200:]}"
@@ -396,6 +396,9 @@ def commands():
         status, out, err, _ = run(["command", *fake.who(), "windows"])
         check("control characters are visible, and a text is a line", (status, err) == (0, b"") and
               out == "\\x1b]0;owned\\x07\\x1b[31mred\\x0a\\x7f \\x85 é \\\ntwo\n".encode(), str((status, out, err)))
+    with Fake(b"s" + two(len(text)) + text + b"g\0\1\0") as fake:
+        done = subprocess.run([play.TOP / "examples/client.py", "command", *fake.who()[1::2], "windows"], capture_output=True)
+        check("the example's client prints none", done.stdout.startswith(b"?]0;owned??[31mred"), str(done))
     with Fake(b"s" + two(len(text)) + text + b"g\0\1\6") as fake:
         status, out, err, _ = run(["command", *fake.who(), "windows"])
         check("also of a refusal, on both", status == 1 and b"\x1b" not in out + err and out.count(b"\n") == 1 and
