@@ -1,7 +1,4 @@
-pub use Rattle.hub_check.specs.Clients
-pub use Rattle.hub_check.specs.Following
 pub use Rattle.hub_check.specs.Judges
-pub use Rattle.hub_check.specs.declared.replay
 pub use Rattle.hub_ledger.specs.Closing
 pub use Rattle.hub_ledger.specs.Seats
 pub use Rattle.hub_ledger.specs.declared.Begun
@@ -10,3 +7,7 @@ pub use Rattle.hub_trail.specs.Judging
 pub use Rattle.hub_trail.specs.Legal
 pub use Rattle.hub_trail.specs.Trails
 pub use Rattle.hub_trail.specs.declared.kept
+pub use Rattle.rights.specs.Acts
+pub use Rattle.rights.specs.Clients
+pub use Rattle.rights.specs.Following
+pub use Rattle.rights.specs.declared.rights

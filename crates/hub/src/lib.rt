@@ -20,7 +20,7 @@ ghost use Rattle.hub_ledger.specs.declared.ledger.answer.HubFault.TheVariants.{T
 ghost use Rattle.hub_trail.specs.Filing.{kept_of};
 
 use acl::UserId;
-pub use hub_check::{Judge, Replay, all_pass, failed, follow_clients, user_of_client};
+pub use hub_check::{Judge, all_pass, failed};
 pub use hub_ledger::{
     Answer, Begun, CheckFault, FULL, Foreign, Full, Handed, HubFault, Kept, Ledger, Receipt,
     Receipts, Ruling, Seat, Sent, Session, Trail, TrailEntry, check_entries, check_trail,
@@ -28,6 +28,7 @@ pub use hub_ledger::{
 };
 pub use hub_record::{EntryList, KeptReply, NewEntry};
 pub use hub_trail::{Ending, Finished, asks_for_command, from_command};
+pub use rights::{Rights, follow_clients, user_of_client};
 use session::Event;
 use std::alloc::Global;
 use std::sync::ledger::Blank;

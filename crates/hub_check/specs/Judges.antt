@@ -5,7 +5,7 @@ use Rattle.acl.specs.declared.user_id.UserId.{UserId}
 use Rattle.hub_trail.specs.Trails.{Entry}
 use Rattle.hub_trail.specs.Legal.{acts_after}
 use Rattle.hub_trail.specs.Judging.{AreGood, IsBadAt}
-use Rattle.hub_check.specs.Following.{StandsAfter}
+use Rattle.rights.specs.Following.{StandsAfter}
 use Rattle.hub_check.specs.declared.judge.Judge.{Judge}
 
 -- these entries were taken, and all are good
@@ -13,7 +13,7 @@ pub record HasJudged (judge : Judge) (edition : Edition) (owner : UserId) (entri
     : Type 0 where
   pub owner_is : judge.owner ≡ owner
   pub good : AreGood edition owner [] entries
-  pub stands : StandsAfter judge.replay edition owner (acts_after [] entries)
+  pub stands : StandsAfter judge.rights edition owner (acts_after [] entries)
 
 -- the next entry is good too, or it is the first one that isn't, whatever entries follow it
 abbrev pub Judges : Bool → Judge → Judge → Entry → Type 0

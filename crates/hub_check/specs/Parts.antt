@@ -20,8 +20,8 @@ use Rattle.hub_trail.specs.Legal.{IsLegalEntry, HasItsActs, failed, first_names,
 use Rattle.hub_trail.specs.Legal.{IsSaid}
 use Rattle.hub_trail.specs.Saying.{says}
 use Rattle.hub_trail.specs.Judging.{is_on_there, IsGood}
-use Rattle.hub_check.specs.declared.replay.Replay.{Replay}
-use Rattle.hub_check.specs.Following.{StandsAfter}
+use Rattle.rights.specs.declared.rights.Rights.{Rights}
+use Rattle.rights.specs.Following.{StandsAfter}
 
 -- all verdicts are on objects that are there, and are true
 abbrev pub AreTrue : Edition → UserId → History → List Verdict → Type 0
@@ -85,8 +85,8 @@ abbrev pub IsJudged : Edition → UserId → History → Entry → Type 0
 IsJudged edition owner h e =
     AllByRecursion (λ v. is_on_there h v ≡ true) e.verdicts × IsLegalEntry edition owner h e
 
--- the answer is whether the entry is good; if it is, the replay stands after its acts
-abbrev pub Takes : Bool → Replay → Edition → UserId → History → Entry → Type 0
+-- the answer is whether the entry is good; if it is, the rights stands after its acts
+abbrev pub Takes : Bool → Rights → Edition → UserId → History → Entry → Type 0
 Takes good new edition owner h e =
     ((good ≡ true) ↔ IsGood edition owner h e)
     × (good ≡ true → StandsAfter new edition owner (followed_by h e.acts))

@@ -5,18 +5,18 @@ ghost use Rattle.hub_trail.specs.declared.kept.Kept.TheVariants as kept;
 ghost use Rattle.acl.specs.declared.leaders.Edition.{Edition};
 ghost use Rattle.acl.specs.declared.user_id.UserId.{UserId};
 ghost use Rattle.acl.specs.History.{History};
-ghost use Rattle.hub_check.specs.Following.{StandsAfter};
+ghost use Rattle.rights.specs.Following.{StandsAfter};
 ghost use Rattle.hub_check.specs.Parts.{IsReading, AsksIfKnown, HaveActsIfDone, AreSaidIfDone};
 ghost use Rattle.hub_check.specs.Parts.{FitsCommand, FitsLine};
 
 use crate::names::have_acts;
-use crate::replay::Replay;
 use crate::says::all_said;
 use crate::verdicts::asks_first;
 use acl::UserId;
 use command_lang::{Command, FaultKind, parse};
 use hub_record::TrailEntry;
 use hub_trail::{Kept, has_closed, has_come, has_gone, has_opened};
+use rights::Rights;
 use session::Verdict;
 use std::alloc::{AllocError, Global};
 
@@ -34,36 +34,36 @@ fn command_of(alloc: Global, line: &[u8]) -> Result<Option<Command>, AllocError>
 }
 
 /// Whether the entry has the acts of this command, or the command wasn't done.
-fn have_acts_if_done(owner: UserId, replay: &Replay, command: &Command, entry: &TrailEntry) -> bool
-    ensures { (edition : Edition) (h : History) → StandsAfter replay.now edition owner h →
+fn have_acts_if_done(owner: UserId, rights: &Rights, command: &Command, entry: &TrailEntry) -> bool
+    ensures { (edition : Edition) (h : History) → StandsAfter rights.now edition owner h →
         (result ≡ true)
         ↔ HaveActsIfDone owner h command.now entry.now.reply entry.now.acts }
 {
     match entry.ending() {
-        Ok(_) => have_acts(owner, replay, command, entry.acts()),
+        Ok(_) => have_acts(owner, rights, command, entry.acts()),
         Err(_) => true,
     }
 }
 
 /// Whether the command says each act of the entry on users and rights, or it wasn't done.
-fn are_said_if_done(owner: UserId, replay: &Replay, command: &Command, entry: &TrailEntry) -> bool
-    ensures { (edition : Edition) (h : History) → StandsAfter replay.now edition owner h →
+fn are_said_if_done(owner: UserId, rights: &Rights, command: &Command, entry: &TrailEntry) -> bool
+    ensures { (edition : Edition) (h : History) → StandsAfter rights.now edition owner h →
         (result ≡ true)
         ↔ AreSaidIfDone owner h command.now entry.now.reply entry.now.acts }
 {
     match entry.ending() {
-        Ok(_) => all_said(owner, replay, command, entry.acts()),
+        Ok(_) => all_said(owner, rights, command, entry.acts()),
         Err(_) => true,
     }
 }
 
 /// Whether the first verdict asks for x on the command of this user, or the user isn't known.
-fn asks_if_known(replay: &Replay, user: UserId, command: &Command, verdicts: &[Verdict]) -> bool
+fn asks_if_known(rights: &Rights, user: UserId, command: &Command, verdicts: &[Verdict]) -> bool
     ensures { (edition : Edition) (owner : UserId) (h : History) →
-        StandsAfter replay.now edition owner h →
+        StandsAfter rights.now edition owner h →
         (result ≡ true) ↔ AsksIfKnown owner h user command.now verdicts.now }
 {
-    if replay.knows(user) {
+    if rights.knows(user) {
         asks_first(user, command.name(), verdicts)
     } else {
         true
@@ -74,21 +74,21 @@ fn asks_if_known(replay: &Replay, user: UserId, command: &Command, verdicts: &[V
 /// the command, it has the command's acts, and of acts on users and rights it has no others.
 fn fits_command(
     owner: UserId,
-    replay: &Replay,
+    rights: &Rights,
     user: UserId,
     command: &Command,
     entry: &TrailEntry,
 ) -> bool
-    ensures { (edition : Edition) (h : History) → StandsAfter replay.now edition owner h →
+    ensures { (edition : Edition) (h : History) → StandsAfter rights.now edition owner h →
         (result ≡ true) ↔ FitsCommand owner h user command.now entry.now }
 {
-    if !asks_if_known(replay, user, command, entry.verdicts()) {
+    if !asks_if_known(rights, user, command, entry.verdicts()) {
         return false;
     }
-    if !have_acts_if_done(owner, replay, command, entry) {
+    if !have_acts_if_done(owner, rights, command, entry) {
         return false;
     }
-    are_said_if_done(owner, replay, command, entry)
+    are_said_if_done(owner, rights, command, entry)
 }
 
 /// Whether the event of the entry was refused.
@@ -113,16 +113,16 @@ struct GivenLine<'a> {
 fn fits_text(
     alloc: Global,
     owner: UserId,
-    replay: &Replay,
+    rights: &Rights,
     given: GivenLine,
     entry: &TrailEntry,
 ) -> Result<bool, AllocError>
     ensures { IfOk result (λ fits. (edition : Edition) (h : History) (window : Option ℕ) →
-        StandsAfter replay.now edition owner h → (fits ≡ true)
+        StandsAfter rights.now edition owner h → (fits ≡ true)
         ↔ FitsLine owner h (kept.Command given.entry.user window given.entry.line.now) entry.now) }
 {
     match command_of(alloc, given.line)? {
-        Some(command) => Ok(fits_command(owner, replay, given.user, &command, entry)),
+        Some(command) => Ok(fits_command(owner, rights, given.user, &command, entry)),
         None => Ok(is_refused(entry)),
     }
 }
@@ -131,12 +131,12 @@ fn fits_text(
 pub fn fits_line(
     alloc: Global,
     owner: UserId,
-    replay: &Replay,
+    rights: &Rights,
     event: &Kept,
     entry: &TrailEntry,
 ) -> Result<bool, AllocError>
     ensures { IfOk result (λ fits. (edition : Edition) (h : History) →
-        StandsAfter replay.now edition owner h →
+        StandsAfter rights.now edition owner h →
         (fits ≡ true) ↔ FitsLine owner h event.now entry.now) }
 {
     let ending = entry.ending();
@@ -146,7 +146,7 @@ pub fn fits_line(
                 user: *user,
                 line: line.as_slice(),
             };
-            fits_text(alloc, owner, replay, given, entry)
+            fits_text(alloc, owner, rights, given, entry)
         }
         Kept::Attach { user, .. } => Ok(has_come(&ending, entry.acts(), *user)),
         Kept::Detach { client } => Ok(has_gone(&ending, entry.acts(), *client)),

@@ -6,18 +6,18 @@ ghost use Rattle.acl.specs.declared.user_id.UserId.{UserId};
 ghost use Rattle.acl.specs.History.{History};
 ghost use Rattle.hub_trail.specs.Legal.{AreOfUser, acts_after};
 ghost use Rattle.hub_trail.specs.Trails.{Entry};
-ghost use Rattle.hub_check.specs.Following.{StandsAfter};
+ghost use Rattle.rights.specs.Following.{StandsAfter};
 ghost use Rattle.hub_check.specs.Parts.{IsAnswered, IsJudged};
 ghost use Rattle.hub_check.specs.Judges.{HasJudged, Judges};
 
 use crate::commands::fits_line;
 use crate::fits::{fits, is_of_known};
-use crate::replay::Replay;
 use crate::verdicts::{are_let, are_of, are_of_client, are_true, failed};
 use acl::{Edition, UserId};
 use hub_record::TrailEntry;
 use hub_replies::{carries_failed, is_denied};
 use hub_trail::Kept;
+use rights::Rights;
 use session::Verdict;
 use std::alloc::{AllocError, Global};
 
@@ -26,7 +26,7 @@ use std::alloc::{AllocError, Global};
 pub struct Judge {
     alloc: Global,
     owner: UserId,
-    replay: Replay,
+    rights: Rights,
 }
 
 impl Drop for Judge {
@@ -34,20 +34,20 @@ impl Drop for Judge {
         let Judge {
             alloc: _,
             owner: _,
-            replay: _,
+            rights: _,
         } = self;
     }
 }
 
 /// Whether the verdicts of a Command or an Open are of its user, and those of Keys are of the user of
 /// their client.
-fn are_of_user(replay: &Replay, event: &Kept, verdicts: &[Verdict]) -> bool
+fn are_of_user(rights: &Rights, event: &Kept, verdicts: &[Verdict]) -> bool
     ensures { (edition : Edition) (owner : UserId) (h : History) →
-        StandsAfter replay.now edition owner h →
+        StandsAfter rights.now edition owner h →
         (result ≡ true) ↔ AreOfUser h event.now verdicts.now }
 {
     match event {
-        Kept::Keys { client } => are_of_client(replay, *client, verdicts),
+        Kept::Keys { client } => are_of_client(rights, *client, verdicts),
         Kept::Command { user, .. } => are_of(*user, verdicts),
         Kept::Open { user, .. } => are_of(*user, verdicts),
         Kept::Attach { .. } | Kept::Detach { .. } | Kept::Closed { .. } => true,
@@ -67,19 +67,19 @@ fn is_answered(event: &Kept, entry: &TrailEntry) -> bool
 fn is_legal(
     alloc: Global,
     owner: UserId,
-    replay: &Replay,
+    rights: &Rights,
     entry: &TrailEntry,
 ) -> Result<bool, AllocError>
     ensures { IfOk result (λ legal. (edition : Edition) (h : History) →
-        StandsAfter replay.now edition owner h →
+        StandsAfter rights.now edition owner h →
         (legal ≡ true) ↔ IsJudged edition owner h entry.now) }
 {
     let event = entry.event();
     let verdicts = entry.verdicts();
-    if !are_true(replay, verdicts) {
+    if !are_true(rights, verdicts) {
         return Ok(false);
     }
-    if !are_of_user(replay, event, verdicts) {
+    if !are_of_user(rights, event, verdicts) {
         return Ok(false);
     }
     if !are_let(event, verdicts, entry.acts()) {
@@ -88,13 +88,13 @@ fn is_legal(
     if !is_answered(event, entry) {
         return Ok(false);
     }
-    if !fits(replay, event, entry) {
+    if !fits(rights, event, entry) {
         return Ok(false);
     }
-    if !is_of_known(replay, event, &entry.ending()) {
+    if !is_of_known(rights, event, &entry.ending()) {
         return Ok(false);
     }
-    fits_line(alloc, owner, replay, event, entry)
+    fits_line(alloc, owner, rights, event, entry)
 }
 
 impl Judge {
@@ -102,11 +102,11 @@ impl Judge {
     pub fn new(alloc: Global, edition: Edition, owner: UserId) -> Result<Judge, AllocError>
         ensures { IfOk result (λ judge. HasJudged judge edition owner []) }
     {
-        let replay = Replay::new(alloc, edition, owner)?;
+        let rights = Rights::new(alloc, edition, owner)?;
         Ok(Judge {
             alloc,
             owner,
-            replay,
+            rights,
         })
     }
 
@@ -115,18 +115,18 @@ impl Judge {
     pub fn take(&mut self, entry: &TrailEntry) -> Result<bool, AllocError>
         ensures { IfOk result (λ good. Judges good self.old self.new entry.now) }
     {
-        if !is_legal(self.alloc, self.owner, &self.replay, entry)? {
+        if !is_legal(self.alloc, self.owner, &self.rights, entry)? {
             return Ok(false);
         }
-        self.replay.follow_all(entry.acts())
+        self.rights.follow_all(entry.acts())
     }
 
     /// Rights, locks and clients after the entries that were taken.
-    pub fn replay(&self) -> &Replay
+    pub fn rights(&self) -> &Rights
         ensures { (edition : Edition) (owner : UserId) (entries : List Entry) →
             HasJudged self.now edition owner entries →
             StandsAfter result.now edition owner (acts_after [] entries) }
     {
-        &self.replay
+        &self.rights
     }
 }

@@ -6,20 +6,14 @@ ghost use Rattle.std.specs.Prelude.{◌≡◌};
 ghost use Rattle.hub_check.specs.declared.CheckFault.TheVariants.{NoMemory};
 ghost use Rattle.hub_check.specs.Laws.{GoodIsLegal, GoodIsNotBad, BadIsIllegal, LegalIsGood};
 
-mod clients;
 mod commands;
 mod fits;
 pub mod judge;
-mod lists;
-mod moves;
 mod names;
-mod replay;
 mod says;
 mod verdicts;
 
-pub use clients::{follow_clients, user_of_client};
 pub use judge::Judge;
-pub use replay::Replay;
 use std::alloc::AllocError;
 use thiserror::Error;
 pub use verdicts::{all_pass, failed};

@@ -6,13 +6,14 @@ ghost use Rattle.acl.specs.declared.leaders.Edition.{Edition};
 ghost use Rattle.acl.specs.declared.user_id.UserId.{UserId};
 ghost use Rattle.acl.specs.History.{History};
 ghost use Rattle.hub_trail.specs.Legal.{passes, failed, user_of, AsksFirst, is_let, AreLet};
-ghost use Rattle.hub_trail.specs.Legal.{is_client_of, is_granted, is_of_user};
-ghost use Rattle.hub_check.specs.Following.{StandsAfter};
+ghost use Rattle.hub_trail.specs.Judging.{is_on_there};
+ghost use Rattle.hub_trail.specs.Legal.{IsTrue, is_client_of, is_granted, is_of_user};
+ghost use Rattle.rights.specs.Following.{StandsAfter};
 ghost use Rattle.hub_check.specs.Parts.{AreTrue, AsksFor};
 
-use crate::replay::Replay;
 use acl::{Act, Bit, CommandName, Object, UserId};
 use hub_trail::{Kept, asks_for_command, from_command};
+use rights::Rights;
 use session::Verdict;
 
 /// Whether the verdict lets its user go on.
@@ -60,14 +61,31 @@ pub fn are_of(user: UserId, verdicts: &[Verdict]) -> bool
     verdicts.iter().all(|verdict| user_of(*verdict) == user)
 }
 
-/// Whether each verdict is on an object that is there, and is true.
-pub fn are_true(replay: &Replay, verdicts: &[Verdict]) -> bool
+/// Whether a verdict is on an object that is there, and tells the truth.
+fn is_true(rights: &Rights, verdict: Verdict) -> bool
     ensures { (edition : Edition) (owner : UserId) (h : History) →
-        StandsAfter replay.now edition owner h →
+        StandsAfter rights.now edition owner h → (result ≡ true)
+        ↔ ((is_on_there h verdict ≡ true) × IsTrue edition owner h verdict) }
+{
+    match verdict {
+        Verdict::Right {
+            user,
+            bit,
+            object,
+            answer,
+        } => rights.is_there(object) && answer == rights.may(user, bit, object),
+        Verdict::Lock { window, holder, .. } => holder == rights.holder(window),
+    }
+}
+
+/// Whether each verdict is on an object that is there, and is true.
+pub fn are_true(rights: &Rights, verdicts: &[Verdict]) -> bool
+    ensures { (edition : Edition) (owner : UserId) (h : History) →
+        StandsAfter rights.now edition owner h →
         (result ≡ true) ↔ AreTrue edition owner h verdicts.now }
 {
     for verdict in verdicts {
-        if !replay.is_true(*verdict) {
+        if !is_true(rights, *verdict) {
             return false;
         }
     }
@@ -75,13 +93,13 @@ pub fn are_true(replay: &Replay, verdicts: &[Verdict]) -> bool
 }
 
 /// Whether all verdicts are about the user of this client, which is attached.
-pub fn are_of_client(replay: &Replay, client: u32, verdicts: &[Verdict]) -> bool
+pub fn are_of_client(rights: &Rights, client: u32, verdicts: &[Verdict]) -> bool
     ensures { (edition : Edition) (owner : UserId) (h : History) →
-        StandsAfter replay.now edition owner h →
+        StandsAfter rights.now edition owner h →
         result ≡ list_all (λ v. is_client_of h client (user_of v)) verdicts.now }
 {
     for verdict in verdicts {
-        if !replay.is_client_of(client, user_of(*verdict)) {
+        if !rights.is_client_of(client, user_of(*verdict)) {
             return false;
         }
     }

@@ -19,7 +19,8 @@ use Rattle.hub_trail.specs.declared.kept.Kept.TheVariants as kept
 use Rattle.hub_trail.specs.Fitting.{detaches, shuts}
 use Rattle.hub_trail.specs.Trails.{Ending, Entry}
 use Rattle.hub_trail.specs.Legal.{AreLegal, AreLet, AreOfUser, Fits, IsLegalEntry, IsOfKnown, is_client_of, user_of}
-use Rattle.hub_trail.specs.Judging.{AreJudgeable, CanFollow, IsBadAt, IsIllegalAt}
+use Rattle.rights.specs.Acts.{CanFollow}
+use Rattle.hub_trail.specs.Judging.{AreJudgeable, IsBadAt, IsIllegalAt}
 use Rattle.hub_check.proofs.Judged.{bad_illegal}
 
 -- ---- acts that make nobody known

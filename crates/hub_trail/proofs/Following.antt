@@ -30,16 +30,10 @@ use Rattle.acl.proofs.StandsForLemmas.{same_user-refl}
 use Rattle.session.proofs.ActsOfMoves.{followed_append}
 use Rattle.session.proofs.Moving.{is_aside}
 use Rattle.hub_trail.proofs.Sights.{any_behind}
-use Rattle.hub_trail.specs.Judging.{can_follow, CanFollow}
+use Rattle.rights.specs.Acts.{can_follow, CanFollow}
+use Rattle.rights.proofs.Running.{follow_append}
 
 -- ---- acts after acts
-
-pub follow_append : (edition : Edition) (owner : UserId) (h : History) (xs ys : List Act) → CanFollow edition owner h xs
-    → CanFollow edition owner (followed_by h xs) ys
-    → CanFollow edition owner h (xs ++ ys)
-follow_append edition owner h [] ys these those = those
-follow_append edition owner h (x ∷ xs) ys these those =
-    (these.0, follow_append edition owner (x ∷ h) xs ys these.1 those)
 
 -- acts that may come after any others
 abbrev pub is_free : Act → Bool

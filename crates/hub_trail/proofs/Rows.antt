@@ -41,8 +41,9 @@ use Rattle.session.proofs.Shapes.{Acted, Shape, by_shape}
 use Rattle.session.proofs.FitCommands.{Holds, page_of, has_there}
 use Rattle.session.proofs.Lists.{all_append}
 use Rattle.session.proofs.Unread.{row_at}
-use Rattle.hub_trail.specs.Judging.{CanFollow}
-use Rattle.hub_trail.proofs.Following.{is_free, AllFree, free_follow, users_stay, follow_append, change_leads}
+use Rattle.rights.specs.Acts.{CanFollow}
+use Rattle.rights.proofs.Running.{follow_append}
+use Rattle.hub_trail.proofs.Following.{is_free, AllFree, free_follow, users_stay, change_leads}
 use Rattle.hub_trail.proofs.Following.{add_leads}
 use Rattle.hub_trail.proofs.Following.{mask_leads, here_follow, removal_follows, group_follows}
 use Rattle.hub_trail.proofs.Naming.{OpenIs, AreThere, there_open, every_there, list_there, focus_open}

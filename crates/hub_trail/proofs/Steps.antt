@@ -51,9 +51,11 @@ use Rattle.hub_trail.specs.declared.kept.Kept.{Kept}
 use Rattle.hub_trail.specs.Trails.{Entry}
 use Rattle.hub_trail.specs.Legal.{acts_after}
 use Rattle.hub_trail.specs.Filing.{kept_of, entry_of, filed, entries_of}
-use Rattle.hub_trail.specs.Judging.{is_on_there, is_client, AreJudgeable}
+use Rattle.rights.specs.Acts.{is_client}
+use Rattle.hub_trail.specs.Judging.{is_on_there, AreJudgeable}
 use Rattle.hub_trail.proofs.Runs.{Named, IsJudged, judged}
-use Rattle.hub_trail.proofs.Following.{is_free, AllFree, follow_append, free_follow}
+use Rattle.rights.proofs.Running.{follow_append}
+use Rattle.hub_trail.proofs.Following.{is_free, AllFree, free_follow}
 use Rattle.hub_trail.proofs.Naming.{OpenIs, there_open, fit_holds, same_holds}
 use Rattle.hub_trail.proofs.Seeing.{SeeThere, verdicts_see, checks_see, typed_see}
 use Rattle.hub_trail.proofs.Rows.{Follows, each_passes, follows, entering_follows, parted_follow, closed_follow}

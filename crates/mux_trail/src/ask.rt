@@ -55,7 +55,7 @@ fn write_who<W: Write>(reading: &TrailReading, output: &mut W) -> Result<u8, Tra
     let settlers = settings_of(alloc, users.as_slice()).map_err(io::Error::from)?;
     let sight = sight_of(reading, Vec::new(alloc), settlers)?;
     write_titles(reading, output)?;
-    write_rights(alloc, reading.owner, &reading.watch, &sight, output)?;
+    write_rights(alloc, &reading.watch, &sight, output)?;
     Ok(LEGAL)
 }
 

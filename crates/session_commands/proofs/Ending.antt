@@ -1,6 +1,6 @@
 -- Windows that are closed, one or all, leave what the definitions' deeds leave.
 use Rattle.std.proofs.Common.{◌≡◌, ◌∙◌, ℕ, ◌<◌, Bool, true, false, not, List, [], ◌∷◌, ◌++◌, Option, Some, None, Ok}
-use Rattle.std.proofs.Common.{Err, refl, ap, sym, subst, map, filter, arith, append_assoc}
+use Rattle.std.proofs.Common.{Err, refl, ap, sym, subst, map, filter, arith, append_assoc, reverse}
 use Rattle.std.specs.Prelude.{if◌then◌else◌, ◌==◌}
 use Rattle.std.specs.List.{AllByRecursion}
 use Rattle.std.proofs.lemmas.Bool.Decides.{nat_tests}
@@ -40,10 +40,10 @@ use Rattle.session_state.specs.Stands.{Stands}
 use Rattle.session_model.specs.Sound.{AreFit}
 use Rattle.session_state.specs.Doing.{HasDone}
 use Rattle.session_commands.specs.declared.going.Going.TheVariants.{Of, All}
-use Rattle.session_commands.specs.Going.{goes, goes_now, gone_now, parted_now}
+use Rattle.session_commands.specs.Going.{TellsLocks, attached_now, goes, goes_now, gone_now, parted_now}
 use Rattle.session_commands.specs.Closing.{gone_row, closed_row, closed_acts, closing}
 use Rattle.session_commands.specs.Settling.{Settled}
-use Rattle.session_commands.proofs.Parting.{TellsLocks, aside_parted, parted_are, gone_are, locks_told}
+use Rattle.session_commands.proofs.Parting.{aside_parted, parted_are, gone_are, locks_told}
 use Rattle.session_commands.proofs.LeavingRows.{given_some, given_none}
 
 -- ---- one after another
@@ -225,19 +225,19 @@ module _ (t : Tables) (ws : List Window) (cs : List Client) (windows : StandFor 
       (gone_are All t.clients cs clients reason.Quit ∙ clients_are (λ n. Gone (peer.Client n) reason.Quit))
 
 pub quit_done : (t : Tables) (s : State) (ws : List Window) (cs : List Client) (acl : Table) (mid locks : Locks)
-    (windows : List Window) (clients : List Client) (before after : StepOutput)
+    (found : List (ℕ × UserId)) (windows : List Window) (clients : List Client) (before after : StepOutput)
     → ws ≡ s.windows → cs ≡ s.clients → Stands t s → AreFit t
     → ((edition : Edition) (owner : UserId) (h : History) → StandsFor s.acl edition owner h
     → StandsFor acl edition owner (followed_by h (closed_acts ws)))
     → ((edition : Edition) (owner : UserId) (h : History) → LocksStandFor s.locks edition owner h
     → LocksStandFor mid edition owner (followed_by h (closed_acts ws)))
-    → TellsLocks All cs mid locks → windows ≡ [] → Keeps (λ c. not true) s.clients clients
+    → found ≡ reverse (attached_now cs) → TellsLocks (parted_now All cs) found mid locks → windows ≡ [] → Keeps (λ c. not true) s.clients clients
     → after.acts.items ≡ before.acts.items ++ (closed_acts ws ++ parted_now All cs)
     → after.effects.items ≡ before.effects.items ++
     (map (gone_row reason.Quit) ws ++ map (gone_now reason.Quit) (filter (goes_now All) cs))
     → HasDone t (quits t) (record s { acl = acl; locks = locks; windows = windows; clients = clients }) before after
-quit_done t s ws cs acl mid locks windows clients before after same alike st fit told locked tells none keeps acts
-    effects =
+quit_done t s ws cs acl mid locks found windows clients before after same alike st fit told locked is tells none keeps
+    acts effects =
     let rows : StandFor t.windows ws = subst (λ xs. StandFor t.windows xs) (sym same) st.windows in
     let are : AreClients t.clients cs = subst (λ xs. AreClients t.clients xs) (sym alike) st.clients in
     let closed_now : History = followed_by t.acts (closed_acts ws) in
@@ -250,7 +250,7 @@ quit_done t s ws cs acl mid locks windows clients before after same alike st fit
             (StandsFor-all_aside acl t.edition t.owner closed_now parted (aside_parted (filter (goes All) t.clients))
             (told t.edition t.owner t.acts st.acl));
         locks = subst (λ h. LocksStandFor locks t.edition t.owner h) order
-            (locks_told All t.clients cs are mid locks t.edition t.owner closed_now t.next_client tells
+            (locks_told All t.clients cs are found mid locks t.edition t.owner closed_now t.next_client is tells
             fit.sound.clients_rise
             (clients_closed ws t.acts ∙ fit.agree.clients_are) (locked t.edition t.owner t.acts st.locks));
         multiuser_is = st.multiuser_is;
@@ -268,16 +268,17 @@ quit_done t s ws cs acl mid locks windows clients before after same alike st fit
 
 -- ---- a user who is gone
 
-pub removed : (t : Tables) (user : UserId) (s : State) (cs : List Client) (acl : Table) (mid locks : Locks)
-    (clients : List Client) (noted : List Act) (before after : StepOutput)
-    → cs ≡ s.clients → Stands t s → AreFit t → TellsLocks (Of user) cs s.locks mid
+pub removed : (t : Tables) (user : UserId) (s : State) (cs : List Client) (found : List (ℕ × UserId)) (acl : Table)
+    (mid locks : Locks) (clients : List Client) (noted : List Act) (before after : StepOutput)
+    → cs ≡ s.clients → Stands t s → AreFit t → found ≡ reverse (attached_now cs)
+    → TellsLocks (parted_now (Of user) cs) found s.locks mid
     → noted ≡ before.acts.items ++ parted_now (Of user) cs
     → Does s.acl acl noted after.acts.items (λ edition owner h. LocksStandFor mid edition owner h)
     (λ edition owner h. LocksStandFor locks edition owner h) (λ owner h. Gone user ∷ [])
     → Keeps (λ m. not (is_of user m)) s.clients clients
     → after.effects.items ≡ before.effects.items ++ map (gone_now reason.Removed) (filter (goes_now (Of user)) cs)
     → HasDone t (removes (Some user) t) (record s { acl = acl; locks = locks; clients = clients }) before after
-removed t user s cs acl mid locks clients noted before after alike st fit tells acts_are does keeps effects =
+removed t user s cs found acl mid locks clients noted before after alike st fit is tells acts_are does keeps effects =
     let are : AreClients t.clients cs = subst (λ xs. AreClients t.clients xs) (sym alike) st.clients in
     let parted : List Act = map (λ (m : model.Client). Parted m.serial) (filter (is_of user) t.clients) in
     let after_parting : History = followed_by t.acts parted in
@@ -291,7 +292,7 @@ removed t user s cs acl mid locks clients noted before after alike st fit tells 
         acl = subst (λ h. StandsFor acl t.edition t.owner h) order done.stands;
         locks = subst (λ h. LocksStandFor locks t.edition t.owner h) order
             (done.follower
-            (locks_told (Of user) t.clients cs are s.locks mid t.edition t.owner t.acts t.next_client tells
+            (locks_told (Of user) t.clients cs are found s.locks mid t.edition t.owner t.acts t.next_client is tells
             fit.sound.clients_rise fit.agree.clients_are st.locks));
         multiuser_is = st.multiuser_is;
         windows = st.windows;

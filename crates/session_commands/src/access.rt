@@ -11,7 +11,7 @@ ghost use Rattle.session_commands.specs.Contexts.{Does, DoesForAll, DoesIf, HasR
 ghost use Rattle.session_state.specs.Leaders.{IsKnownUser};
 
 use crate::giver::{CommandReply, Context};
-use crate::going::{Going, gone_clients, note_parted};
+use crate::going::{Going, attached, gone_clients, note_parted};
 use crate::masks::entries_of;
 use crate::names::{named, names_of, new_leader};
 use crate::objects::{every_object, objects_of};
@@ -69,12 +69,13 @@ pub fn acldel(context: &mut Context, word: &str) -> CommandReply
     let (state, made) = (&mut *context.state, &mut *context.made);
     let going = Going::Of(user);
     let clients = state.clients.as_slice();
+    let mut rows = attached(state.alloc, clients)?;
     let mut gone = gone_clients(state.alloc, clients, going, Reason::Removed)?;
     made.acts.reserve(clients.len() + 65)?;
     made.effects.reserve(gone.len())?;
     let start = made.acts.len();
     let mut locks = state.locks;
-    note_parted(clients, going, &mut locks, &mut made.acts);
+    note_parted(clients, going, &mut rows, &mut locks, &mut made.acts);
     if let Err(fault) = state.acl.remove(Some(user), &mut made.acts, 64, &mut locks) {
         made.acts.truncate(start);
         return Err(refusal_of(fault));

@@ -1,21 +1,15 @@
 //! How clients go.
 
-ghost use Rattle.std.specs.Prelude.{◌≡◌, ◌≤◌, ◌+◌, ◌++◌, ◌&&◌, ℕ, not, filter, map};
+ghost use Rattle.std.specs.Prelude.{◌≡◌, ◌≤◌, ◌+◌, ◌++◌, ℕ, not, filter, map};
 ghost use Rattle.std.specs.Prelude.{length, reverse, vec_len, vec_capacity};
 ghost use Rattle.std.specs.Prelude.{IfOk};
-ghost use Rattle.std.specs.List.{list_any};
-ghost use Rattle.acl.specs.declared.leaders.Edition.{Edition};
-ghost use Rattle.acl.specs.History.{History, followed_by};
-ghost use Rattle.writelock.specs.Holding.{clients_of};
-ghost use Rattle.writelock.specs.LockTable.{LocksStandFor};
-ghost use Rattle.session_model.specs.Sound.{Rises};
 ghost use Rattle.session_state.specs.Clients.{Keeps};
 ghost use Rattle.session_commands.specs.Going.{goes, goes_now, gone_now, parted_now};
-ghost use Rattle.session_commands.specs.Going.{serials_now, attached_now, is_of_now};
-ghost use Rattle.session_commands.specs.Going.{last_of, Goes};
+ghost use Rattle.session_commands.specs.Going.{attached_now, Goes, TellsLocks};
 
 use crate::giver::Context;
 use acl::{Act, UserId};
+use rights::part_client;
 use session_model::{Effect, Peer, Reason};
 use session_state::{Client, Clients};
 use std::alloc::{AllocError, Global};
@@ -66,54 +60,40 @@ pub(crate) fn gone_clients(
     Ok(gone)
 }
 
-/// Whether one of these clients is the user's.
-fn is_among(clients: &[Client], user: UserId) -> bool
-    ensures { result ≡ list_any (is_of_now user) clients.now }
+/// The serials and users of these clients, the last client first.
+pub(crate) fn attached(alloc: Global, clients: &[Client]) -> Result<Vec<(u32, UserId)>, AllocError>
+    ensures { IfOk result (λ rows. rows.items ≡ reverse (attached_now clients.now)) }
 {
-    clients.iter().any(|client| client.user == user)
-}
-
-/// Whether one of these clients is the user's and stays.
-fn stays_among(clients: &[Client], user: UserId, going: Going) -> bool
-    ensures { result ≡ list_any (λ c. is_of_now user c && not (goes_now going c)) clients.now }
-{
-    clients
-        .iter()
-        .any(|client| client.user == user && !going.has(client))
-}
-
-/// The user of a client that goes now, if it is their last one: none of the clients after it is
-/// theirs, and none of their clients before it stays.
-fn last_of(before: &[Client], user: UserId, behind: &[Client], going: Going) -> Option<UserId>
-    ensures { result ≡ last_of user going before.now behind.now }
-{
-    if stays_among(before, user, going) || is_among(behind, user) {
-        None
-    } else {
-        Some(user)
+    let mut rows = Vec::new(alloc);
+    for client in clients {
+        rows.insert(0, (client.serial, client.user))?;
     }
+    Ok(rows)
 }
 
-/// Notes the clients that go, by rising serials, and tells the locks.
-pub(crate) fn note_parted(clients: &[Client], going: Going, locks: &mut Locks, acts: &mut Vec<Act>)
+/// Notes the clients that go, by rising serials, and tells the locks. The rows are those of all clients
+/// that are attached.
+pub(crate) fn note_parted(
+    clients: &[Client],
+    going: Going,
+    rows: &mut Vec<(u32, UserId)>,
+    locks: &mut Locks,
+    acts: &mut Vec<Act>,
+)
     requires { vec_len acts.old + length clients.now ≤ vec_capacity acts.old }
     ensures acts { acts.new.items ≡ acts.old.items ++ parted_now going clients.now }
-    ensures locks { (edition : Edition) (owner : UserId) (h : History) (next : ℕ)
-        → Rises (serials_now clients.now) next → LocksStandFor locks.old edition owner h
-        → clients_of h ≡ reverse (attached_now clients.now)
-        → LocksStandFor locks.new edition owner (followed_by h (parted_now going clients.now)) }
+    ensures locks { TellsLocks (parted_now going clients.now) rows.old.items locks.old locks.new }
     ensures room { (n : ℕ) → vec_len acts.old + length clients.now + n ≤ vec_capacity acts.old
         → vec_len acts.new + n ≤ vec_capacity acts.new }
 {
     for i in 0..clients.len() {
         let client = &clients[i];
         if going.has(client) {
-            let last = last_of(&clients[..i], client.user, &clients[i + 1..], going);
             acts.push(Act::Parted {
                 client: client.serial,
             })
             .unwrap();
-            locks.parted(last);
+            part_client(rows, locks, client.serial);
         }
     }
 }
@@ -136,10 +116,17 @@ pub(crate) fn go(context: &mut Context, going: Going, why: Reason) -> Result<(),
 {
     let (state, made) = (&mut *context.state, &mut *context.made);
     let clients = state.clients.as_slice();
+    let mut rows = attached(state.alloc, clients)?;
     let mut gone = gone_clients(state.alloc, clients, going, why)?;
     made.acts.reserve(clients.len() + 64)?;
     made.effects.append(&mut gone)?;
-    note_parted(clients, going, &mut state.locks, &mut made.acts);
+    note_parted(
+        clients,
+        going,
+        &mut rows,
+        &mut state.locks,
+        &mut made.acts,
+    );
     remove(&mut state.clients, going);
     Ok(())
 }

@@ -11,7 +11,7 @@ ghost use Rattle.acl.specs.Names.{name_of};
 
 use crate::closing::{close, gone_windows, note_closed};
 use crate::giver::{CommandReply, Context};
-use crate::going::{Going, go, gone_clients, note_parted};
+use crate::going::{Going, attached, go, gone_clients, note_parted};
 use acl::UserId;
 use session_model::{Reason, Refusal};
 use session_state::{Caller, messages_of};
@@ -58,13 +58,20 @@ pub fn quit(context: &mut Context) -> CommandReply
     let (state, made) = (&mut *context.state, &mut *context.made);
     let windows = state.windows.as_slice();
     let clients = state.clients.as_slice();
+    let mut rows = attached(state.alloc, clients)?;
     let mut gone = gone_windows(state.alloc, windows, Reason::Quit)?;
     let mut parted = gone_clients(state.alloc, clients, Going::All, Reason::Quit)?;
     gone.append(&mut parted)?;
     made.acts.reserve(windows.len() + clients.len() + 64)?;
     made.effects.append(&mut gone)?;
     note_closed(windows, &mut state.acl, &mut state.locks, &mut made.acts);
-    note_parted(clients, Going::All, &mut state.locks, &mut made.acts);
+    note_parted(
+        clients,
+        Going::All,
+        &mut rows,
+        &mut state.locks,
+        &mut made.acts,
+    );
     state.windows.close_all();
     state.clients.clear();
     Ok(None)

@@ -35,7 +35,8 @@ pub use Rattle.command_lang.specs.Relation.{read_line}
 pub use Rattle.command_lang.specs.Values.{is_empty_text}
 pub use Rattle.command_lang.specs.declared.command.Command.{Command as Order}
 pub use Rattle.command_lang.specs.declared.command.Mask.{Mask}
-pub use Rattle.hub.specs.Judging.{AreGood, CanFollow, can_follow}
+pub use Rattle.hub.specs.Acts.{CanFollow, can_follow}
+pub use Rattle.hub.specs.Judging.{AreGood}
 pub use Rattle.line_fields.specs.Parts.{blank, colon, preset_text}
 pub use Rattle.program_words.specs.SetupLines.{is_feed}
 pub use Rattle.session.specs.Checks.{checks_by, first_fault}

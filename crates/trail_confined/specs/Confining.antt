@@ -11,7 +11,7 @@ use Rattle.acl.specs.declared.leaders.Edition.{Edition}
 use Rattle.acl.specs.declared.user_id.UserId.{UserId}
 use Rattle.acl.specs.History.{History, among, is_known, leaders_of, mask, may, users_of}
 use Rattle.acl.specs.Same.{same_bit}
-use Rattle.hub.specs.replay.Replay.{Replay}
+use Rattle.hub.specs.rights.Rights.{Rights}
 use Rattle.hub.specs.Following.{StandsAfter}
 use Rattle.trail_confined.specs.declared.premises.Premise.{Premise}
 use Rattle.trail_confined.specs.declared.premises.Premise.TheVariants as premise
@@ -127,7 +127,7 @@ is_asked settlers _ = true
 -- which tables stand
 abbrev pub ConfinementIsDecided : Type 0
 ConfinementIsDecided =
-    (r : Replay) (edition : Edition) (owner : UserId) (h : History) (users : List UserId)
+    (r : Rights) (edition : Edition) (owner : UserId) (h : History) (users : List UserId)
     (bit : Bit) → StandsAfter r edition owner h →
     (list_any (concerns bit) (failing_of edition owner h users) ≡ false)
     ↔ AreConfined edition owner h (among users) bit

@@ -13,12 +13,12 @@ ghost use Rattle.trail_rights.specs.Seeing.{HasSeen};
 
 use crate::premises::{Premise, may_open, premises_of};
 use acl::{Bit, Object, UserId};
-use hub::Replay;
+use hub::Rights;
 use std::alloc::{AllocError, Global};
 use trail_rights::{RightsSetting, Settler, Sight, may, settler_in};
 
 /// Whether a premise holds. None if it is about a mask that wasn't looked for.
-fn holds(replay: &Replay, settlers: &[Settler], premise: Premise) -> Option<bool>
+fn holds(replay: &Rights, settlers: &[Settler], premise: Premise) -> Option<bool>
     ensures holds { (edition : Edition) (owner : UserId) (marked : Marked) →
         StandsAfter replay.now edition owner (acts_in marked) →
         AllByRecursion (HasSettled marked) settlers.now →
@@ -48,7 +48,7 @@ fn holds(replay: &Replay, settlers: &[Settler], premise: Premise) -> Option<bool
 /// The premises that don't hold. None if one is about a mask that wasn't looked for.
 fn failing_among(
     alloc: Global,
-    replay: &Replay,
+    replay: &Rights,
     settlers: &[Settler],
     premises: &[Premise],
 ) -> Result<Option<Vec<Premise>>, AllocError>
@@ -74,7 +74,7 @@ fn failing_among(
 /// replay and the sight have followed. None if the sight didn't look for a mask that they are about.
 pub fn failing_of(
     alloc: Global,
-    replay: &Replay,
+    replay: &Rights,
     sight: &Sight,
     users: &[UserId],
 ) -> Result<Option<Vec<Premise>>, AllocError>

@@ -20,7 +20,7 @@ use crate::premises::{Premise, push_circle};
 use crate::why::{push_found, push_is_owner};
 use acl::{Act, Bit, CommandName, Object, UserId};
 use command_lang::name_text;
-use hub::Replay;
+use hub::Rights;
 use std::alloc::{AllocError, Global};
 use trail_rights::{Decider, Mark, RightsSetting, Settler, Sight, found_in, letter, settler_in};
 
@@ -247,7 +247,7 @@ fn push_indented_owner(owner: UserId, out: &mut Vec<u8>) -> Result<(), AllocErro
 
 /// Appends by which acts a user has x on a command: the user's own, and their leaders'.
 fn push_circle_givers(
-    replay: &Replay,
+    replay: &Rights,
     deciders: &[Decider],
     user: UserId,
     command: CommandName,
@@ -265,7 +265,7 @@ fn push_circle_givers(
 /// Appends why a user has x on a command: they are the owner, or by which acts.
 fn push_power(
     owner: UserId,
-    replay: &Replay,
+    replay: &Rights,
     sight: &Sight,
     power: (UserId, CommandName),
     out: &mut Vec<u8>,
@@ -309,7 +309,7 @@ fn push_setting(
 /// Appends the acts by which a premise fails.
 fn push_causes(
     owner: UserId,
-    replay: &Replay,
+    replay: &Rights,
     sight: &Sight,
     premise: Premise,
     out: &mut Vec<u8>,
@@ -342,7 +342,7 @@ fn push_causes(
 /// Appends a premise that fails, and the acts by which it does.
 fn push_failing(
     owner: UserId,
-    replay: &Replay,
+    replay: &Rights,
     sight: &Sight,
     premise: Premise,
     out: &mut Vec<u8>,
@@ -361,7 +361,7 @@ fn push_failing(
 /// Appends each premise that fails, and the acts by which it does.
 fn push_each_failing(
     owner: UserId,
-    replay: &Replay,
+    replay: &Rights,
     sight: &Sight,
     failing: &[Premise],
     out: &mut Vec<u8>,
@@ -380,7 +380,7 @@ fn push_each_failing(
 /// which it does. The sight has looked for `power_deciders` and `settings_of` the users and their leaders.
 pub fn push_confinement(
     owner: UserId,
-    replay: &Replay,
+    replay: &Rights,
     sight: &Sight,
     failing: &[Premise],
     out: &mut Vec<u8>,

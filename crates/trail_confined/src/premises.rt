@@ -11,7 +11,7 @@ ghost use Rattle.trail_confined.specs.Confining.{circle, may_open, openers_of, p
 ghost use Rattle.trail_confined.specs.Confining.{standing_of};
 
 use acl::{Bit, CommandName, Object, UserId};
-use hub::Replay;
+use hub::Rights;
 use std::alloc::{AllocError, Global};
 use trail_rights::{may, users_of};
 
@@ -155,7 +155,7 @@ fn push_all_masks(
 }
 
 /// Whether a user is known and may open windows.
-pub fn may_open(replay: &Replay, user: UserId) -> bool
+pub fn may_open(replay: &Rights, user: UserId) -> bool
     ensures { (edition : Edition) (owner : UserId) (h : History) →
         StandsAfter replay.now edition owner h → result ≡ may_open edition owner h user }
 {
@@ -169,7 +169,7 @@ pub fn may_open(replay: &Replay, user: UserId) -> bool
 }
 
 /// The known users who may open windows, in the order in which they became known.
-pub fn openers_of(alloc: Global, replay: &Replay) -> Result<Vec<UserId>, AllocError>
+pub fn openers_of(alloc: Global, replay: &Rights) -> Result<Vec<UserId>, AllocError>
     ensures { (edition : Edition) (owner : UserId) (h : History) →
         StandsAfter replay.now edition owner h →
         IfOk result (λ openers. openers.items ≡ openers_of edition owner h) }
@@ -186,7 +186,7 @@ pub fn openers_of(alloc: Global, replay: &Replay) -> Result<Vec<UserId>, AllocEr
 
 /// Appends a user, and then the user's leaders.
 pub fn push_circle(
-    replay: &Replay,
+    replay: &Rights,
     user: UserId,
     circles: &mut Vec<UserId>,
 ) -> Result<(), AllocError>
@@ -201,7 +201,7 @@ pub fn push_circle(
 }
 
 /// These users, each followed by their leaders.
-fn circles_of(alloc: Global, replay: &Replay, users: &[UserId]) -> Result<Vec<UserId>, AllocError>
+fn circles_of(alloc: Global, replay: &Rights, users: &[UserId]) -> Result<Vec<UserId>, AllocError>
     ensures { (edition : Edition) (owner : UserId) (h : History) →
         StandsAfter replay.now edition owner h →
         IfOk result (λ circles. circles.items ≡ circles_of edition h users.now) }
@@ -231,7 +231,7 @@ fn push_premises(
 /// The premises of the law for users.
 pub fn premises_of(
     alloc: Global,
-    replay: &Replay,
+    replay: &Rights,
     users: &[UserId],
 ) -> Result<Vec<Premise>, AllocError>
     ensures { (edition : Edition) (owner : UserId) (h : History) →

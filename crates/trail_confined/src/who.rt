@@ -2,13 +2,13 @@
 
 use acl::{Bit, CommandName, Object, UserId};
 use command_lang::name_text;
-use hub::Replay;
+use hub::Rights;
 use std::alloc::Global;
 use std::io::{self, Write};
-use trail_rights::{Settler, Sight, Watch, holder, may, push_mask_lines, text_of, users_of};
+use trail_rights::{Settler, Sight, Watch, may, push_mask_lines, text_of, users_of};
 
 /// Writes a user and their leaders.
-fn write_user<W: Write>(replay: &Replay, user: UserId, output: &mut W) -> io::Result<()> {
+fn write_user<W: Write>(replay: &Rights, user: UserId, output: &mut W) -> io::Result<()> {
     write!(output, "user {}", text_of(&user))?;
     for leader in replay.leaders_of(user).as_slice() {
         write!(output, " led by {}", text_of(leader))?;
@@ -17,7 +17,7 @@ fn write_user<W: Write>(replay: &Replay, user: UserId, output: &mut W) -> io::Re
 }
 
 /// Writes users with their leaders.
-fn write_users<W: Write>(replay: &Replay, users: &[UserId], output: &mut W) -> io::Result<()> {
+fn write_users<W: Write>(replay: &Rights, users: &[UserId], output: &mut W) -> io::Result<()> {
     for user in users {
         write_user(replay, *user, output)?;
     }
@@ -34,7 +34,7 @@ fn letter_of(bit: Bit) -> char {
 }
 
 /// The letter of a bit if a user has it, else a hyphen.
-fn letter(replay: &Replay, user: UserId, bit: Bit, object: Object) -> char {
+fn letter(replay: &Rights, user: UserId, bit: Bit, object: Object) -> char {
     if may(replay, user, bit, object) {
         letter_of(bit)
     } else {
@@ -44,7 +44,7 @@ fn letter(replay: &Replay, user: UserId, bit: Bit, object: Object) -> char {
 
 /// Writes a user's bits on a window.
 fn write_bits<W: Write>(
-    replay: &Replay,
+    replay: &Rights,
     user: UserId,
     window: u32,
     output: &mut W,
@@ -58,27 +58,21 @@ fn write_bits<W: Write>(
 }
 
 /// Writes a window, and who holds its lock, if somebody does.
-fn write_holder<W: Write>(
-    window: u32,
-    held: Option<Option<UserId>>,
-    output: &mut W,
-) -> io::Result<()> {
+fn write_holder<W: Write>(window: u32, held: Option<UserId>, output: &mut W) -> io::Result<()> {
     match held {
-        Some(Some(user)) => write!(output, "window {window} held by {}", text_of(&user)),
-        Some(None) => write!(output, "window {window}"),
-        None => write!(output, "window {window} held by ?"),
+        Some(user) => write!(output, "window {window} held by {}", text_of(&user)),
+        None => write!(output, "window {window}"),
     }
 }
 
 /// Writes a window: who holds its lock, and each user's bits.
 fn write_window<W: Write>(
-    replay: &Replay,
-    owner: UserId,
+    replay: &Rights,
     users: &[UserId],
     window: u32,
     output: &mut W,
 ) -> io::Result<()> {
-    write_holder(window, holder(replay, owner, window), output)?;
+    write_holder(window, replay.holder(window), output)?;
     for user in users {
         write_bits(replay, *user, window, output)?;
     }
@@ -87,7 +81,7 @@ fn write_window<W: Write>(
 
 /// Writes a command on which a user has x.
 fn write_command<W: Write>(
-    replay: &Replay,
+    replay: &Rights,
     user: UserId,
     command: CommandName,
     output: &mut W,
@@ -100,7 +94,7 @@ fn write_command<W: Write>(
 }
 
 /// Writes the commands on which a user has x.
-fn write_commands<W: Write>(replay: &Replay, user: UserId, output: &mut W) -> io::Result<()> {
+fn write_commands<W: Write>(replay: &Rights, user: UserId, output: &mut W) -> io::Result<()> {
     write!(output, "commands {}", text_of(&user))?;
     for command in &CommandName::ALL {
         write_command(replay, user, *command, output)?;
@@ -110,14 +104,13 @@ fn write_commands<W: Write>(replay: &Replay, user: UserId, output: &mut W) -> io
 
 /// Writes windows with their holders and the users' rights.
 fn write_windows<W: Write>(
-    replay: &Replay,
-    owner: UserId,
+    replay: &Rights,
     users: &[UserId],
     windows: &[u32],
     output: &mut W,
 ) -> io::Result<()> {
     for window in windows {
-        write_window(replay, owner, users, *window, output)?;
+        write_window(replay, users, *window, output)?;
     }
     Ok(())
 }
@@ -125,7 +118,7 @@ fn write_windows<W: Write>(
 /// Writes the users' commands and masks, and what a user gets who becomes known now.
 fn write_powers<W: Write>(
     alloc: Global,
-    replay: &Replay,
+    replay: &Rights,
     users: &[UserId],
     settlers: &[Settler],
     output: &mut W,
@@ -143,7 +136,6 @@ fn write_powers<W: Write>(
 /// the known users.
 pub fn write_rights<W: Write>(
     alloc: Global,
-    owner: UserId,
     watch: &Watch,
     sight: &Sight,
     output: &mut W,
@@ -152,6 +144,6 @@ pub fn write_rights<W: Write>(
     let users = users_of(alloc, replay)?;
     writeln!(output, "entries {}", watch.count())?;
     write_users(replay, users.as_slice(), output)?;
-    write_windows(replay, owner, users.as_slice(), sight.windows(), output)?;
+    write_windows(replay, users.as_slice(), sight.windows(), output)?;
     write_powers(alloc, replay, users.as_slice(), sight.settlers(), output)
 }

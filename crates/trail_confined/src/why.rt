@@ -13,7 +13,7 @@ ghost use Rattle.trail_rights.specs.Windows.{windows_of};
 
 use acl::{Act, Bit, CommandName, Object, UserId};
 use command_lang::name_text;
-use hub::Replay;
+use hub::Rights;
 use line_fields::acts::push_act;
 use line_fields::push_when;
 use session::push_decimal;
@@ -205,7 +205,7 @@ fn push_answer(
 }
 
 /// Whether the user has the bit on the object. None if the object isn't there.
-fn answer_of(replay: &Replay, sight: &Sight, question: Question) -> Option<bool>
+fn answer_of(replay: &Rights, sight: &Sight, question: Question) -> Option<bool>
     ensures { (edition : Edition) (owner : UserId) (h : History) →
         StandsAfter replay.now edition owner h → sight.now.windows.items ≡ windows_of h →
         result ≡ answer_of edition owner h question }
@@ -221,7 +221,7 @@ fn answer_of(replay: &Replay, sight: &Sight, question: Question) -> Option<bool>
 /// the acts that decide it: the user's own, and their leaders'. The sight has looked for these.
 pub fn push_reasons(
     owner: UserId,
-    replay: &Replay,
+    replay: &Rights,
     sight: &Sight,
     question: Question,
     out: &mut Vec<u8>,

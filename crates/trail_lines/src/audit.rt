@@ -13,7 +13,7 @@ ghost use Rattle.trail_lines.specs.declared.audit.Wrong.TheVariants.{NoMemory};
 use crate::UnreadLine;
 use crate::entries::{EntryLine, read_line};
 use acl::{Edition, UserId};
-use hub::{Judge, Replay};
+use hub::{Judge, Rights};
 use std::alloc::{AllocError, Global};
 use thiserror::Error;
 
@@ -116,12 +116,12 @@ impl Audit {
     }
 
     /// Rights, locks and clients after the entries that were read.
-    pub fn replay(&self) -> &Replay
+    pub fn replay(&self) -> &Rights
         ensures { (edition : Edition) (owner : UserId) (entries : List Entry) →
             HasRead self.now edition owner entries →
             StandsAfter result.now edition owner (acts_after [] entries) }
     {
-        self.judge.replay()
+        self.judge.rights()
     }
 }
 

@@ -18,7 +18,7 @@ pub use acts::{AskedBits, Mark};
 pub use decider::{Decider, found_in};
 use line_fields::push_when;
 pub use masks::{letter, push_mask_lines, settings_of};
-pub use rights::{holder, may, users_of};
+pub use rights::{may, users_of};
 pub use settler::{RightsSetting, Settler, settler_in};
 pub use sight::Sight;
 use std::alloc::Global;

@@ -1,60 +1,22 @@
 //! Rights and locks after the acts of a history.
 
-ghost use Rattle.std.specs.Prelude.{◌≡◌, ◌++◌, true, IfOk, IfSome, OnOk, option_to_list};
+ghost use Rattle.std.specs.Prelude.{◌≡◌, ◌++◌, true, IfOk, OnOk, option_to_list};
 ghost use Rattle.acl.specs.declared.leaders.Edition.{Edition};
 ghost use Rattle.acl.specs.declared.user_id.UserId.{UserId};
 ghost use Rattle.acl.specs.History.{History, may, there, users_of};
-ghost use Rattle.writelock.specs.Holding.{holder};
 ghost use Rattle.hub.specs.Following.{StandsAfter};
 
 use acl::{Bit, Object, UserId};
-use hub::Replay;
-use session::Verdict;
+use hub::Rights;
 use std::alloc::{AllocError, Global};
 
 /// Whether the user has the bit on an object that is there.
-pub fn may(replay: &Replay, user: UserId, bit: Bit, object: Object) -> bool
+pub fn may(replay: &Rights, user: UserId, bit: Bit, object: Object) -> bool
     ensures { (edition : Edition) (owner : UserId) (h : History) →
         StandsAfter replay.now edition owner h → there h object ≡ true →
         result ≡ may edition owner h user bit object }
 {
-    replay.is_true(Verdict::Right {
-        user,
-        bit,
-        object,
-        answer: true,
-    })
-}
-
-/// Whether this user holds the lock of the window, or nobody does.
-fn is_held(replay: &Replay, user: UserId, window: u32, held: Option<UserId>) -> bool
-    ensures { (edition : Edition) (owner : UserId) (h : History) →
-        StandsAfter replay.now edition owner h → result ≡ true →
-        held ≡ holder edition owner h window }
-{
-    replay.is_true(Verdict::Lock {
-        user,
-        window,
-        holder: held,
-    })
-}
-
-/// The user who holds the lock of the window, if one does. None if the holder isn't a known user.
-pub fn holder(replay: &Replay, owner: UserId, window: u32) -> Option<Option<UserId>>
-    ensures { (edition : Edition) (owner : UserId) (h : History) →
-        StandsAfter replay.now edition owner h →
-        IfSome result (λ held. held ≡ holder edition owner h window) }
-{
-    if is_held(replay, owner, window, None) {
-        return Some(None);
-    }
-    for place in 0..replay.user_count() {
-        let user = replay.user_at(place);
-        if is_held(replay, owner, window, user) {
-            return Some(user);
-        }
-    }
-    None
+    replay.is_there(object) && replay.may(user, bit, object)
 }
 
 /// Appends a user, if there is one.
@@ -68,7 +30,7 @@ fn push_user(user: Option<UserId>, users: &mut Vec<UserId>) -> Result<(), AllocE
 }
 
 /// The known users, in the order in which they became known; the owner is first.
-pub fn users_of(alloc: Global, replay: &Replay) -> Result<Vec<UserId>, AllocError>
+pub fn users_of(alloc: Global, replay: &Rights) -> Result<Vec<UserId>, AllocError>
     ensures { (edition : Edition) (owner : UserId) (h : History) →
         StandsAfter replay.now edition owner h →
         IfOk result (λ users. users.items ≡ users_of owner h) }

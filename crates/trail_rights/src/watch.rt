@@ -19,7 +19,7 @@ use crate::decider::{Decider, are_asked};
 use crate::settler::Settler;
 use crate::sight::Sight;
 use acl::{Edition, UserId};
-use hub::Replay;
+use hub::Rights;
 use std::alloc::{AllocError, Global};
 use std::io::{self, BufRead};
 use trail_lines::{Audit, EntryLine, Halt, Wrong, next_entry};
@@ -56,7 +56,7 @@ impl Watch {
     }
 
     /// Rights, locks and clients after the entries.
-    pub fn replay(&self) -> &Replay
+    pub fn replay(&self) -> &Rights
         ensures { (edition : Edition) (owner : UserId) (said : List Said) →
             HasWatched self.now edition owner said →
             StandsAfter result.now edition owner (acts_in (marked_after [] said)) }

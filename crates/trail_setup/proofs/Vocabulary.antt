@@ -11,7 +11,7 @@ pub use Rattle.acl.specs.declared.leaders.Edition.{Edition}
 pub use Rattle.acl.specs.declared.user_id.UserId.{UserId}
 pub use Rattle.command_lang.specs.Names.{name_text}
 pub use Rattle.hub.specs.Following.{StandsAfter}
-pub use Rattle.hub.specs.Judging.{CanFollow, can_follow}
+pub use Rattle.hub.specs.Acts.{CanFollow, can_follow}
 pub use Rattle.std.proofs.Common.{Bool, Err, List, None, Ok, Option, Result, Some, [], add-one, ap, append-nil}
 pub use Rattle.std.proofs.Common.{append_assoc, arith, drop, false, if◌then◌else◌, is_none, length, length-append, map}
 pub use Rattle.std.proofs.Common.{nat_lt, not, refl, rules, set, slice_index_or, subst, suc, sym, take, true, unwrap_or}

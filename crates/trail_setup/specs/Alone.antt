@@ -7,7 +7,7 @@ use Rattle.acl.specs.declared.leaders.Edition.{Edition}
 use Rattle.acl.specs.declared.user_id.UserId.{UserId}
 use Rattle.acl.specs.History.{History}
 use Rattle.hub.specs.Following.{StandsAfter}
-use Rattle.hub.specs.Judging.{can_follow}
+use Rattle.hub.specs.Acts.{can_follow}
 use Rattle.trail_setup.specs.declared.entries.Entries.{Entries}
 
 -- whether entries follow from the act

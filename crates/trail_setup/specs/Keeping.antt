@@ -17,7 +17,7 @@ use Rattle.acl.specs.declared.user_id.UserId.{UserId}
 use Rattle.acl.specs.declared.leaders.Edition.{Edition}
 use Rattle.acl.specs.History.{History, followed_by, mask, preset_of}
 use Rattle.acl.specs.Same.{same_command, same_preset, same_user}
-use Rattle.hub.specs.Judging.{CanFollow}
+use Rattle.hub.specs.Acts.{CanFollow}
 use Rattle.hub.specs.Legal.{from_command}
 use Rattle.hub.specs.Trails.{Entry}
 use Rattle.session.specs.refusal.Verdict.{Verdict}

@@ -16,7 +16,7 @@ use crate::entries::Entries;
 use crate::lines::{Given, LineForm, Lines, push_bits};
 use acl::{Bit, CommandName, Object, UserId};
 use command_lang::name_text;
-use hub::Replay;
+use hub::Rights;
 use std::alloc::{AllocError, Global};
 
 /// All combinations of bits but none.
@@ -189,7 +189,7 @@ fn push_leaders_of(user: UserId, leaders: &[UserId], out: &mut Vec<u8>) -> Resul
 }
 
 /// Appends a line for each leader of each user, in their order.
-pub fn push_leaders(replay: &Replay, users: &[UserId], out: &mut Vec<u8>) -> Result<(), AllocError>
+pub fn push_leaders(replay: &Rights, users: &[UserId], out: &mut Vec<u8>) -> Result<(), AllocError>
     ensures { (edition : Edition) (owner : UserId) (h : History) → StandsAfter replay.now edition owner h →
         OnOk result (out.new.items ≡ out.old.items ++ flat_map (leader_lines edition h) users.now) }
 {

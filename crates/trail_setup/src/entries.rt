@@ -8,7 +8,7 @@ ghost use Rattle.acl.specs.Same.{same_user};
 ghost use Rattle.trail_setup.specs.Alone.{is_of_entries, FollowsAlone, HasEntries};
 
 use acl::{Act, Bit, Edition, Object, UserId};
-use hub::Replay;
+use hub::Rights;
 use std::alloc::{AllocError, Global};
 use trail_rights::may;
 
@@ -16,7 +16,7 @@ use trail_rights::may;
 #[derive(Drop)]
 pub struct Entries {
     /// Follows all acts but those on leaders and locks: so nobody has a right by a leader.
-    replay: Replay,
+    replay: Rights,
 }
 
 /// Whether entries follow from the act.
@@ -41,7 +41,7 @@ impl Entries {
         ensures { IfOk result (λ entries. HasEntries entries edition owner []) }
     {
         Ok(Entries {
-            replay: Replay::new(alloc, edition, owner)?,
+            replay: Rights::new(alloc, edition, owner)?,
         })
     }
 

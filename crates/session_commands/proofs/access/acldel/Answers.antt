@@ -50,10 +50,10 @@ returns c = quietly (search rules) (λ k t st fit passed.
       removes (Some user) t,
       removal t (caller_in t k) word user named none,
       refl,
-      removed t user c.args.context.now.state.now cs c.remove.new.self c.note_parted.new.locks c.remove.new.follower
+      removed t user c.args.context.now.state.now cs c.in_ok-rows.rows.items c.remove.new.self c.note_parted.new.locks c.remove.new.follower
           c.remove_of.new.self c.note_parted.new.acts.items made (record
           { acts = c.remove.new.acts; effects = c.append.new.self }) c.as_slice-clients.ensures st fit
-          c.note_parted.ensures.locks (c.note_parted.ensures.acts ∙ ap (λ xs. xs ++ parted_now (Of user) cs)
+          c.in_ok-rows.ensures c.note_parted.ensures.locks (c.note_parted.ensures.acts ∙ ap (λ xs. xs ++ parted_now (Of user) cs)
           c.reserve.ensures.items) c.in_default-remove.ensures.done c.remove_of.ensures
           (grown c.append.result c.reserve-2.new.self.items c.append.new.self.items c.in_ok-gone.gone.items
           (c.append.ensures.succeeds (omega (arith, c.in_ok-reserve-2.ensures.ok))) c.append.ensures.items

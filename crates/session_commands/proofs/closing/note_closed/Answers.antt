@@ -32,16 +32,16 @@ loop-i-preserved c =
           (c.push.ensures.succeeds (omega arith)) c.push.ensures.items
           ∙ ap (λ xs. xs ++ Closed w.serial ∷ []) c.loop-i.invariant.0
           ∙ append_assoc acts (closed_acts (take i ws)) (Closed w.serial ∷ [])
-          ∙ ap (λ xs. acts ++ xs) (sym (closed_more (take i ws) w) ∙ ap closed_acts (sym at.0)),
+          ∙ ap (λ xs. acts ++ xs) (sym (closed_more (take i ws) w) ∙ ap closed_acts (sym at)),
       omega arith,
       omega arith,
       λ edition owner h st.
-          subst (λ ys. StandsFor c.window_closed.new.self edition owner (followed_by h (closed_acts ys))) (sym at.0)
+          subst (λ ys. StandsFor c.window_closed.new.self edition owner (followed_by h (closed_acts ys))) (sym at)
           (subst (λ k. StandsFor c.window_closed.new.self edition owner k) (sym (history_more h (take i ws) w))
           (c.window_closed.ensures edition owner (followed_by h (closed_acts (take i ws)))
           (c.loop-i.invariant.3 edition owner h st))),
       λ edition owner h st.
-          subst (λ ys. LocksStandFor c.closed.new.self edition owner (followed_by h (closed_acts ys))) (sym at.0)
+          subst (λ ys. LocksStandFor c.closed.new.self edition owner (followed_by h (closed_acts ys))) (sym at)
           (subst (λ k. LocksStandFor c.closed.new.self edition owner k) (sym (history_more h (take i ws) w))
           (c.closed.ensures edition owner (followed_by h (closed_acts (take i ws)))
           (c.loop-i.invariant.4 edition owner h st))),

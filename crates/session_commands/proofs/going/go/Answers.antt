@@ -8,7 +8,7 @@ pub returns : goal.returns
 returns c =
     let room = c.note_parted.ensures.room 64 (omega (arith, c.in_ok-reserve.ensures.ok)) in (
       ((refl, refl), (tt, room)),
-      λ t st there.
+      λ t st fit.
           let s = c.args.context.now.state.now in
           let made = c.args.context.now.made.now in
           let g = c.args.going in
@@ -16,8 +16,8 @@ returns c =
           let are : AreClients t.clients cs = subst (λ xs. AreClients t.clients xs) (sym c.as_slice-clients.ensures)
           st.clients in
           record {
-            stands = went t g c.args.why s cs c.note_parted.new.locks c.remove.new.clients c.as_slice-clients.ensures st there
-                c.note_parted.ensures.locks c.remove.ensures;
+            stands = went t g c.args.why s cs c.in_ok-rows.rows.items c.note_parted.new.locks c.remove.new.clients
+                c.as_slice-clients.ensures st fit c.in_ok-rows.ensures c.note_parted.ensures.locks c.remove.ensures;
             acts = c.note_parted.ensures.acts
                 ∙ ap (λ xs. xs ++ parted_now g cs) c.reserve.ensures.items
                 ∙ ap (λ xs. made.acts.items ++ xs) (parted_are g t.clients cs are);

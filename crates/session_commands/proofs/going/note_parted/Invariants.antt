@@ -1,7 +1,11 @@
-use Rattle.std.proofs.Common.{◌≡◌, ◌≤◌, ◌+◌, ◌++◌, take, drop}
+use Rattle.std.proofs.Common.{◌≡◌, ◌≤◌, ◌+◌, ◌++◌, take}
 use Rattle.std.specs.Prelude.{vec_len, vec_capacity}
+use Rattle.acl.specs.declared.leaders.Edition.{Edition}
+use Rattle.acl.specs.declared.user_id.UserId.{UserId}
+use Rattle.acl.specs.History.{History, followed_by}
+use Rattle.writelock.specs.LockTable.{LocksStandFor}
+use Rattle.rights.specs.Clients.{ClientsStandFor}
 use Rattle.session_commands.specs.Going.{parted_now}
-use Rattle.session_commands.proofs.Parting.{Noted}
 use Rattle.session_commands.proofs.going.note_parted.Given as goal
 
 -- the clients that have gone up to here
@@ -10,4 +14,7 @@ invariant-loop-i l =
     (l.acts.items ≡ l.fn.acts.items ++ parted_now l.going (take l.i l.clients))
     × (vec_len l.acts ≤ vec_len l.fn.acts + l.i)
     × (vec_capacity l.fn.acts ≤ vec_capacity l.acts)
-    × Noted l.going l.clients (take l.i l.clients) (drop l.i l.clients) l.fn.locks l.locks
+    × ((edition : Edition) (owner : UserId) (h : History) → LocksStandFor l.fn.locks edition owner h
+    → ClientsStandFor l.fn.rows.items h
+    → LocksStandFor l.locks edition owner (followed_by h (parted_now l.going (take l.i l.clients)))
+    × ClientsStandFor l.rows.items (followed_by h (parted_now l.going (take l.i l.clients))))

@@ -26,5 +26,5 @@ returns c = quietly (search rules) (λ t st fit.
       given_some (client_at t client) NoWindow (λ m. Ok (parts (λ d. d.serial == client) reason.Detached t)) row.0
           row.1,
       refl,
-      c.in_ok-go.ensures.1 t st (record { rise = fit.sound.clients_rise; clients_are = fit.agree.clients_are }),
+      c.in_ok-go.ensures.1 t st fit,
     ))

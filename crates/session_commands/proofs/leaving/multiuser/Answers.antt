@@ -6,7 +6,7 @@ use Rattle.session_model.specs.Commands.{does}
 use Rattle.session_model.specs.Deeds.{changing, parts, is_of}
 use Rattle.session_state.specs.Doing.{HasDone, caller_in}
 use Rattle.session_commands.specs.declared.going.Going.TheVariants.{AllBut}
-use Rattle.session_commands.specs.Going.{AreAttached, goes}
+use Rattle.session_commands.specs.Going.{goes}
 use Rattle.session_commands.proofs.Quiet.{quietly}
 use Rattle.session_commands.proofs.leaving.multiuser.Goals as goal
 
@@ -35,10 +35,9 @@ returns-then-is_on-clause-does c = (
 
 pub returns-clause-does : goal.returns-clause-does
 returns-clause-does c = quietly (search rules) (λ k t st fit passed.
-    let there : AreAttached t = record { rise = fit.sound.clients_rise; clients_are = fit.agree.clients_are } in
     let owner : c.owner-owner.result ≡ t.owner = c.owner-owner.ensures ∙ st.acl.owned in
     let done = subst (λ (u : UserId). HasDone t (parts (goes (AllBut u)) reason.SingleUser t) c.go.new.context.state.now
-    c.args.context.now.made.now c.go.new.context.made.now) owner (c.in_ok-go.ensures.1 t st there) in (
+    c.args.context.now.made.now c.go.new.context.made.now) owner (c.in_ok-go.ensures.1 t st fit) in (
       parts (λ m. not (is_of t.owner m)) reason.SingleUser (record t { is_multiuser = false }),
       ap (λ b. does t (caller_in t k) (command.Multiuser b)) c.if-is_on.false,
       refl,

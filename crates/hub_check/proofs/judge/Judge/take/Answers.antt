@@ -6,22 +6,22 @@ use Rattle.acl.specs.declared.leaders.Edition.{Edition}
 use Rattle.acl.specs.declared.user_id.UserId.{UserId}
 use Rattle.acl.specs.History.{History}
 use Rattle.hub_trail.specs.Legal.{acts_after}
-use Rattle.hub_check.specs.declared.replay.Replay.{Replay}
-use Rattle.hub_check.specs.Following.{StandsAfter, FollowsAll}
+use Rattle.rights.specs.declared.rights.Rights.{Rights}
+use Rattle.rights.specs.Following.{StandsAfter, FollowsAll}
 use Rattle.hub_check.specs.Parts.{IsJudged}
 use Rattle.hub_check.proofs.Taken.{good_next, acts_next, bad_next}
 use Rattle.hub_check.proofs.judge.Judge.take.Goals as goal
 
-stands_for : (replay : Replay) (edition : Edition) (owner mine : UserId) (h : History) → mine ≡ owner
-    → StandsAfter replay edition owner h → StandsAfter replay edition mine h
-stands_for replay edition owner mine h is s = subst (λ o. StandsAfter replay edition o h) (sym is) s
+stands_for : (rights : Rights) (edition : Edition) (owner mine : UserId) (h : History) → mine ≡ owner
+    → StandsAfter rights edition owner h → StandsAfter rights edition mine h
+stands_for rights edition owner mine h is s = subst (λ o. StandsAfter rights edition o h) (sym is) s
 
 pub returns-then-not-branch : goal.returns-then-not-branch
 returns-then-not-branch c = λ edition owner entries j.
     let e = c.args.entry.now in
     let h = acts_after [] entries in
     let told = c.in_ok-is_legal.ensures edition h
-    (stands_for c.args.self.now.replay edition owner c.args.self.now.owner h j.owner_is j.stands) in (
+    (stands_for c.args.self.now.rights edition owner c.args.self.now.owner h j.owner_is j.stands) in (
       λ is. absurd (false≢true is),
       λ _ more. bad_next edition owner [] entries e more j.good
           (λ good. false≢true
@@ -35,9 +35,9 @@ returns c = IfOk-weaker c.follow_all.result _ _
     let e = c.args.entry.now in
     let h = acts_after [] entries in
     let told = c.in_ok-is_legal.ensures edition h
-    (stands_for c.args.self.now.replay edition owner c.args.self.now.owner h j.owner_is j.stands) in
+    (stands_for c.args.self.now.rights edition owner c.args.self.now.owner h j.owner_is j.stands) in
     let is = subst (λ o. IsJudged edition o h e) j.owner_is (told.0 c.if-not-branch.false) in
-    let t = subst (λ (a : List Act). FollowsAll c.args.self.now.replay c.follow_all.new.self b a) c.acts.ensures f
+    let t = subst (λ (a : List Act). FollowsAll c.args.self.now.rights c.follow_all.new.self b a) c.acts.ensures f
     edition owner h j.stands in (
       λ yes. record {
         owner_is = j.owner_is;

@@ -8,7 +8,8 @@ use Rattle.acl.specs.declared.user_id.UserId.{UserId}
 use Rattle.acl.specs.History.{History, followed_by}
 use Rattle.session.specs.refusal.Verdict.{Verdict}
 use Rattle.hub_trail.specs.Trails.{Entry}
-use Rattle.hub_trail.specs.Judging.{is_on_there, AreJudgeable, CanFollow}
+use Rattle.rights.specs.Acts.{CanFollow}
+use Rattle.hub_trail.specs.Judging.{is_on_there, AreJudgeable}
 use Rattle.hub_record.specs.EntryLists.{entry_in}
 use Rattle.hub_ledger.proofs.ledger.turned.turned.Goals as goal
 

@@ -1,6 +1,0 @@
-use Rattle.std.specs.Prelude.{◌≡◌, take}
-use Rattle.acl.specs.Commands.{sets_on}
-use Rattle.hub_runs.proofs.are_sets.Given as goal
-
-abbrev pub invariant-places : goal.invariant-places
-invariant-places l = take l.i l.fn.acts ≡ sets_on l.fn.user (take l.i l.fn.changes) l.fn.object

@@ -1,0 +1,4 @@
+pub mod Acts
+pub mod Clients
+pub mod Runs
+pub mod Following
