@@ -120,13 +120,7 @@ pub(crate) fn go(context: &mut Context, going: Going, why: Reason) -> Result<(),
     let mut gone = gone_clients(state.alloc, clients, going, why)?;
     made.acts.reserve(clients.len() + 64)?;
     made.effects.append(&mut gone)?;
-    note_parted(
-        clients,
-        going,
-        &mut rows,
-        &mut state.locks,
-        &mut made.acts,
-    );
+    note_parted(clients, going, &mut rows, &mut state.locks, &mut made.acts);
     remove(&mut state.clients, going);
     Ok(())
 }

@@ -38,11 +38,15 @@ loop-i-preserved c =
             rw w.acts-is (omega arith),
             rw w.acts-is (omega arith),
             λ edition owner h st here.
-            let past : History = followed_by h (parted_now g (take i cs)) in
-            let so_far = c.loop-i.invariant.3 edition owner h st here in
-            rw (w.locks-is, w.rows-is, ap (followed_by h) more
-            ∙ followed_by-append h (parted_now g (take i cs)) (Parted client.serial ∷ []))
-            (w.part_client.ensures edition owner past so_far.0 so_far.1),
+                let past : History = followed_by h (parted_now g (take i cs)) in
+                let so_far = c.loop-i.invariant.3 edition owner h st here in
+                rw (
+                  w.locks-is,
+                  w.rows-is,
+                  ap (followed_by h) more
+                      ∙ followed_by-append h (parted_now g (take i cs)) (Parted client.serial ∷ []),
+                )
+                (w.part_client.ensures edition owner past so_far.0 so_far.1),
           )
       | else-has w ↦
           let stays : goes_now g client ≡ false = sym c.has.ensures ∙ w.if-has.false in
