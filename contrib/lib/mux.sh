@@ -195,6 +195,20 @@ visible() {
     printf '%s' "$1" | LC_ALL=C tr -c ' -~' '?'
     echo
 }
+# in_front WORD..: runs a program on this terminal, and sets status.  It isn't in the foreground of the shell, whose traps
+# would wait for it.
+in_front() {
+    exec 6<&0
+    env --default-signal=INT,QUIT -- "$@" <&6 6<&- &
+    front=$! status=0
+    wait "$front" || status=$?
+    front=''
+    exec 6<&-
+}
+# end_front: ends what in_front runs.
+end_front() {
+    [ -z "${front-}" ] || { kill "$front" && wait "$front"; } 2>/dev/null || :
+}
 # exit_on_signals: on a signal the script ends by its trap EXIT.
 exit_on_signals() {
     trap 'exit 129' HUP
