@@ -1,16 +1,22 @@
 -- What a read brought.
-use Rattle.std.proofs.Common.{◌≡◌, ◌≢◌, ℕ, Bool, true, false, ◌||◌, refl, inl, ne_eqb}
+use Rattle.std.proofs.Common.{◌≡◌, ◌≢◌, ◌∙◌, ℕ, Bool, true, false, ◌||◌, refl, ap, inl, ne_eqb}
 use Rattle.server_connections.specs.Peers.{is_stranger}
-use Rattle.server_connections.specs.Reading.{Fills, is_again, more_after}
+use Rattle.server_connections.specs.Reading.{Fills, after_arrival, is_again, is_much, more_after}
 use Rattle.server_connections.specs.declared.peer.Peer.{Peer}
 use Rattle.server_connections.specs.declared.stream.Arrival.{Arrival}
 use Rattle.server_connections.specs.declared.stream.Arrival.TheVariants as arrival
+use Rattle.server_typing.specs.Typed.{Typed, after_read}
 
 pub none_came : (size : ℕ) (a : Arrival) → a ≢ arrival.Much → Fills size 0 a
 none_came size arrival.Much not = absurd (not refl)
 none_came size arrival.Some not = inl refl
 none_came size arrival.Nothing not = refl
 none_came size arrival.End not = refl
+
+-- keys that wait know of a read that brought something
+pub typed_after : (now n : ℕ) (a : Arrival) (m : Bool) (t : Typed) → m ≡ is_much a → (n ≡ 0 → ⊥)
+    → after_read now m t ≡ after_arrival now n a t
+typed_after now n a m t much not = rw (much, ne_eqb n 0 not)
 
 module _ {S : Type 0} where
   pub more_than_none : (p : Peer S) (a : Arrival) → a ≢ arrival.Much → is_again a ≡ more_after p 0 a

@@ -1,8 +1,8 @@
 -- What is to be done with a connection, and which one is a client or a window of the session.
 use Rattle.std.specs.Prelude.{◌≡◌, ◌⊎◌, ◌==◌, ◌&&◌, ◌||◌, ◌<◌, ◌≤◌, ℕ, Bool, true, false, not, length}
-use Rattle.std.specs.Prelude.{Option, Some, None, is_none, IsSomeAnd}
+use Rattle.std.specs.Prelude.{[], Option, Some, None, is_none, IsSomeAnd}
 use Rattle.slab.specs.Slab.{Slab, get}
-use Rattle.server_inbox.specs.Asking.{is_empty}
+use Rattle.server_inbox.specs.Asking.{Stands, is_empty}
 use Rattle.server_connections.specs.declared.peer.Awaits.{Awaits}
 use Rattle.server_connections.specs.declared.peer.Awaits.TheVariants as awaited
 use Rattle.server_connections.specs.declared.peer.Peer.{Peer}
@@ -30,13 +30,32 @@ is_closed stage.Closed = true
 is_closed other = false
 
 module _ {S : Type 0} where
-  -- a new connection of this stream
+  -- A new connection of this stream: nobody is known to have it, nothing was read, and nothing is to be done or sent.
   pub record IsNewcomer (stream : S) (number : ℕ) (is_extra : Bool) (peer : Peer S) : Type 0 where
-    pub stream_is : peer.stream ≡ Some stream
-    pub number_is : peer.number ≡ number
-    pub extra_is : peer.is_extra ≡ is_extra
-    pub is_nobody : (peer.role ≡ role.Stranger) × (peer.leaves ≡ role.Stranger)
-    pub is_read : (peer.stage ≡ stage.Open) × (peer.has_more ≡ true)
+    pub unread : Stands peer.inbox peer.reader [] []
+    pub empty : is_empty peer.inbox ≡ true
+    pub peer_is : peer ≡ record {
+      stream = Some stream;
+      reader = peer.reader;
+      turn = record { unsent = []; typed = []; told = false; has_ended = false };
+      role = role.Stranger;
+      leaves = role.Stranger;
+      stage = stage.Open;
+      number = number;
+      user = None;
+      is_extra = is_extra;
+      has_more = true;
+      has_hung_up = false;
+      is_full = false;
+      inbox = peer.inbox;
+      types_into = None;
+      full = None;
+      is_held = false;
+      look = None;
+      guest = None;
+      why = None;
+      awaited = None;
+    }
 
   -- there may be something to read
   abbrev pub has_more : Peer S → Bool

@@ -63,7 +63,7 @@ module _ {S : Type 0} where
   IsThrough peer = (peer.stream ≡ None) ⊎ (IsIdle peer ⊎ IsFull peer)
 
   -- keys and sizes that come next were taken in, and then keys dropped that waited too long
-  abbrev pub Gathers : ℕ → Peer S → Bool → Peer S → Type 0
-  Gathers now old is_through new = (mid : Inbox)
-      × IsGathered now old.inbox old.reader mid new.reader is_through
+  abbrev pub Gathers : ℕ → Peer S → Option Bool → Peer S → Type 0
+  Gathers now old far new = (mid : Inbox)
+      × IsGathered now old.inbox old.reader mid new.reader far
       × (new ≡ record old { inbox = record mid { typed = expired now mid.typed }; reader = new.reader })

@@ -1,14 +1,15 @@
 //! One connection.
 
-ghost use Rattle.std.specs.Prelude.{◌≡◌, ◌↔◌, ◌<◌, ◌&&◌, ◌||◌, IfOk, IsTrue, Some, [], false, true, length, not};
+ghost use Rattle.std.specs.Prelude.{◌≡◌, ◌↔◌, ◌<◌, ◌&&◌, ◌||◌, IfOk, IsTrue, Some, false, true, length, not};
 ghost use Rattle.std.specs.Prelude.{option_map};
+ghost use Rattle.std.specs.Result.{result_ok};
 ghost use Rattle.server_connections.specs.Peers.{IsNewcomer, awaits, has_more, is_at_rest, is_awaited};
 ghost use Rattle.server_connections.specs.Peers.{is_closed, is_done, is_due, is_new, is_open, is_stranger};
 ghost use Rattle.server_connections.specs.Peers.{listens};
 ghost use Rattle.server_connections.specs.Life.{dismissed, given_up, gone_guest, left, parting};
 ghost use Rattle.server_connections.specs.Life.{wanted_draw, without_guest};
 ghost use Rattle.server_connections.specs.Streaming.{Gathers};
-ghost use Rattle.server_inbox.specs.Asking.{Stands, is_empty};
+ghost use Rattle.server_inbox.specs.Asking.{is_empty};
 ghost use Rattle.server_typing.specs.Typed.{untyped};
 ghost use Rattle.session.specs.Trace.{happening};
 
@@ -145,10 +146,7 @@ impl<S: Drop> Peer<S> {
     /// reserved.
     #[tactic(auto, using(crate::proofs::Standing::newly))]
     pub fn new(alloc: Global, stream: S, number: u64, is_extra: bool) -> Result<Peer<S>, AllocError>
-        ensures newcomer { IfOk result (IsNewcomer stream number is_extra) }
-        // Nothing was read from it, and nothing is to be done.
-        ensures starts { IfOk result (λ peer. Stands peer.inbox peer.reader [] []) }
-        ensures empty { IfOk result (λ peer. is_empty peer.inbox ≡ true) }
+        ensures { IfOk result (IsNewcomer stream number is_extra) }
     {
         Ok(Peer {
             stream: Some(stream),
@@ -238,7 +236,7 @@ impl<S: Drop> Peer<S> {
     /// Takes in keys and sizes that come next, at this time in milliseconds. Returns whether no more are
     /// there.
     pub fn gather(&mut self, now: u64) -> Result<bool, AllocError>
-        ensures { IfOk result (λ is_through. Gathers now self.old is_through self.new) }
+        ensures { Gathers now self.old (result_ok result) self.new }
     {
         self.inbox.gather(&mut self.reader, now)
     }

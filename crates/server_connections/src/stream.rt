@@ -5,9 +5,9 @@ ghost use Rattle.std.specs.Prelude.{false, length, take, true};
 ghost use Rattle.std.specs.Io.KnownBytes.{Consumes};
 ghost use Rattle.attach_proto.specs.declared.message.Message.{Message};
 ghost use Rattle.server_connections.specs.Peers.{is_open, is_stranger};
-ghost use Rattle.server_connections.specs.Reading.{Fills, is_again, is_readable, more_after};
+ghost use Rattle.server_connections.specs.Reading.{Fills, IsUnasked, Notes, after_none, is_again, is_readable};
 ghost use Rattle.server_connections.specs.Streaming.{IsFull, IsIdle, IsThrough, IsWrittenOn, IsWrittenTo, rest_of};
-ghost use Rattle.server_inbox.specs.Asking.{Gives, IsWhole, Stands, TakesIn};
+ghost use Rattle.server_inbox.specs.Asking.{Gives, Stands, TakesIn, refilled};
 
 use crate::peer::{Peer, Role, Stage};
 use server_inbox::Asked;
@@ -33,7 +33,7 @@ impl<S: Read + Write + Drop> Peer<S> {
         ensures stands { TakesIn self.old.inbox self.old.reader bytes.now
             self.new.inbox self.new.reader }
         ensures same { self.new ≡ record self.old {
-          inbox = self.new.inbox;
+          inbox = refilled self.old.inbox self.new.inbox;
           reader = self.new.reader;
           has_more = has_more;
         } }
@@ -53,13 +53,13 @@ impl<S: Read + Write + Drop> Peer<S> {
             (result ≡ Some asked) × (self.new.reader ≡ self.old.reader)
             × (self.new.inbox ≡ record self.old.inbox { begun = None })) }
         ensures none { is_open self.old.stage ≡ true → self.old.inbox.begun ≡ None → result ≡ None
-            → self.old.inbox.messages.items ≡ [] }
+            → (self.old.inbox.messages.items ≡ []) × IsUnasked self.old self.new }
         ensures next { is_open self.old.stage ≡ true → self.old.inbox.begun ≡ None
             → IfSome result (λ asked. (asked.done ≡ 0)
             × Gives self.old.inbox self.old.reader (asked.message ∷ [])
             self.new.inbox self.new.reader) }
-        ensures same { self.new ≡ record self.old {
-          inbox = self.new.inbox;
+        ensures same { is_open self.old.stage ≡ true → self.new ≡ record self.old {
+          inbox = record (refilled self.old.inbox self.new.inbox) { begun = None };
           reader = self.new.reader;
         } }
     {
@@ -79,15 +79,15 @@ impl<S: Read + Write + Drop> Peer<S> {
 
     // A read brought no byte.
     fn note_none(&mut self, now: u64, arrival: Arrival)
-        ensures same { self.new ≡ record self.old {
-          has_more = self.new.has_more;
-          inbox = record self.old.inbox { typed = self.new.inbox.typed };
+        ensures { self.new ≡ record self.old {
+          has_more = is_again arrival;
+          inbox = record self.old.inbox { typed = after_none now arrival self.old.inbox.typed };
         } }
-        ensures more { self.new.has_more ≡ is_again arrival }
     {
         self.has_more = arrival == Arrival::Some;
-        if arrival == Arrival::Nothing {
-            self.inbox.typed.note_read(now, false);
+        match arrival {
+            Arrival::Nothing => self.inbox.typed.note_read(now, false),
+            Arrival::Much | Arrival::Some | Arrival::End => {}
         }
     }
 
@@ -98,20 +98,19 @@ impl<S: Read + Write + Drop> Peer<S> {
         // If it may not be read nothing is done.
         ensures held { is_readable now self.old ≡ false
             → (result ≡ Arrival.Nothing) × (self.new ≡ self.old) }
-        // What was read is taken in after all that was read before, and it is known whether more may be there.
+        // What was read is taken in after all that was read before, and it is known whether more may be there. What
+        // was taken out before stays as it was.
         ensures bytes { (piece : List ℕ)
             × Consumes (rest_of S.remaining self.old.stream) (rest_of S.remaining self.new.stream) piece
             × Fills (length buffer.old) (length piece) result
-            × (is_readable now self.old ≡ true
-            → self.new.has_more ≡ more_after self.old (length piece) result)
+            × (is_readable now self.old ≡ true → Notes now (length piece) result self.old self.new)
             × ((taken : List Message) (stream : List ℕ)
             → Stands self.old.inbox self.old.reader taken stream
-            → IsWhole self.new.inbox self.new.reader
             → Stands self.new.inbox self.new.reader taken (stream ++ piece)) }
         ensures same { self.new ≡ record self.old {
           stream = self.new.stream;
           reader = self.new.reader;
-          inbox = self.new.inbox;
+          inbox = record (refilled self.old.inbox self.new.inbox) { typed = self.new.inbox.typed };
           has_more = self.new.has_more;
         } }
     {

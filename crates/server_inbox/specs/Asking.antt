@@ -29,16 +29,22 @@ is_taken inbox = (vec_len inbox.messages == 0) && is_none inbox.begun
 abbrev pub is_empty : Inbox → Bool
 is_empty inbox = (is_taken inbox && is_idle inbox.typed) && is_none inbox.sizing.wanted
 
+-- nothing was lost for want of memory: if it is broken, bytes came that are no frame
+abbrev pub IsWhole : Bool → Reading → Type 0
+IsWhole broken reader = broken ≡ true → reader.fault ≡ None → ⊥
+
 -- Of the messages of this stream these were taken out, in order. These others are next, the last one first; and these
--- bytes of the stream weren't looked at yet.
+-- bytes of the stream weren't looked at yet, unless some were lost for want of memory.
 pub record HasTaken (messages : List Message) (unseen : List ℕ) (broken : Bool) (reader : Reading)
     (taken : List Message) (stream : List ℕ)
     : Type 0 where
   pub made : List Message
   pub seen : List ℕ
+  pub left : List ℕ
   pub read : HasRead reader made seen
   pub order : made ≡ taken ++ reverse messages
-  pub bytes : stream ≡ seen ++ unseen
+  pub bytes : stream ≡ seen ++ left
+  pub whole : IsWhole broken reader → left ≡ unseen
   -- if it isn't broken, no byte was wrong
   pub sound : broken ≡ false → reader.fault ≡ None
 
@@ -54,17 +60,21 @@ pub record Stands (inbox : Inbox) (reader : Reading) (taken : List Message) (str
   pub lies : Lies inbox reader taken stream
   pub through : IsThrough inbox
 
--- nothing was lost for want of memory: if it is broken, bytes came that are no frame
-abbrev pub IsWhole : Inbox → Reading → Type 0
-IsWhole inbox reader = inbox.is_broken ≡ true → reader.fault ≡ None → ⊥
-
--- these bytes were read when nothing was left to be done, and no memory was lost
+-- these bytes were read when nothing was left to be done
 abbrev pub TakesIn : Inbox → Reading → List ℕ → Inbox → Reading → Type 0
 TakesIn old reader bytes new left = (taken : List Message) (stream : List ℕ) → old.messages.items ≡ []
-    → old.is_broken ≡ false → Stands old reader taken stream → IsWhole new left
-    → Stands new left taken (stream ++ bytes)
+    → old.is_broken ≡ false → Stands old reader taken stream → Stands new left taken (stream ++ bytes)
 
--- these were taken out, and no memory was lost
+-- these were taken out
 abbrev pub Gives : Inbox → Reading → List Message → Inbox → Reading → Type 0
 Gives old reader messages new left = (taken : List Message) (stream : List ℕ) → Stands old reader taken stream
-    → IsWhole new left → Stands new left (taken ++ messages) stream
+    → Stands new left (taken ++ messages) stream
+
+-- more of the stream was looked at: keys and sizes that were taken in, and the message that was begun, stay
+abbrev pub refilled : Inbox → Inbox → Inbox
+refilled old new = record old {
+  messages = new.messages;
+  rest = new.rest;
+  seen = new.seen;
+  is_broken = new.is_broken;
+}

@@ -1,5 +1,5 @@
 -- Keys and sizes are taken out of what a client sent, and joined to those that wait.
-use Rattle.std.specs.Prelude.{◌≡◌, ◌++◌, ◌∷◌, ℕ, Bool, true, false, List, [], length}
+use Rattle.std.specs.Prelude.{◌≡◌, ◌++◌, ◌∷◌, ℕ, Bool, true, false, List, [], Option, Some, length}
 use Rattle.attach_proto.specs.Streams.{Reading}
 use Rattle.attach_proto.specs.declared.message.Message.{Message}
 use Rattle.attach_proto.specs.declared.message.Message.TheVariants as message
@@ -39,12 +39,13 @@ pub record JoinsNext (now : ℕ) (old new : Inbox) : Type 0 where
   pub joins : Joins now next (old.typed, old.sizing) (new.typed, new.sizing)
   pub same : new ≡ record old { messages = new.messages; typed = new.typed; sizing = new.sizing }
 
--- the messages that came next were joined, in order and each once: all that are joined, or as many as one call takes
-pub record IsGathered (now : ℕ) (old : Inbox) (reader : Reading) (new : Inbox) (left : Reading) (is_through : Bool)
+-- The messages that came next were joined, in order and each once: all that are joined (true), or as many as one call
+-- takes (false). Without memory the first of them were.
+pub record IsGathered (now : ℕ) (old : Inbox) (reader : Reading) (new : Inbox) (left : Reading) (far : Option Bool)
     : Type 0 where
   pub messages : List Message
   pub gives : Gives old reader messages new left
   pub joined : JoinAll now messages (old.typed, old.sizing) (new.typed, new.sizing)
   pub begun : new.begun ≡ old.begun
-  pub through : is_through ≡ true → NextStays now new
-  pub most : is_through ≡ false → length messages ≡ 64
+  pub through : far ≡ Some true → NextStays now new
+  pub most : far ≡ Some false → length messages ≡ 64

@@ -1,13 +1,15 @@
 //! Messages that were read and aren't done yet.
 
 ghost use Rattle.std.specs.Prelude.{◌≡◌, ◌==◌, ◌&&◌, ◌++◌, ◌∷◌, ◌<◌, ◌+◌, ◌-◌, ◌^◌, ℕ, List, [], Some, None};
-ghost use Rattle.std.specs.Prelude.{IfOk, IfSome, Ok, OnOk, drop, false, is_some, length, min, not, true};
+ghost use Rattle.std.specs.Prelude.{IfSome, Ok, OnErr, OnOk, drop, false, is_some, length, min, not, true};
+ghost use Rattle.std.specs.Result.{result_ok};
 ghost use Rattle.attach_proto.specs.declared.message.Message.{Message as Told};
-ghost use Rattle.server_inbox.specs.Asking.{Gives, IsThrough, IsWhole, Lies, TakesIn, is_empty, is_taken};
-ghost use Rattle.server_inbox.specs.Asking.{piece_of, rest_of};
+ghost use Rattle.server_inbox.specs.Asking.{Gives, IsThrough, Lies, TakesIn, is_empty, is_taken, piece_of};
+ghost use Rattle.server_inbox.specs.Asking.{refilled, rest_of};
 ghost use Rattle.server_inbox.specs.declared.inbox.Inbox.{Inbox as Held};
 ghost use Rattle.server_inbox.specs.Joining.{IsGathered, JoinsNext, NextStays};
-ghost use Rattle.server_typing.specs.Typed.{expired, may_read};
+ghost use Rattle.server_typing.specs.Sized.{no_size};
+ghost use Rattle.server_typing.specs.Typed.{expired, may_read, untyped};
 
 use attach_proto::{Message, Reader};
 use server_typing::{Sizing, Typeahead};
@@ -103,6 +105,7 @@ impl Inbox {
         ensures unread { (result.rest.items ≡ []) × (result.seen ≡ 0) }
         ensures sound { result.is_broken ≡ false }
         ensures empty { is_empty result ≡ true }
+        ensures untyped { (result.typed ≡ untyped) × (result.sizing ≡ no_size) }
     {
         Inbox {
             alloc,
@@ -149,7 +152,7 @@ impl Inbox {
     // Looks at the next piece of the bytes that are left, and adds the messages that it completes.
     fn look(&mut self, reader: &mut Reader)
         ensures lies { (taken : List Told) (stream : List ℕ) → self.old.messages.items ≡ []
-            → Lies self.old reader.old taken stream → IsWhole self.new reader.new
+            → self.old.is_broken ≡ false → Lies self.old reader.old taken stream
             → Lies self.new reader.new taken stream }
         ensures on { self.old.seen < length self.old.rest.items → self.old.seen < self.new.seen }
         ensures same { self.new ≡ record self.old {
@@ -167,16 +170,9 @@ impl Inbox {
     // While no message is there, looks at the bytes that are left.
     fn refill(&mut self, reader: &mut Reader)
         ensures lies { (taken : List Told) (stream : List ℕ) → Lies self.old reader.old taken stream
-            → IsWhole self.new reader.new → Lies self.new reader.new taken stream }
+            → Lies self.new reader.new taken stream }
         ensures through { IsThrough self.new }
-        ensures stays { self.old.is_broken ≡ true
-            → (self.new.is_broken ≡ true) × (reader.new ≡ reader.old) }
-        ensures same { self.new ≡ record self.old {
-          messages = self.new.messages;
-          rest = self.new.rest;
-          seen = self.new.seen;
-          is_broken = self.new.is_broken;
-        } }
+        ensures same { self.new ≡ refilled self.old self.new }
     {
         'pieces: for _ in self.seen..self.rest.len() {
             if self.is_broken || !self.messages.is_empty() || self.seen >= self.rest.len() {
@@ -206,12 +202,7 @@ impl Inbox {
     /// taken out.
     pub fn take(&mut self, reader: &mut Reader, bytes: &[u8])
         ensures stands { TakesIn self.old reader.old bytes.now self.new reader.new }
-        ensures same { self.new ≡ record self.old {
-          messages = self.new.messages;
-          rest = self.new.rest;
-          seen = self.new.seen;
-          is_broken = self.new.is_broken;
-        } }
+        ensures same { self.new ≡ refilled self.old self.new }
     {
         if bytes.len() <= LOOKED {
             self.take_all(reader, bytes);
@@ -250,6 +241,7 @@ impl Inbox {
     fn gather_one(&mut self, now: u64) -> Result<bool, AllocError>
         ensures joins { result ≡ Ok true → JoinsNext now self.old self.new }
         ensures stays { result ≡ Ok false → (self.new ≡ self.old) × NextStays now self.new }
+        ensures err { OnErr result (self.new ≡ self.old) }
     {
         match self.messages.last() {
             Some(Message::Keys(keys)) if self.typed.takes(now, keys.as_slice().len()) => {
@@ -264,14 +256,14 @@ impl Inbox {
 
     // Joins the keys and sizes that come next to those that wait. Returns whether no more are there.
     fn gather_some(&mut self, reader: &mut Reader, now: u64) -> Result<bool, AllocError>
-        ensures { IfOk result (IsGathered now self.old reader.old self.new reader.new) }
+        ensures { IsGathered now self.old reader.old self.new reader.new (result_ok result) }
     {
         'gathering: for _ in 0..GATHERED {
-            let is_joined = self.gather_one(now)?;
-            if !is_joined {
-                return Ok(true);
+            match self.gather_one(now) {
+                Ok(true) => self.refill(reader),
+                Ok(false) => return Ok(true),
+                Err(error) => return Err(error),
             }
-            self.refill(reader);
         }
         Ok(false)
     }
@@ -280,13 +272,12 @@ impl Inbox {
     /// that wait too long. Returns whether no more are there.
     pub fn gather(&mut self, reader: &mut Reader, now: u64) -> Result<bool, AllocError>
         // What is taken in are the next messages of the stream, in order, each once.
-        ensures { IfOk result (λ is_through. (mid : Held)
-            × IsGathered now self.old reader.old mid reader.new is_through
-            × (self.new ≡ record mid { typed = expired now mid.typed })) }
+        ensures { (mid : Held) × IsGathered now self.old reader.old mid reader.new (result_ok result)
+            × (self.new ≡ record mid { typed = expired now mid.typed }) }
     {
-        let is_through = self.gather_some(reader, now)?;
+        let far = self.gather_some(reader, now);
         self.typed.expire(now);
-        Ok(is_through)
+        far
     }
 
     /// Takes out the next message, or the one that was put back.
@@ -294,18 +285,13 @@ impl Inbox {
         // What was put back comes first.
         ensures again { IfSome self.old.begun (λ asked. (result ≡ Some asked)
             × (self.new ≡ record self.old { begun = None }) × (reader.new ≡ reader.old)) }
-        // Else the next message of the stream comes, of which nothing is done.
+        // Else the next message of the stream comes, of which nothing is done. If there is none, nothing changes.
         ensures none { self.old.begun ≡ None → result ≡ None → (self.old.messages.items ≡ [])
-            × (self.new.messages.items ≡ []) × (reader.new ≡ reader.old) }
+            × (self.new.messages.items ≡ []) × (reader.new ≡ reader.old)
+            × (self.new ≡ record self.old { messages = self.new.messages }) }
         ensures next { self.old.begun ≡ None → IfSome result (λ asked. (asked.done ≡ 0)
             × Gives self.old reader.old (asked.message ∷ []) self.new reader.new) }
-        ensures same { self.new ≡ record self.old {
-          messages = self.new.messages;
-          begun = None;
-          rest = self.new.rest;
-          seen = self.new.seen;
-          is_broken = self.new.is_broken;
-        } }
+        ensures same { self.new ≡ record (refilled self.old self.new) { begun = None } }
     {
         if let Some(asked) = self.begun.take() {
             return Some(asked);

@@ -1,17 +1,26 @@
 -- A new loop, and what a loop has to do though no event tells of it.
-use Rattle.std.specs.Prelude.{◌≡◌, ◌*◌, ℕ, Bool, true, false, [], None, is_some}
+use Rattle.std.specs.Prelude.{◌≡◌, ◌*◌, ℕ, Bool, true, false, [], Option, None, is_some}
+use Rattle.std.specs.Option.{option_or}
 use Rattle.std.specs.Duration.{as_nanos}
 use Rattle.acl.specs.declared.user_id.UserId.{UserId}
 use Rattle.server_connections.specs.Marked.{IsMarked}
 use Rattle.server_connections.specs.Peers.{AwaitsAt}
 use Rattle.server_connections.specs.declared.peer.Awaits.{Awaits}
 use Rattle.server_connections.specs.declared.peer.Awaits.TheVariants as awaited
+use Rattle.server_seat.specs.declared.seat.ServerEnd.{ServerEnd}
+use Rattle.server_seat.specs.declared.seat.SessionSeat.{Ghosts as Calls}
+use Rattle.server_steps.specs.Ending.{full_if}
 use Rattle.server_steps.specs.Submitted.{nothing_submitted}
 use Rattle.server_steps.specs.declared.turns.Pending.{Pending}
 use Rattle.server_steps.specs.declared.turns.Pending.TheVariants as pending
 use Rattle.server_users.specs.Rationed.{end_of}
 use Rattle.server_loop.specs.Leaving.{IfBool}
 use Rattle.server_loop.specs.Submitting.{State}
+
+module _ {S J : Type 0} (calls : Calls J) where
+  -- why the server is to end: the cause that was noted, or that the trail's file has stopped
+  abbrev pub EndsBy : State S J → Option ServerEnd → Type 0
+  EndsBy s end = (has_stopped : Bool) × calls.stops s.seat has_stopped × (end ≡ option_or s.end (full_if has_stopped))
 
 module _ {S J : Type 0} where
   -- one of so many loops: it has no connection, knows no other users' file, and counted, submitted and refused nothing

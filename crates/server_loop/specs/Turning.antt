@@ -10,13 +10,13 @@ use Rattle.server_connections.specs.Peers.{goes, rests}
 use Rattle.server_connections.specs.declared.connections.Connections.{Connections}
 use Rattle.server_seat.specs.Ending.{why_of_end}
 use Rattle.server_seat.specs.declared.seat.ServerEnd.{ServerEnd}
-use Rattle.server_seat.specs.declared.seat.ServerEnd.TheVariants as cause
 use Rattle.server_seat.specs.declared.seat.SessionSeat.{Ghosts as Calls}
 use Rattle.server_steps.specs.Ending.{EachKey, FinishesAt, IsOldest, expired, fullness_at, gone_at, new_below}
 use Rattle.server_steps.specs.Ending.{new_number, told_full}
 use Rattle.server_steps.specs.Sending.{WritesAt}
 use Rattle.server_steps.specs.Submitted.{nothing_submitted}
 use Rattle.server_steps.specs.declared.turns.Writes.{Writes as Written}
+use Rattle.server_loop.specs.Awaiting.{EndsBy}
 use Rattle.server_loop.specs.Drawing.{DrawsAll}
 use Rattle.server_loop.specs.Handing.{HandsOut}
 use Rattle.server_loop.specs.Leaving.{IfBool, Loses, TriesLeaving}
@@ -113,6 +113,5 @@ module _ {S J : Type 0} (calls : Calls J) (contents : S → Option (List ℕ)) w
     pub settled : VisitsAll (Settles calls) timely mid
     pub made : result.drawn ≡ mid.draws.made
     pub submitted : result.submitted ≡ mid.submitted
-    pub end_is : IfSome mid.end (λ end. result.end ≡ Some end)
-    pub stopped : mid.end ≡ None → IfSome result.end (λ end. end ≡ cause.TrailFull)
+    pub ends : EndsBy calls mid result.end
     pub new_is : new ≡ record mid { submitted = nothing_submitted }

@@ -1,12 +1,12 @@
 //! One loop: its connections, its seat in the session, and what it still has to do.
 
-ghost use Rattle.std.specs.Prelude.{◌≡◌, [], IfOk, IfSome, None, Some, false};
-ghost use Rattle.server_loop.specs.Awaiting.{HasWaiting, IsDue, IsFresh, Pends};
+ghost use Rattle.std.specs.Prelude.{◌≡◌, ◌⊎◌, ◌<◌, ◌++◌, ◌∷◌, [], IfOk, false, true, vec_capacity, vec_len};
+ghost use Rattle.server_loop.specs.Awaiting.{EndsBy, HasWaiting, IsDue, IsFresh, Pends};
 ghost use Rattle.server_loop.specs.Submitting.{state_of};
 
 use crate::turn::OUTPUT;
 use server_connections::{Awaits, Connections, HasConnections, News, ServerEnd, SessionSeat};
-use server_steps::{Gate, Pending, Submitted};
+use server_steps::{Gate, Pending, Submitted, full_if};
 use server_users::{Rations, Users};
 use std::alloc::{AllocError, Global};
 use std::time::Duration;
@@ -161,19 +161,19 @@ impl<S: Drop, G: Gate + Drop, J: SessionSeat + Drop> Loop<S, G, J> {
 
     /// Why the server is to end, if it is. It ends as at a full trail once nothing is written to the trail's file.
     pub fn end(&self) -> Option<ServerEnd>
-        ensures known { IfSome self.entry.now.end (λ end. result ≡ Some end) }
-        ensures stopped { self.entry.now.end ≡ None → IfSome result (λ end. end ≡ ServerEnd.TrailFull) }
+        ensures { EndsBy J.SessionSeat (state_of self.entry.now) result }
     {
-        match self.end {
-            Some(end) => Some(end),
-            None if self.seat.has_stopped() => Some(ServerEnd::TrailFull),
-            None => None,
-        }
+        self.end.or(full_if(self.seat.has_stopped()))
     }
 
-    // Notes what happened. It is left out if there is no memory for it or if news aren't told.
+    // Notes what happened. It is left out if there is no memory for it, if many wait, or if news aren't told.
     pub(crate) fn tell(&mut self, news: News)
-        ensures { self.new ≡ record self.old { news = self.new.news } }
+        ensures same { self.new ≡ record self.old { news = self.new.news } }
+        ensures told { (self.new.news.items ≡ self.old.news.items)
+            ⊎ (self.new.news.items ≡ self.old.news.items ++ news ∷ []) }
+        ensures room { self.old.tells ≡ true → vec_len self.old.news < 1024
+            → vec_len self.old.news < vec_capacity self.old.news
+            → self.new.news.items ≡ self.old.news.items ++ news ∷ [] }
     {
         if self.tells && self.news.len() < MOST_NEWS {
             let _ = self.news.push(news);

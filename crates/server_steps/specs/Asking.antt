@@ -7,7 +7,7 @@ use Rattle.attach_proto.specs.declared.message.Message.{Message}
 use Rattle.server_connections.specs.Changing.{changed}
 use Rattle.server_connections.specs.Lending.{awoken, touched}
 use Rattle.server_connections.specs.Peers.{is_due, is_open}
-use Rattle.server_connections.specs.Reading.{Fills, is_readable, more_after}
+use Rattle.server_connections.specs.Reading.{Fills, IsUnasked, Notes, is_readable}
 use Rattle.server_connections.specs.Streaming.{rest_of}
 use Rattle.server_connections.specs.declared.connections.Connections.{Connections}
 use Rattle.server_connections.specs.declared.peer.Peer.{Peer}
@@ -15,7 +15,7 @@ use Rattle.server_connections.specs.declared.peer.Role.{Role}
 use Rattle.server_connections.specs.declared.peer.Role.TheVariants as role
 use Rattle.server_connections.specs.declared.stream.Arrival.{Arrival}
 use Rattle.server_connections.specs.declared.stream.Arrival.TheVariants as arrived
-use Rattle.server_inbox.specs.Asking.{Gives, IsWhole, Stands, is_empty}
+use Rattle.server_inbox.specs.Asking.{Gives, Stands, is_empty, refilled}
 use Rattle.server_inbox.specs.declared.inbox.Asked.{Asked}
 use Rattle.server_typing.specs.Typed.{drains}
 use Rattle.server_steps.specs.declared.progress.Progress.{Progress}
@@ -38,10 +38,14 @@ module _ {S : Type 0} where
     pub shut : is_open old.stage ≡ false → (next ≡ None) × (new ≡ old)
     pub again : is_open old.stage ≡ true → IfSome old.inbox.begun (λ asked. (next ≡ Some asked)
         × (new.reader ≡ old.reader) × (new.inbox ≡ record old.inbox { begun = None }))
-    pub none : is_open old.stage ≡ true → old.inbox.begun ≡ None → next ≡ None → old.inbox.messages.items ≡ []
+    pub none : is_open old.stage ≡ true → old.inbox.begun ≡ None → next ≡ None
+        → (old.inbox.messages.items ≡ []) × IsUnasked old new
     pub next_is : is_open old.stage ≡ true → old.inbox.begun ≡ None → IfSome next (λ asked. (asked.done ≡ 0)
         × Gives old.inbox old.reader (asked.message ∷ []) new.inbox new.reader)
-    pub same : new ≡ record old { inbox = new.inbox; reader = new.reader }
+    pub same : is_open old.stage ≡ true → new ≡ record old {
+      inbox = record (refilled old.inbox new.inbox) { begun = None };
+      reader = new.reader;
+    }
 
   -- it was taken out of the connection of a key; no other connection changed
   abbrev pub AsksAt : ℕ → Connections S → Option Asked → Connections S → Type 0
@@ -104,20 +108,20 @@ module _ {S : Type 0} where
   is_faulty_at (Some peer) = is_open peer.stage && (peer.inbox.is_broken && is_empty peer.inbox)
 
   -- It was read once, unless it may not be. What came is taken in after all that came before, and it is known whether
-  -- more may be there.
+  -- more may be there. What was taken out before stays as it was.
   pub record IsRead (remaining : S → Option (List ℕ)) (now size : ℕ) (old : Peer S) (arrival : Arrival) (new : Peer S)
       : Type 0 where
     pub not_read : is_readable now old ≡ false → (arrival ≡ arrived.Nothing) × (new ≡ old)
     pub bytes : (piece : List ℕ)
         × Consumes (rest_of remaining old.stream) (rest_of remaining new.stream) piece
         × Fills size (length piece) arrival
-        × (is_readable now old ≡ true → new.has_more ≡ more_after old (length piece) arrival)
+        × (is_readable now old ≡ true → Notes now (length piece) arrival old new)
         × ((taken : List Message) (stream : List ℕ) → Stands old.inbox old.reader taken stream
-        → IsWhole new.inbox new.reader → Stands new.inbox new.reader taken (stream ++ piece))
+        → Stands new.inbox new.reader taken (stream ++ piece))
     pub same : new ≡ record old {
       stream = new.stream;
       reader = new.reader;
-      inbox = new.inbox;
+      inbox = record (refilled old.inbox new.inbox) { typed = new.inbox.typed };
       has_more = new.has_more;
     }
 

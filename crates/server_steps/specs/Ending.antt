@@ -28,6 +28,10 @@ abbrev pub end_after : Reason → Option ServerEnd → Option ServerEnd
 end_after reason.Quit end = Some cause.Quit
 end_after other end = end
 
+-- if nothing is written to the trail's file any more, as at a full trail
+abbrev pub full_if : Bool → Option ServerEnd
+full_if has_stopped = if has_stopped then Some cause.TrailFull else None
+
 module _ {T : Type 0} (visits : ℕ → T → T → Type 0) where
   -- so many keys from one on had their visit, in order and each once
   abbrev pub EachKey : ℕ → ℕ → T → T → Type 0

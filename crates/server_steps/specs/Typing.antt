@@ -40,6 +40,12 @@ abbrev pub is_all : Gathered → Bool
 is_all gathered.More = false
 is_all other = true
 
+-- whether no more are there, if there was memory
+abbrev pub far_of : Gathered → Option Bool
+far_of gathered.All = Some true
+far_of gathered.More = Some false
+far_of other = None
+
 module _ {S : Type 0} where
   -- a connection is there, and is read
   abbrev pub is_open_at : Option (Peer S) → Bool
@@ -59,13 +65,11 @@ module _ {S : Type 0} where
   user_at None = None
   user_at (Some peer) = peer.user
 
-  -- Keys and sizes that come next were taken in, into the connection of a key and into no other. Without memory it
-  -- isn't known which.
+  -- keys and sizes that come next were taken in, into the connection of a key and into no other
   abbrev pub GathersAt : ℕ → ℕ → Connections S → Gathered → Connections S → Type 0
   GathersAt now key old gathered.Shut new = (is_open_at (get old.peers key) ≡ false) × (new ≡ old)
-  GathersAt now key old gathered.NoMemory new = (peer : Peer S) × (new ≡ touched old key peer)
-  GathersAt now key old is_through new = (peer : Peer S) × (left : Peer S) × (get old.peers key ≡ Some peer)
-      × (is_open peer.stage ≡ true) × Gathers now peer (is_all is_through) left × (new ≡ touched old key left)
+  GathersAt now key old by new = (peer : Peer S) × (left : Peer S) × (get old.peers key ≡ Some peer)
+      × (is_open peer.stage ≡ true) × Gathers now peer (far_of by) left × (new ≡ touched old key left)
 
   -- the size that is to be told now
   abbrev pub size_at : ℕ → Option (Peer S) → Option (ℕ × ℕ)

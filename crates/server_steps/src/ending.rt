@@ -5,7 +5,7 @@ ghost use Rattle.slab.specs.Slab.{get};
 ghost use Rattle.server_connections.specs.Changing.{changed};
 ghost use Rattle.server_connections.specs.Life.{without_guest};
 ghost use Rattle.server_steps.specs.Ending.{EachKey, FinishesAt, IsOldest, end_after, expired, fullness_at};
-ghost use Rattle.server_steps.specs.Ending.{gone_at, looks_at, new_below, new_number, older, parted, seen_at};
+ghost use Rattle.server_steps.specs.Ending.{full_if, gone_at, looks_at, new_below, new_number, older, parted, seen_at};
 ghost use Rattle.server_steps.specs.Ending.{told_full};
 
 use attach_proto::Why;
@@ -29,6 +29,17 @@ pub fn quit_if(is_quit: bool, end: Option<ServerEnd>) -> Option<ServerEnd>
     ensures { result ≡ (if is_quit then Some ServerEnd.Quit else end) }
 {
     if is_quit { Some(ServerEnd::Quit) } else { end }
+}
+
+/// Why the server is to end, if nothing is written to the trail's file any more: as at a full trail.
+pub fn full_if(has_stopped: bool) -> Option<ServerEnd>
+    ensures { result ≡ full_if has_stopped }
+{
+    if has_stopped {
+        Some(ServerEnd::TrailFull)
+    } else {
+        None
+    }
 }
 
 /// Takes what the loops are to be told of a window: its serial, and whether what is typed into it has to wait.

@@ -16,7 +16,8 @@ pub use asking::{
     put_back, read,
 };
 pub use ending::{
-    count_new, end_after, expire, finish, oldest_new, quit_if, set_look, take_fullness, take_guest,
+    count_new, end_after, expire, finish, full_if, oldest_new, quit_if, set_look, take_fullness,
+    take_guest,
 };
 pub use meaning::{
     Meaning, event_of, guest_of, is_extra, kind_of, make_guest, many_of, may_judge, meaning_of,

@@ -4,7 +4,7 @@ use Rattle.server_inbox.proofs.inbox.Inbox.gather.Goals as goal
 
 pub returns : goal.returns
 returns c = (
-  c.gather_some.new.self,
-  c.in_ok-is_through.ensures,
-  ap (λ (t : Typed). record c.gather_some.new.self { typed = t }) c.expire.ensures.expired,
+  c.gather_some-far.new.self,
+  c.gather_some-far.ensures,
+  ap (λ (t : Typed). record c.gather_some-far.new.self { typed = t }) c.expire.ensures.expired,
 )

@@ -4,7 +4,7 @@ use Rattle.server_inbox.proofs.Asking.{added, fed_whole}
 use Rattle.server_inbox.proofs.inbox.Inbox.take_all.Goals as goal
 
 pub returns-clause-stands : goal.returns-clause-stands
-returns-clause-stands c = λ taken stream none sound h whole.
+returns-clause-stands c = λ taken stream none sound h.
     let old = c.args.self.now in
     let bytes = c.args.bytes.now in
     let unseen = drop old.seen old.rest.items in
@@ -19,7 +19,7 @@ returns-clause-stands c = λ taken stream none sound h whole.
             reads = c.feed.ensures.reads;
             answer = c.feed.ensures.answer;
             stays = c.feed.ensures.stays;
-          }) c.is_err-self.ensures.value whole none c.reverse.ensures.items more
+          }) c.is_err-self.ensures.value none sound c.reverse.ensures.items more
           (ap (λ (xs : List ℕ). xs ++ bytes) empty ∙ sym (append-nil bytes)
           ∙ ap (λ (xs : List ℕ). bytes ++ xs) (sym empty));
       through = λ _ _. seen;

@@ -22,7 +22,7 @@ returns-in-None g c =
     sym c.may_judge.ensures ∙ yes in
     let told : TurnsAway J (codes "unknown user or wrong token") c.args.key old new = subst
     (λ (s : State g.row.S.Denot g.row.J.Denot). TurnsAway J (codes "unknown user or wrong token") c.args.key s new)
-    (ap (λ (l : Loop g.row.S.Denot g.row.G.Denot g.row.J.Denot). state_of l) c.tell.ensures)
+    (ap (λ (l : Loop g.row.S.Denot g.row.G.Denot g.row.J.Denot). state_of l) c.tell.ensures.same)
     c.turn_away.ensures in
     let judged : Judges J (known_of J old) entry c.args.message.now c.args.key old Done new =
     inl (c.user_of.ensures.none c.in-None.is, refl, told) in

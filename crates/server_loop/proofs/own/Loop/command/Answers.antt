@@ -14,6 +14,6 @@ returns-in-Ok-attempt g c = inr (inr (
   c.in-Ok-attempt.ensures,
   subst (λ (s : State g.row.S.Denot g.row.J.Denot). Answers g.J.SessionSeat c.in-Ok.is_quit
       c.in-Ok-attempt.answer.reply c.args.key s (state_of c.tell_answer.new.self))
-      (ap (λ (l : Loop g.row.S.Denot g.row.G.Denot g.row.J.Denot). state_of l) c.tell.ensures)
+      (ap (λ (l : Loop g.row.S.Denot g.row.G.Denot g.row.J.Denot). state_of l) c.tell.ensures.same)
       c.tell_answer.ensures,
 ))

@@ -1,6 +1,5 @@
-use Rattle.std.proofs.Common.{◌≡◌, ◌∙◌, Option, Some, ap, refl, subst}
-use Rattle.std.specs.Prelude.{IfSome}
-use Rattle.server_seat.specs.declared.seat.ServerEnd.{ServerEnd}
+use Rattle.std.proofs.Common.{ap, refl, subst}
+use Rattle.server_loop.specs.Awaiting.{EndsBy}
 use Rattle.server_loop.specs.Submitting.{state_of}
 use Rattle.server_loop.specs.declared.own.Loop.{Loop}
 use Rattle.server_loop.proofs.own.Loop.end_turn.Goals as goal
@@ -8,8 +7,6 @@ use Rattle.server_loop.proofs.own.Loop.end_turn.Goals as goal
 pub returns : goal.returns
 returns g c =
     let own = λ (l : Loop g.row.S.Denot g.row.G.Denot g.row.J.Denot). state_of l in
-    let ended : c.take_submitted.new.self.end ≡ c.sweep.new.self.end =
-    ap (λ (l : Loop g.row.S.Denot g.row.G.Denot g.row.J.Denot). l.end) c.take_submitted.ensures.none in
     record {
       left = state_of c.tell_all_leaving.new.self;
       leaving = c.tell_all_leaving.ensures;
@@ -27,7 +24,7 @@ returns g c =
       settled = c.sweep.ensures;
       made = refl;
       submitted = c.take_submitted.ensures.taken;
-      end_is = subst (λ (e : Option ServerEnd). IfSome e (λ end. c.end.result ≡ Some end)) ended c.end.ensures.known;
-      stopped = λ none. c.end.ensures.stopped (ended ∙ none);
+      ends = subst (λ (l : Loop g.row.S.Denot g.row.G.Denot g.row.J.Denot). EndsBy g.J.SessionSeat (state_of l) c.end.result)
+          c.take_submitted.ensures.none c.end.ensures;
       new_is = ap own c.take_submitted.ensures.none;
     }

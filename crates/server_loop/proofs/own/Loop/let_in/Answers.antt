@@ -20,7 +20,7 @@ returns g c =
     let is : state_of c.tell.new.self
     ≡ made (role_of c.args.newcomer.kind c.args.done.now)
     (guest_of c.args.newcomer.kind c.args.newcomer.user c.args.done.now) =
-    ap own c.tell.ensures ∙ ap (λ (s : Connections g.row.S.Denot). record (state_of c.args.self.now) { connections = s }) c.make_guest.ensures
+    ap own c.tell.ensures.same ∙ ap (λ (s : Connections g.row.S.Denot). record (state_of c.args.self.now) { connections = s }) c.make_guest.ensures
     ∙ ap (λ (role : Role). made role c.guest_of-guest.result) c.role_of.ensures
     ∙ ap (λ (guest : Guest). made (role_of c.args.newcomer.kind c.args.done.now) guest)
     c.guest_of-guest.ensures in
