@@ -23,12 +23,12 @@ abbrev pub access_of : Stamp → Access
 access_of stamp = record { owner = stamp.owner; mode = stamp.mode }
 
 -- a file of at most 1,048,576 bytes, which only root and this account can change, is the file of these users
-pub record AreOf (account : Option ℕ) (stamp : Stamp) (file : List ℕ) (users : List Entry) : Type 0 where
+pub record AreOf (account : ℕ) (stamp : Stamp) (file : List ℕ) (users : List Entry) : Type 0 where
   pub kept : IsKept account (access_of stamp)
   pub small : length file ≤ 1048576
   pub lines : IsFileOf users file
 
-abbrev pub IsWrong : Option ℕ → Stamp → List ℕ → ServeFault → Type 0
+abbrev pub IsWrong : ℕ → Stamp → List ℕ → ServeFault → Type 0
 IsWrong account stamp file (fault.Foreign path number) = IsOwn account (access_of stamp) → ⊥
 IsWrong account stamp file (fault.Writable path) = IsClosed (access_of stamp) → ⊥
 IsWrong account stamp file (fault.TooLarge path) = 1048576 < length file

@@ -106,7 +106,7 @@ fn listen<R: Host>(rt: &R, alloc: Global, path: &str) -> Result<(File, UnixListe
     if path.len() > LONGEST {
         return Err(SocketFault::LongPath);
     }
-    match open_folder(rt, own_account(rt), path)? {
+    match open_folder(rt, own_account(), path)? {
         Some(folder) if !folder.is_above => return Err(SocketFault::Folder(folder)),
         _ => {}
     }
@@ -140,7 +140,7 @@ impl SocketPath<'_> {
 
     /// The first folder above the socket's own in which others could replace what is there.
     pub fn open_folder<R: Host>(&self, rt: &R) -> Option<OpenFolder> {
-        open_folder(rt, own_account(rt), self.path).ok().flatten()
+        open_folder(rt, own_account(), self.path).ok().flatten()
     }
 
     /// Whether the socket's mode lets everybody on the machine connect.

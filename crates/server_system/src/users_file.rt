@@ -63,7 +63,7 @@ impl Stamp {
 fn users_of(
     alloc: Global,
     path: String,
-    account: Option<u32>,
+    account: u32,
     stamp: &Stamp,
     file: &[u8],
 ) -> Result<Users, ServeFault>
@@ -71,7 +71,7 @@ fn users_of(
     ensures err { IfErr result (IsWrong account stamp.now file.now) }
 {
     match stamp.access().flaw(account) {
-        Some(Flaw::Owner) => return Err(ServeFault::Foreign(path, account.unwrap_or(0))),
+        Some(Flaw::Owner) => return Err(ServeFault::Foreign(path, account)),
         Some(Flaw::Mode) => return Err(ServeFault::Writable(path)),
         None => {}
     }
@@ -115,19 +115,18 @@ pub struct UsersFile {
     alloc: Global,
     path: String,
     // The account that the server runs as.
-    account: Option<u32>,
+    account: u32,
 }
 
 impl UsersFile {
     /// The users' file of this path.
     pub fn new(files: HostRuntime, alloc: Global, path: &str) -> Result<UsersFile, AllocError> {
         let path = String::from_str(alloc, path)?;
-        let account = own_account(&files);
         Ok(UsersFile {
             files,
             alloc,
             path,
-            account,
+            account: own_account(),
         })
     }
 

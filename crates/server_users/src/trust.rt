@@ -48,14 +48,11 @@ impl Access {
         self.mode & OTHERS_READ != 0
     }
 
-    // Whether it belongs to this account or to root. Of an account that isn't known, any owner passes.
-    fn is_own(self, account: Option<u32>) -> bool
+    // Whether it belongs to this account or to root.
+    fn is_own(self, account: u32) -> bool
         ensures { IsTrue result ↔ IsOwn account self }
     {
-        match account {
-            Some(account) => self.owner == 0 || self.owner == account,
-            None => true,
-        }
+        self.owner == 0 || self.owner == account
     }
 
     // Whether its group and others may not write it.
@@ -66,7 +63,7 @@ impl Access {
     }
 
     /// Why others than this account and root could change the file.
-    pub fn flaw(self, account: Option<u32>) -> Option<Flaw>
+    pub fn flaw(self, account: u32) -> Option<Flaw>
         ensures none { result ≡ None → IsKept account self }
         ensures flaw { IfSome result (Lets account self) }
     {
@@ -80,7 +77,7 @@ impl Access {
     }
 
     /// Why others than this account and root could replace what is in the folder.
-    pub fn folder_flaw(self, account: Option<u32>) -> Option<Flaw>
+    pub fn folder_flaw(self, account: u32) -> Option<Flaw>
         ensures none { result ≡ None → IsKeptFolder account self }
         ensures flaw { IfSome result (LetsInto account self) }
     {
@@ -91,9 +88,9 @@ impl Access {
     }
 }
 
-/// The account that the program runs as; None if the system doesn't tell.
-pub fn own_account(rt: &impl Files) -> Option<u32> {
-    fs::metadata(rt, "/proc/self").ok().map(|found| found.uid())
+/// The account that the program runs as.
+pub fn own_account() -> u32 {
+    libc::geteuid()
 }
 
 /// A folder in which others than the program's account and root could replace what is there.
@@ -128,7 +125,7 @@ impl Display for OpenFolder {
 /// and root could replace what is there.
 pub fn open_folder<R: Files + AllocGlobal>(
     rt: &R,
-    account: Option<u32>,
+    account: u32,
     path: &str,
 ) -> io::Result<Option<OpenFolder>> {
     let holder = match Path::new(path).parent() {
@@ -143,7 +140,7 @@ pub fn open_folder<R: Files + AllocGlobal>(
             return Ok(Some(OpenFolder {
                 path: String::from_str(rt.alloc(), folder.as_str())?,
                 flaw,
-                account: account.unwrap_or(0),
+                account,
                 is_above,
             }));
         }
