@@ -15,9 +15,9 @@ use std::time::Duration;
 /// What the loops count of users and windows, under a lock, and how large the trail is. What lies under
 /// a lock before and after a call isn't known to its caller, but that the call counts it.
 #[derive(Drop)]
-pub struct Accounts<B> {
+pub struct Accounts<B, T = TrailSize> {
     books: Mutex<B>,
-    pub(crate) trail: TrailSize,
+    pub(crate) trail: T,
 }
 
 // The time in whole milliseconds.
@@ -37,7 +37,7 @@ impl Accounts<Books> {
     }
 }
 
-impl<B: Counting> Accounts<B> {
+impl<B: Counting, T> Accounts<B, T> {
     /// Pays for a step that a user is about to try at this time. The answer is false if the user has to
     /// wait.
     pub fn pay(&self, rt: &impl Wait, user: UserId, now: Duration, cost: u32) -> bool

@@ -1,6 +1,6 @@
 //! A loop's seat in the session that it shares.
 
-ghost use Rattle.std.specs.Prelude.{◌≡◌, Option, is_some, true};
+ghost use Rattle.std.specs.Prelude.{◌≡◌, ◌||◌, Option, is_some};
 ghost use Rattle.session.specs.Trace.{happening};
 ghost use Rattle.hub.specs.Seats.{Ruled};
 ghost use Rattle.server_session.specs.Loading.{closed_by, opened_by, size_of};
@@ -8,10 +8,12 @@ ghost use Rattle.server_session.specs.Counting.{millis_of};
 ghost use Rattle.server_session.specs.Outcomes.{checked, outcome_of};
 ghost use Rattle.server_trail.specs.declared.waiting.Stopped.{Stopped as Stop};
 ghost use Rattle.server_session.specs.Seating.{IsCounted, Steps, fault_of};
+ghost use Rattle.server_session.specs.declared.trail_size.Filled.{Filled as Full};
 
 use crate::accounts::Accounts;
 use crate::books::Counting;
 use crate::shared_session::LoopSession;
+use crate::trail_size::{TrailCount, TrailSize};
 use acl::UserId;
 use hub::{Answer, Begun, HubFault, Seat};
 use server_seat::{GuestKind, SeatAnswer, SeatFault, ServerEnd, SessionSeat};
@@ -89,15 +91,19 @@ fn closed_by(effect: &Effect) -> Option<u32>
 
 /// A seat in a session, with the session and its users' accounts.
 #[derive(Drop)]
-pub struct Seated<'a, L: Begun, S, B> {
+pub struct Seated<'a, L: Begun, S, B, T = TrailSize> {
     shared: &'a S,
-    accounts: &'a Accounts<B>,
+    accounts: &'a Accounts<B, T>,
     seat: Seat<L>,
 }
 
-impl<'a, L: Begun, S, B> Seated<'a, L, S, B> {
+impl<'a, L: Begun, S, B, T> Seated<'a, L, S, B, T> {
     /// A seat in this session, which asks for entries: an entry tells what came of a step.
-    pub fn new(shared: &'a S, accounts: &'a Accounts<B>, mut seat: Seat<L>) -> Seated<'a, L, S, B>
+    pub fn new(
+        shared: &'a S,
+        accounts: &'a Accounts<B, T>,
+        mut seat: Seat<L>,
+    ) -> Seated<'a, L, S, B, T>
         ensures { result.seat ≡ record seat { asks = true } }
     {
         seat.ask_for_entries();
@@ -116,7 +122,7 @@ impl<'a, L: Begun, S, B> Seated<'a, L, S, B> {
     }
 }
 
-impl<L: Begun, S, B: Counting> Seated<'_, L, S, B> {
+impl<L: Begun, S, B: Counting, T> Seated<'_, L, S, B, T> {
     // Counts what an answered event typed. A window that it opened is counted from now on.
     fn count(&self, rt: &impl Wait, answer: &Answer)
         ensures { IsCounted B.types_in B.opens answer.now }
@@ -130,7 +136,8 @@ impl<L: Begun, S, B: Counting> Seated<'_, L, S, B> {
     }
 }
 
-impl<L: Begun, S: LoopSession<L>, B: Counting> SessionSeat for Seated<'_, L, S, B> {
+impl<L: Begun, S: LoopSession<L>, B: Counting, T: TrailCount> SessionSeat
+    for Seated<'_, L, S, B, T> {
     ghost known = { λ s. S.known s.shared.now };
 
     // The session answered by one step for this seat, or refused.
@@ -148,9 +155,10 @@ impl<L: Begun, S: LoopSession<L>, B: Counting> SessionSeat for Seated<'_, L, S, 
 
     ghost sets_full = { λ s window is_full. (was : B) × (then : B) × B.sets_full was window is_full then };
 
-    // If the trail's file has stopped, that is told.
+    // The trail's file has stopped, or the trail takes as much memory as it may.
     ghost stops = { λ s has_stopped. (stop : Option Stop) × S.stops s.shared.now stop
-        × (is_some stop ≡ true → has_stopped ≡ true) };
+        × (full : Option Full) × T.fills s.accounts.now.trail full
+        × (has_stopped ≡ (is_some stop || is_some full)) };
 
     ghost pays = { λ s user now cost is_paid.
         (was : B) × (then : B) × B.pays was user (millis_of now) cost is_paid then };

@@ -47,6 +47,22 @@ fn entry_size(entry: &TrailEntry) -> u64 {
 #[derive(Clone, Copy, Debug)]
 pub struct Filled(());
 
+/// What is counted of a session's trail. Only a call of `filled` shows what it answered.
+pub trait TrailCount {
+    ghost use Rattle.std.specs.Prelude.{Option};
+    ghost use Rattle.server_session.specs.declared.trail_size.Filled.{Filled as Full};
+
+    ghost fills: { Self → Option Full → Type 0 };
+
+    /// Counts the entry at this place. Returns the percentage of the most entries or bytes that the
+    /// trail reaches by it, if that is news.
+    fn add(&self, place: usize, entry: Option<&TrailEntry>) -> Option<u8>;
+
+    /// What shows that the trail takes as much as it may; None as long as it may grow.
+    fn filled(&self) -> Option<Filled>
+        ensures { fills self.now result };
+}
+
 /// At most how many bytes of memory a session's trail takes.
 #[derive(Drop)]
 pub struct TrailSize {
@@ -59,10 +75,13 @@ impl TrailSize {
             bytes: AtomicU64::new(0),
         }
     }
+}
 
-    /// Counts the entry at this place. Returns the percentage of the most entries or bytes that the
-    /// trail reaches by it, if that is news.
-    pub fn add(&self, place: usize, entry: Option<&TrailEntry>) -> Option<u8> {
+impl TrailCount for TrailSize {
+    // An atomic number hides it.
+    ghost fills = { λ size full. Unit {0} };
+
+    fn add(&self, place: usize, entry: Option<&TrailEntry>) -> Option<u8> {
         let place = place as u64;
         let by_entries = mark_between(place, place.saturating_add(1), FULL as u64);
         let size = match entry {
@@ -73,8 +92,7 @@ impl TrailSize {
         by_entries.or(mark_between(before, before.saturating_add(size), MOST))
     }
 
-    /// What shows that the trail takes as much as it may; None as long as it may grow.
-    pub fn filled(&self) -> Option<Filled> {
+    fn filled(&self) -> Option<Filled> {
         if self.bytes.load(Ordering::SeqCst) > MOST {
             Some(Filled(()))
         } else {
