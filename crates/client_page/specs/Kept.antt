@@ -36,6 +36,12 @@ Settles None bytes count new = (count ≡ 0) × (new ≡ None)
 Settles (Some e) bytes count None = ⊥
 Settles (Some e) bytes count (Some e') = TakesAll e (take count bytes) e'
 
+-- The next page begins blank in the size that the kept terminal has, or no terminal is kept any more.
+abbrev pub Blanks : Option Parts → Option Parts → Type 0
+Blanks None new = new ≡ None
+Blanks (Some e) new = IfSome new
+    (λ e'. StandsFor e' (ready (starting e.screen.state.rows e.screen.state.columns e.screen.keep)))
+
 -- these bytes bring a kept terminal back, which isn't hidden
 abbrev pub TellsPage : Option Parts → Bool → List ℕ → Type 0
 TellsPage None is_hidden bytes = ⊥

@@ -6,7 +6,7 @@ ghost use Rattle.cells.specs.Page.{IsGridSize};
 ghost use Rattle.terminal_model.specs.Reading.{Terminal, ready, reads};
 ghost use Rattle.terminal_model.specs.Screen.{starting};
 ghost use Rattle.emulator.specs.Standing.{StandsFor};
-ghost use Rattle.client_page.specs.Kept.{TellsPage, Settles, TakesAll, ReadsAll, TakesSize, Begins};
+ghost use Rattle.client_page.specs.Kept.{TellsPage, Settles, TakesAll, ReadsAll, TakesSize, Begins, Blanks};
 
 use cells::GridFault;
 use client_words::Arguments;
@@ -135,6 +135,7 @@ impl KeptPage {
     pub fn told(&mut self) -> Option<Vec<u8>>
         ensures told { IfSome result (λ bytes. TellsPage self.old.emulator self.old.is_hidden bytes.items) }
         ensures stays { IfSome result (λ _. self.new ≡ self.old) }
+        ensures blank { result ≡ None → Blanks self.old.emulator self.new.emulator }
         ensures shown { self.new.is_hidden ≡ false }
     {
         let is_hidden = self.is_hidden;

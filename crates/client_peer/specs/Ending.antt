@@ -1,11 +1,15 @@
 -- How a peer ends.
-use Rattle.std.specs.Prelude.{Result, Ok, Err, Option, Some, None}
+use Rattle.std.specs.Prelude.{Result, Ok, Err, Option, Some, None, ◌≡◌, ◌||◌, ◌++◌, [], is_some}
+use Rattle.std.specs.Option.{option_or}
 use Rattle.attach_proto.specs.declared.why.Why.{Why}
 use Rattle.attach_proto.specs.declared.why.Why.TheVariants.{Detached, Quit, Killed}
+use Rattle.attach_proto.specs.declared.kind.Kind.TheVariants.{Detach}
+use Rattle.attach_proto.specs.Spelling.{frame}
 use Rattle.client_words.specs.declared.arguments.Subcommand.{Subcommand}
 use Rattle.client_words.specs.declared.arguments.Subcommand.TheVariants.{Window}
 use Rattle.client_words.specs.declared.fault.PeerFault.{PeerFault}
 use Rattle.client_words.specs.declared.fault.PeerFault.TheVariants.{Ended, Gone}
+use Rattle.client_peer.specs.declared.peer.Peer.{Peer}
 
 -- how a peer ends that the server lets go: a window's end is a good one even if the window was killed
 abbrev pub end_for : Subcommand → Why → Result Why PeerFault
@@ -13,6 +17,16 @@ end_for subcommand Detached = Ok Detached
 end_for subcommand Quit = Ok Quit
 end_for Window Killed = Ok Killed
 end_for subcommand why = Err (Gone why)
+
+-- At the end of its input a peer tells the server that it goes, and doesn't come back. One whose server is lost ends.
+pub record EndsInput (old : Peer) (fault : Option PeerFault) (new : Peer) : Type 0 where
+  pub tells : new.frames.items ≡ old.frames.items ++ frame Detach []
+  pub rest : new ≡ record old {
+    frames = new.frames;
+    fault = option_or fault old.fault;
+    is_final = old.is_final || is_some old.loss;
+    times = record old.times { again = 0 };
+  }
 
 -- how the peer ended: a fault of its input or output replaces a good end
 abbrev pub ending_of : Option (Result Why PeerFault) → Option PeerFault → Result Why PeerFault

@@ -1,16 +1,19 @@
 -- What a peer makes of what the server sends.
-use Rattle.std.specs.Prelude.{◌≡◌, ℕ, ◌==◌, Bool, true, false, ◌||◌, List, [], ◌∷◌, ◌++◌, length}
+use Rattle.std.specs.Prelude.{◌≡◌, ℕ, ◌==◌, Bool, true, false, ◌||◌, ◌⊎◌, List, [], ◌∷◌, ◌++◌, length, decimal}
 use Rattle.std.specs.Prelude.{Option, Some, None, IfSome, IsSomeAnd, Result, option_map, string_bytes}
 use Rattle.attach_proto.specs.declared.message.Message.{Message}
 use Rattle.attach_proto.specs.declared.message.Message.TheVariants as message
 use Rattle.attach_proto.specs.declared.why.Why.{Why}
 use Rattle.attach_proto.specs.Streams.{Reading, TakesPiece}
+use Rattle.client_page.specs.declared.page.KeptPage.{KeptPage}
+use Rattle.client_page.specs.Kept.{TakesSize}
 use Rattle.client_words.specs.Visible.{visible}
 use Rattle.client_words.specs.declared.arguments.Subcommand.{Subcommand}
 use Rattle.client_words.specs.declared.arguments.Subcommand.TheVariants.{Attach, Window, Command}
 use Rattle.client_words.specs.declared.fault.PeerFault.{PeerFault}
 use Rattle.client_peer.specs.Ending.{end_for}
 use Rattle.client_peer.specs.declared.peer.Peer.{Peer}
+use Rattle.client_peer.specs.Sending.{ComesAgain}
 
 -- these bytes come after those that wait for standard output, and nothing else changes
 abbrev pub PutsOut : Peer → List ℕ → Peer → Type 0
@@ -19,6 +22,12 @@ PutsOut old bytes new = (new.bytes.items ≡ old.bytes.items ++ bytes) × (new �
 -- the frame of a draw is full, so the draw goes on in the next one
 abbrev pub goes_on : List ℕ → Bool
 goes_on bytes = length bytes == 8192
+
+-- Input is for the window's program. If the window comes back, it waits until the window is opened again.
+pub record TakesInput (old : Peer) (bytes : List ℕ) (new : Peer) : Type 0 where
+  pub waits : ComesAgain old
+      → (new.early.items ≡ old.early.items ++ bytes) × (new ≡ record old { early = new.early })
+  pub comes : (ComesAgain old → ⊥) → PutsOut old bytes new
 
 -- A draw is passed on whole; while the terminal shows the help, it is left out.
 abbrev pub Shows : Bool → Peer → List ℕ → Peer → Type 0
@@ -45,8 +54,22 @@ Says false old text new =
     IsSomeAnd new.said (λ said. string_bytes said ≡ text)
     × PutsOut (record old { said = new.said }) (printed old.subcommand text) new
 
+-- a line of the sizes' file
+abbrev pub size_line : ℕ → ℕ → List ℕ
+size_line rows columns = decimal rows ++ 0x20 ∷ decimal columns ++ 0x0A ∷ []
+
+-- A window that opens gets its first size. One that comes back is to be opened again first.
+pub record LetsOpen (old new : Peer) : Type 0 where
+  pub first : old.was_welcome ≡ false → (new.is_reopening ≡ false) × (new.page_number ≡ old.number)
+      × (new.sizes.items ≡ old.sizes.items ++ size_line old.rows old.columns)
+  pub again : old.was_welcome ≡ true → (new.is_reopening ≡ true) × (new.page_number ≡ old.page_number)
+      × (new.sizes ≡ old.sizes)
+
 -- the server has let the peer in
 pub record IsLetIn (old new : Peer) : Type 0 where
+  pub window : old.subcommand ≡ Window → LetsOpen old new
+  pub client : (old.subcommand ≡ Window → ⊥) → (new.is_reopening ≡ false) × (new.page_number ≡ old.page_number)
+      × (new.sizes ≡ old.sizes)
   pub here : new.is_welcome ≡ true
   pub was : new.was_welcome ≡ true
   pub found : new.loss ≡ None
@@ -66,14 +89,20 @@ LetsIn Command is_welcome old new = new ≡ old
 LetsIn subcommand true old new = new ≡ old
 LetsIn subcommand false old new = IsLetIn old new
 
+-- the kept page has this size, or isn't kept any more
+abbrev pub IsSized : KeptPage → ℕ → ℕ → KeptPage → Type 0
+IsSized old rows columns new =
+    (TakesSize old.emulator rows columns new.emulator ⊎ (new.emulator ≡ None)) × (new.is_hidden ≡ old.is_hidden)
+
 -- what a message has for standard output, for the sizes' file and for the terminal's last line
 abbrev pub Delivers : Peer → Message → Peer → Type 0
 Delivers old (message.Draw bytes) new = (old.subcommand ≡ Attach) × Shows old.is_covered old bytes new
 Delivers old (message.Say text) new =
     (new ≡ record old { notice = new.notice }) × (old.is_welcome ≡ false → new ≡ old)
-Delivers old (message.Input bytes) new = (old.subcommand ≡ Window) × PutsOut old bytes new
+Delivers old (message.Input bytes) new = (old.subcommand ≡ Window) × TakesInput old bytes new
 Delivers old (message.Size rows columns) new =
-    (old.subcommand ≡ Window)
+    (old.subcommand ≡ Window) × (new.sizes.items ≡ old.sizes.items ++ size_line rows columns)
+    × IsSized old.page rows columns new.page
     × (new ≡ record old { rows = rows; columns = columns; page = new.page; sizes = new.sizes })
 Delivers old (message.Welcome number) new = new ≡ record old { number = number }
 Delivers old other new = new ≡ old

@@ -5,7 +5,7 @@ use Rattle.attach_proto.specs.declared.kind.Kind.{Kind}
 use Rattle.attach_proto.specs.declared.kind.Kind.TheVariants.{Output}
 use Rattle.attach_proto.specs.Spelling.{frame}
 use Rattle.emulator.specs.Standing.{Parts}
-use Rattle.client_page.specs.Kept.{ReadsAll, Settles, TellsPage}
+use Rattle.client_page.specs.Kept.{Blanks, ReadsAll, Settles, TellsPage}
 use Rattle.client_peer.specs.declared.peer.Peer.{Peer}
 
 -- these bytes were added to the frames for the server, in pieces that fit in a frame: none is lost or doubled
@@ -15,10 +15,11 @@ pub record Sends (old new : List ℕ) (kind : Kind) (bytes : List ℕ) : Type 0 
   pub fit : AllByRecursion (λ piece. length piece ≤ 8192) pieces
   pub added : new ≡ old ++ flat_map (frame kind) pieces
 
--- the page is told, and reads on; or no byte of it is
+-- The page is told, and reads on. Or no byte of it is: then it begins blank, and reads on.
 abbrev pub TellsIf : Bool → Option Parts → Bool → List ℕ → List ℕ → Option Parts → Type 0
 TellsIf true e is_hidden bytes later new = TellsPage e is_hidden bytes × ReadsAll e later new
-TellsIf false e is_hidden bytes later new = bytes ≡ []
+TellsIf false e is_hidden bytes later new =
+    (bytes ≡ []) × (begun : Option Parts) × Blanks e begun × ReadsAll begun later new
 
 -- A window that is opened again sends the page that it had, and then what was held, in order. The page has read the
 -- bytes of it that end a function which the last server had begun to read; so these aren't sent again.

@@ -1,5 +1,5 @@
 -- What a peer has for its server, and what is on its way there.
-use Rattle.std.specs.Prelude.{◌≡◌, ◌≢◌, ℕ, ◌≤◌, ◌-◌, Bool, true, false, not, List, [], ◌++◌, ◌⊎◌, length, take, drop}
+use Rattle.std.specs.Prelude.{◌≡◌, ◌≢◌, ℕ, ◌≤◌, ◌<◌, ◌-◌, Bool, true, false, not, None, List, [], ◌++◌, ◌⊎◌, length, take, drop}
 use Rattle.attach_proto.specs.declared.kind.Kind.{Kind}
 use Rattle.attach_proto.specs.declared.kind.Kind.TheVariants.{Output}
 use Rattle.client_page.specs.Kept.{ReadsAll}
@@ -72,6 +72,18 @@ pub record Holds (old : Peer) (bytes : List ℕ) (new : Peer) : Type 0 where
 -- a server has the window
 abbrev pub HasServer : Peer → Type 0
 HasServer p = (p.is_welcome ≡ true) × (p.is_reopening ≡ false)
+
+-- a window comes back, and isn't opened again yet
+abbrev pub ComesAgain : Peer → Type 0
+ComesAgain p = (p.was_welcome ≡ true) × (HasServer p → ⊥)
+
+-- so much waits for standard output that the server isn't read
+abbrev pub IsBehind : Peer → Type 0
+IsBehind p = (65536 < length p.bytes.items) ⊎ (65536 < length p.early.items)
+
+-- so much waits for the server that the input isn't read
+abbrev pub IsFull : Peer → Type 0
+IsFull p = (16777216 < length p.frames.items) × (p.is_shut ≡ false) × (p.end ≡ None)
 
 -- What a window's program printed is put down, and the page reads it; or it is held while no server has the window.
 pub record Prints (old new : Peer) (bytes : List ℕ) : Type 0 where

@@ -1,5 +1,5 @@
 -- What of the input is sent.
-use Rattle.std.specs.Prelude.{◌≡◌, ℕ, true, false, List, [], ◌++◌, ◌⊎◌, None, IsSome}
+use Rattle.std.specs.Prelude.{◌≡◌, ◌==◌, ℕ, Bool, true, false, not, ◌&&◌, ◌||◌, List, [], ◌++◌, ◌⊎◌, None, IsSome}
 use Rattle.attach_proto.specs.declared.kind.Kind.TheVariants.{Keys}
 use Rattle.attach_proto.specs.declared.message.Message.TheVariants.{Resize}
 use Rattle.attach_proto.specs.Spelling.{spelling}
@@ -55,3 +55,8 @@ Fits old new =
     (new.frames ≡ old.frames) ⊎ (Rests old.typing
     × SendsFirst old.frames.items new.frames.items Keys fit_keys
     × Follows old.typing.keys fit_keys new.typing.keys)
+
+-- A window gets the size of its region: it was to get it, or with --fit it has another size now.
+abbrev pub is_to_fit : Peer → ℕ → ℕ → Bool
+is_to_fit p rows columns =
+    p.times.wants_fit || (p.fits && (not (rows == p.rows) || not (columns == p.columns)))

@@ -287,7 +287,9 @@ impl Peer {
     }
 
     /// Whether a text is to be shown on the last line.
-    pub fn has_notice(&self) -> bool {
+    pub fn has_notice(&self) -> bool
+        ensures { IsTrue result ↔ (self.now.notice.stage ≡ NoticeStage.New) }
+    {
         self.notice.stage == NoticeStage::New
     }
 

@@ -7,7 +7,7 @@ ghost use Rattle.client_page.specs.Kept.{ReadsAll};
 ghost use Rattle.attach_proto.specs.declared.kind.Kind.TheVariants.{Keys, Output, Detach};
 ghost use Rattle.client_peer.specs.Reopening.{Sends, Reopens};
 ghost use Rattle.client_peer.specs.Sending.{Puts, SendsFirst, MaySend, HandsOut, HasBack};
-ghost use Rattle.client_peer.specs.Sending.{HasServer, Prints, Holds, HoldsLast, unsent, left};
+ghost use Rattle.client_peer.specs.Sending.{HasServer, IsFull, Prints, Holds, HoldsLast, unsent, left};
 
 use crate::peer::Peer;
 use attach_proto::{Kind, LONGEST, Message, head_of, write_message};
@@ -85,7 +85,7 @@ impl Peer {
     }
 
     // Whether a server has the window.
-    fn has_server(&self) -> bool
+    pub(crate) fn has_server(&self) -> bool
         ensures { IsTrue result ↔ HasServer self.now }
     {
         self.is_welcome && !self.is_reopening
@@ -185,7 +185,9 @@ impl Peer {
     }
 
     /// Whether too much waits for the server.
-    pub fn is_full(&self) -> bool {
+    pub fn is_full(&self) -> bool
+        ensures { IsTrue result ↔ IsFull self.now }
+    {
         self.frames.len() > MOST_AHEAD && !self.is_shut && self.end.is_none()
     }
 

@@ -7,6 +7,7 @@ ghost use Rattle.client_peer.specs.Ending.{ending_of};
 ghost use Rattle.client_peer.specs.Meeting.{Meets, IsFresh};
 ghost use Rattle.client_peer.specs.Sending.{HasServer};
 ghost use Rattle.client_peer.specs.Showing.{BeginsAnew};
+ghost use Rattle.client_peer.specs.Typing.{is_to_fit};
 ghost use Rattle.client_peer.specs.declared.meeting.Meeting.TheVariants.{Same};
 
 use crate::looking::Timers;
@@ -32,6 +33,8 @@ pub struct Peer {
     pub fits: bool,
     /// Bytes for standard output.
     pub bytes: Vec<u8>,
+    /// Input for the program of a window that comes back: it waits until the window is opened again.
+    pub(crate) early: Vec<u8>,
     /// Checks what the server sends for a client's terminal.
     pub draws: DrawCheck,
     /// This connection's server drew something, so the terminal may be within a function.
@@ -106,6 +109,7 @@ impl Peer {
             columns: arguments.columns,
             fits: arguments.fit,
             bytes: Vec::new(alloc),
+            early: Vec::new(alloc),
             draws: DrawCheck::new(),
             has_drawn: false,
             is_cut: false,
@@ -163,6 +167,7 @@ impl Peer {
         ensures leaves { HasServer self.new → ⊥ }
     {
         self.cut_off();
+        self.early.clear();
         self.is_cut = false;
         self.is_covered = false;
         self.is_helping = false;
@@ -228,6 +233,12 @@ impl Peer {
         ensures size { (self.new.rows ≡ size.rows) × (self.new.columns ≡ size.columns) }
         ensures asks { OnOk result (self.new.frames.items ≡ self.old.frames.items
             ++ spelling (Message.Resize size.rows size.columns)) }
+        ensures same { self.new ≡ record self.old {
+          rows = size.rows;
+          columns = size.columns;
+          frames = self.new.frames;
+          times = record self.old.times { wants_fit = is_to_fit self.old size.rows size.columns; fit_at = None };
+        } }
     {
         let is_new = size.rows != self.rows || size.columns != self.columns;
         self.rows = size.rows;
@@ -239,7 +250,7 @@ impl Peer {
 
     /// Whether something waits for standard output or for the sizes' file.
     pub fn has_output(&self) -> bool
-        ensures { result ≡ false → (self.now.bytes.items ≡ []) × (self.now.sizes.items ≡ []) }
+        ensures { result ≡ false ↔ (self.now.bytes.items ≡ []) × (self.now.sizes.items ≡ []) }
     {
         !self.bytes.is_empty() || !self.sizes.is_empty()
     }

@@ -1,13 +1,14 @@
 //! Sorts the messages that come from the server.
 
-ghost use Rattle.std.specs.Prelude.{◌≡◌, ◌++◌, ◌∷◌, ◌||◌, [], Ok, Err, Some, None, true, false, OnOk, OnErr, IfOk};
+ghost use Rattle.std.specs.Prelude.{◌≡◌, ◌↔◌, IsTrue, ◌++◌, ◌∷◌, ◌||◌, [], Ok, Err, Some, None, true, false, OnOk, OnErr, IfOk};
 ghost use Rattle.client_words.specs.declared.arguments.Subcommand.TheVariants.{Attach, Ping};
 ghost use Rattle.client_words.specs.Visible.{visible};
 ghost use Rattle.client_words.specs.declared.fault.PeerFault.TheVariants.{Ended};
 ghost use Rattle.client_peer.specs.Ending.{end_for};
-ghost use Rattle.client_peer.specs.Hearing.{Shows, Says, LetsIn, Delivers, Hears, HearsFirst};
-ghost use Rattle.client_peer.specs.Hearing.{HearsRead, gone_in};
-ghost use Rattle.client_peer.specs.Meeting.{Meets, Opens, StaysClosed};
+ghost use Rattle.client_peer.specs.Hearing.{Shows, Says, LetsIn, Delivers, Hears, HearsFirst, IsSized, TakesInput};
+ghost use Rattle.client_peer.specs.Hearing.{HearsRead, gone_in, size_line};
+ghost use Rattle.client_peer.specs.Meeting.{IsThere, Meets, Opens, StaysClosed};
+ghost use Rattle.client_peer.specs.Sending.{IsBehind};
 ghost use Rattle.client_peer.specs.Showing.{Keeps, Adds, PassesOn, StopsAt};
 ghost use Rattle.client_peer.specs.declared.meeting.Meeting.TheVariants.{Same};
 
@@ -60,7 +61,7 @@ impl Peer {
     fn show(&mut self, bytes: &[u8]) -> Result<(), PeerFault>
         ensures ok { OnOk result (PassesOn self.old self.new) }
         ensures err { OnErr result (StopsAt self.old self.new) }
-        ensures closed { StaysClosed self.old self.new }
+        ensures closed { self.old.subcommand ≡ Attach → StaysClosed self.old self.new }
         ensures shows { OnOk result (Shows self.old.is_covered self.old bytes.now self.new) }
     {
         if self.is_covered {
@@ -99,6 +100,7 @@ impl Peer {
     fn put_size(&mut self, rows: u16, columns: u16) -> Result<(), PeerFault>
         ensures keeps { Keeps self.old self.new }
         ensures same { self.new ≡ record self.old { rows = rows; columns = columns; sizes = self.new.sizes } }
+        ensures size { OnOk result (self.new.sizes.items ≡ self.old.sizes.items ++ size_line rows columns) }
     {
         self.rows = rows;
         self.columns = columns;
@@ -153,14 +155,22 @@ impl Peer {
 
     /// Opens a window again, if the session at the socket is the one that it was in; its page is hidden from this
     /// server or isn't. If the server isn't told the page, the window's size is told again, so that its program draws
-    /// anew.
-    pub fn reopen(&mut self, mark: &SessionMark, is_hidden: bool) -> Result<Meeting, PeerFault>
-        ensures meets { IfOk result (Meets self.old mark.now) }
+    /// anew. If the server is gone since the mark was read (not `is_here`), the mark may be another server's.
+    pub fn reopen(
+        &mut self,
+        mark: &SessionMark,
+        is_here: bool,
+        is_hidden: bool,
+    ) -> Result<Meeting, PeerFault>
+        ensures meets { IsThere self.old is_here → IfOk result (Meets self.old mark.now) }
+        ensures gone { (IsThere self.old is_here → ⊥) → result ≡ Ok Meeting.Older }
         ensures ok { IfOk result (λ met. met ≡ Same → Opens self.old self.new is_hidden) }
         ensures stays { IfOk result (λ met. (met ≡ Same → ⊥) → self.new ≡ self.old) }
         ensures fault { OnErr result (Meets self.old mark.now Same) }
-        ensures keeps { Keeps self.old self.new }
     {
+        if self.end.is_some() || !is_here {
+            return Ok(Meeting::Older);
+        }
         let met = self.meets(mark);
         if met == Meeting::Same {
             self.open(is_hidden)?;
@@ -169,12 +179,13 @@ impl Peer {
     }
 
     fn open(&mut self, is_hidden: bool) -> Result<(), PeerFault>
-        ensures opens { OnOk result (Opens self.old self.new is_hidden) }
-        ensures keeps { Keeps self.old self.new }
+        ensures { OnOk result (Opens self.old self.new is_hidden) }
     {
         self.is_reopening = false;
         self.page_number = self.number;
         self.page.is_hidden = is_hidden;
+        self.bytes.extend_from_slice(&self.early)?;
+        self.early.clear();
         if self.tell_again()? {
             return Ok(());
         }
@@ -191,10 +202,25 @@ impl Peer {
           page = self.new.page;
           sizes = self.new.sizes;
         } }
+        ensures size { OnOk result (self.new.sizes.items ≡ self.old.sizes.items ++ size_line rows columns) }
+        ensures page { IsSized self.old.page rows columns self.new.page }
     {
         // Without memory for it no page is kept.
         let _ = self.page.resize(rows, columns);
         self.put_size(rows, columns)
+    }
+
+    // Takes input for a window's program. If the window comes back, the session may be another one: the input waits.
+    fn take_input(&mut self, bytes: &[u8]) -> Result<(), PeerFault>
+        ensures takes { OnOk result (TakesInput self.old bytes.now self.new) }
+        ensures closed { StaysClosed self.old self.new }
+        ensures same { self.new ≡ record self.old { bytes = self.new.bytes; early = self.new.early } }
+    {
+        if self.was_welcome && !self.has_server() {
+            self.early.extend_from_slice(bytes)?;
+            return Ok(());
+        }
+        self.put(bytes)
     }
 
     // Puts down what a message has for the files that the peer writes to. A server of ours sends draws to
@@ -210,7 +236,9 @@ impl Peer {
             Message::Say(text) if self.subcommand.is_attach() && self.is_welcome => self.hear_later(
                 text.as_str(),
             ),
-            Message::Input(bytes) if self.subcommand.is_window() => self.put(bytes.as_slice()),
+            Message::Input(bytes) if self.subcommand.is_window() => self.take_input(
+                bytes.as_slice(),
+            ),
             Message::Size { rows, columns } if self.subcommand.is_window() => self.resize_window(
                 *rows, *columns,
             ),
@@ -272,8 +300,10 @@ impl Peer {
     }
 
     /// Whether so much waits for standard output that the server isn't read.
-    pub fn is_behind(&self) -> bool {
-        self.bytes.len() > MOST_WAITING
+    pub fn is_behind(&self) -> bool
+        ensures { IsTrue result ↔ IsBehind self.now }
+    {
+        self.bytes.len() > MOST_WAITING || self.early.len() > MOST_WAITING
     }
 
     /// Sorts the bytes of a read; no bytes mean the stream's end. Returns how the peer ended, if it
@@ -290,6 +320,7 @@ impl Peer {
         ensures err { OnErr result (StopsAt self.old self.new) }
         ensures closed { StaysClosed self.old self.new }
         ensures ends { (self.old.subcommand ≡ Ping → ⊥) → bytes.now ≡ [] → result ≡ Ok (Some (Err Ended)) }
+        ensures ping { self.old.subcommand ≡ Ping → (result ≡ Ok (Some (Ok Why.Detached))) × (self.new ≡ self.old) }
         ensures hears { (self.old.subcommand ≡ Ping → ⊥) → (bytes.now ≡ [] → ⊥)
             → IfOk result (HearsRead self.old reader.old bytes.now self.new reader.new) }
     {

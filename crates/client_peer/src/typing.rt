@@ -1,6 +1,7 @@
 //! What is typed or printed, on its way to the server.
 
 ghost use Rattle.std.specs.Prelude.{◌≡◌, OnOk};
+ghost use Rattle.client_peer.specs.Ending.{EndsInput};
 ghost use Rattle.client_peer.specs.Typing.{TypesIn, Presses, SendsAssisted, MayAsk};
 
 use crate::notice::NoticeStage;
@@ -99,7 +100,9 @@ impl Peer {
     }
 
     /// Takes the end of standard input.
-    pub fn end_input(&mut self, fault: Option<PeerFault>) -> Result<(), AllocError> {
+    pub fn end_input(&mut self, fault: Option<PeerFault>) -> Result<(), AllocError>
+        ensures { OnOk result (EndsInput self.old fault self.new) }
+    {
         if fault.is_some() {
             self.fault = fault;
         }

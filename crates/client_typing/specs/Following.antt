@@ -1,7 +1,9 @@
 -- What of the input is sent, and what has read it.
 use Rattle.std.specs.Prelude.{◌≡◌, ℕ, List, [], ◌++◌, Option, Some, None}
 use Rattle.client_words.specs.declared.leaving.LeaveReader.{LeaveReader}
-use Rattle.client_words.specs.Leaving.{sent}
+use Rattle.client_words.specs.declared.leaving.InputStage.{InputStage}
+use Rattle.client_words.specs.declared.leaving.InputStage.TheVariants.{Reading, Left}
+use Rattle.client_words.specs.Leaving.{sent, stage}
 use Rattle.client_words.specs.Stands.{HasRead}
 use Rattle.keys.specs.Grammar.{nothing}
 use Rattle.keys.specs.Kept.{Keeping, StandsFor, rest_of}
@@ -15,6 +17,17 @@ LetsThrough (Some reader) input typed None = ⊥
 LetsThrough (Some reader) input typed (Some after) =
     (before : List ℕ) → HasRead reader before
     → HasRead after (before ++ input) × (sent reader.byte (before ++ input) ≡ sent reader.byte before ++ typed)
+
+-- how far the input was read in looking for the byte that leaves
+abbrev pub IsStage : Option LeaveReader → InputStage → Type 0
+IsStage None s = s ≡ Reading
+IsStage (Some reader) s = (bytes : List ℕ) → HasRead reader bytes → s ≡ stage reader.byte bytes
+
+-- the user leaves, if there is a byte that leaves
+abbrev pub Leaves : Option LeaveReader → Option LeaveReader → Type 0
+Leaves None new = new ≡ None
+Leaves (Some old) None = ⊥
+Leaves (Some old) (Some new) = new.stage ≡ Left
 
 -- the reader has read these keys too
 abbrev pub Follows : Keeping → List ℕ → Keeping → Type 0

@@ -57,7 +57,7 @@ fn after_page_key(keys: &[u8]) -> Option<(&[u8], bool)>
 
 impl Typing {
     ghost use Rattle.client_typing.specs.Assisting.{Assists, IsAssisted, Takes};
-    ghost use Rattle.client_typing.specs.Following.{LetsThrough, Follows, IsSet, IsUnread, StaysBeside, Rests};
+    ghost use Rattle.client_typing.specs.Following.{LetsThrough, Follows, IsSet, IsStage, IsUnread, Leaves, StaysBeside, Rests};
 
     pub fn new(arguments: &Arguments<'_>) -> Typing
         ensures stands { IsUnread result }
@@ -98,7 +98,9 @@ impl Typing {
     }
 
     /// How far the input was read in looking for the byte that leaves.
-    pub fn stage(&self) -> InputStage {
+    pub fn stage(&self) -> InputStage
+        ensures { IsStage self.now.leave result }
+    {
         match &self.leave {
             Some(leave) => leave.stage(),
             None => InputStage::Reading,
@@ -107,7 +109,8 @@ impl Typing {
 
     /// Leaves by the byte that waits.
     pub fn leave(&mut self)
-        ensures { self.new ≡ record self.old { leave = self.new.leave } }
+        ensures leaves { Leaves self.old.leave self.new.leave }
+        ensures same { self.new ≡ record self.old { leave = self.new.leave } }
     {
         if let Some(leave) = &mut self.leave {
             leave.leave();

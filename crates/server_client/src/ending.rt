@@ -1,6 +1,7 @@
 //! The end of a peer, and the messages about it.
 
-ghost use Rattle.std.specs.Prelude.{◌≡◌};
+ghost use Rattle.std.specs.Prelude.{◌≡◌, ◌↔◌, IsSome, IsTrue};
+ghost use Rattle.client_peer.specs.Ending.{ending_of};
 ghost use Rattle.client_words.specs.Ending.{status_after};
 
 use attach_proto::Why;
@@ -25,7 +26,16 @@ pub struct PeerEnding {
 
 impl PeerEnding {
     /// Takes how the peer ended; the session's last text is given once.
-    pub fn take(peer: &mut Peer) -> PeerEnding {
+    pub fn take(peer: &mut Peer) -> PeerEnding
+        ensures end { result.end ≡ ending_of peer.old.end peer.old.fault }
+        ensures said { result.said ≡ peer.old.said }
+        ensures left { IsTrue result.has_left ↔ IsSome peer.old.times.left_at }
+        ensures same { result ≡ record result {
+          has_dropped = peer.old.has_dropped;
+          was_welcome = peer.old.was_welcome;
+          is_unsure = peer.old.is_unsure;
+        } }
+    {
         PeerEnding {
             end: peer.ending(),
             said: peer.said.take(),

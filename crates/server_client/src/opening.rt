@@ -1,5 +1,9 @@
 //! The connection with its first frame, and the files that the arguments name.
 
+ghost use Rattle.std.specs.Prelude.{◌≡◌, ◌↔◌, IfOk, IsTrue};
+ghost use Rattle.client_words.specs.declared.arguments.Subcommand.TheVariants.{Window};
+ghost use Rattle.server_client.specs.Marks.{IsNoEarlier};
+
 use crate::PeerHost;
 use attach_proto::Token;
 use client_peer::SessionMark;
@@ -136,13 +140,20 @@ pub fn mark_of<R: fs::Files<File = File> + AllocGlobal>(rt: &R, socket: &str) ->
     mark
 }
 
+// Whether a time isn't before another one: seconds, and nanoseconds.
+fn is_no_earlier(it: (i64, i64), other: (i64, i64)) -> bool
+    ensures { IsTrue result ↔ IsNoEarlier it other }
+{
+    it.0 > other.0 || (it.0 == other.0 && it.1 >= other.1)
+}
+
 // Whether a file was written no earlier than another one.
 fn is_as_new<R: fs::Files<File = File>>(rt: &R, path: &str, other: &str) -> bool {
     match (fs::metadata(rt, path), fs::metadata(rt, other)) {
-        (Ok(it), Ok(other)) if it.mtime() == other.mtime() => {
-            it.mtime_nsec() >= other.mtime_nsec()
-        }
-        (Ok(it), Ok(other)) => it.mtime() > other.mtime(),
+        (Ok(it), Ok(other)) => is_no_earlier(
+            (it.mtime(), it.mtime_nsec()),
+            (other.mtime(), other.mtime_nsec()),
+        ),
         _ => false,
     }
 }
@@ -227,12 +238,13 @@ fn door_for<R: fs::Files<File = File> + AllocGlobal>(
 pub fn another_door<R: fs::Files<File = File> + AllocGlobal>(
     rt: &R,
     arguments: &Arguments<'_>,
-    (rows, columns): (u16, u16),
+    size: (u16, u16),
     session: Vec<u8>,
-) -> Result<Door, PeerFault> {
+) -> Result<Door, PeerFault>
+    ensures { IfOk result (λ door. arguments.now.subcommand ≡ Window → door.session ≡ session) }
+{
     let mut arguments = *arguments;
-    arguments.rows = rows;
-    arguments.columns = columns;
+    (arguments.rows, arguments.columns) = size;
     let mut door = door_for(rt, &arguments)?;
     if arguments.subcommand.is_attach() {
         door.grace = GRACE;

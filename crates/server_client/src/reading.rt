@@ -5,7 +5,7 @@ ghost use Rattle.std.specs.Io.KnownBytes.{Consumes};
 
 use crate::PeerHost;
 use crate::opening::Door;
-use crate::shared::{PeerSeat, SharedPeer, is_open};
+use crate::shared::{PeerSeat, SharedPeer, Takes, is_open};
 use attach_proto::{LONGEST, Why};
 use client_words::{PeerFault, RefusedPart};
 use std::alloc::Global;
@@ -16,6 +16,9 @@ use std::time::Duration;
 
 // How long nothing is read before it is looked whether the server has hung up, in milliseconds.
 const LOOK: u64 = 250;
+
+// How a connection ended, if it did.
+type ConnectionEnd = Option<Result<Why, PeerFault>>;
 
 // Connects, and lends the connection to the other threads.
 fn connect<R: PeerHost + Wait>(
@@ -29,17 +32,6 @@ fn connect<R: PeerHost + Wait>(
     Ok(stream)
 }
 
-/// Takes what is read of a connection.
-trait Takes {
-    /// It has taken these bytes.
-    ghost has_taken: { Self → List ℕ → Type 0 };
-
-    /// Takes the next bytes; none mean the end. Returns how the connection ended, if it did.
-    fn take(&mut self, bytes: &[u8]) -> Result<Option<Result<Why, PeerFault>>, PeerFault>
-        ensures { (came : List ℕ) → has_taken self.old came
-            → OnOk result (has_taken self.new (came ++ bytes.now)) };
-}
-
 /// The peer behind its lock, which shows nothing of what it has taken.
 #[derive(Drop)]
 struct Taker<'a, R> {
@@ -47,10 +39,10 @@ struct Taker<'a, R> {
     shared: &'a SharedPeer,
 }
 
-impl<R: Wait> Takes for Taker<'_, R> {
+impl<R: Wait> Takes<ConnectionEnd> for Taker<'_, R> {
     ghost has_taken = { λ _ _. Unit {0} };
 
-    fn take(&mut self, bytes: &[u8]) -> Result<Option<Result<Why, PeerFault>>, PeerFault> {
+    fn take(&mut self, bytes: &[u8]) -> Result<ConnectionEnd, PeerFault> {
         let shared = self.shared;
         let mut guard = shared.seat.lock(self.rt);
         let PeerSeat { peer, reader, .. } = &mut *guard;
@@ -68,11 +60,11 @@ impl<R: Wait> Takes for Taker<'_, R> {
 }
 
 // Reads once, and hands on all that was read. Returns how the connection ended, if it did.
-fn read_once<S: Read, T: Takes>(
+fn read_once<S: Read, T: Takes<ConnectionEnd>>(
     stream: &mut S,
     buffer: &mut [u8],
     taker: &mut T,
-) -> Result<Option<Result<Why, PeerFault>>, PeerFault>
+) -> Result<ConnectionEnd, PeerFault>
     ensures { (came : List ℕ) → T.has_taken taker.old came
         → OnOk result ((piece : List ℕ) × Consumes (S.remaining stream.old) (S.remaining stream.new) piece
         × T.has_taken taker.new (came ++ piece)) }

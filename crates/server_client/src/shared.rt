@@ -1,15 +1,28 @@
 //! What the threads of a peer share, and how they begin.
 
+ghost use Rattle.std.specs.Prelude.{◌++◌, ℕ, List, OnOk};
+
 use crate::PeerHost;
 use attach_proto::{Reader, Side};
 use client_peer::{Meeting, Peer, SessionMark};
-use client_words::Arguments;
+use client_words::{Arguments, PeerFault};
 use std::alloc::{AllocError, Global};
 use std::io::Write;
 use std::os::unix::net::UnixStream;
 use std::sync::{Arc, Condvar, Mutex, Wait};
 use std::thread;
 use std::thread::Threads;
+
+/// Takes what is read, and answers.
+pub trait Takes<A> {
+    /// It has taken these bytes.
+    ghost has_taken: { Self → List ℕ → Type 0 };
+
+    /// Takes the next bytes.
+    fn take(&mut self, bytes: &[u8]) -> Result<A, PeerFault>
+        ensures { (came : List ℕ) → has_taken self.old came
+            → OnOk result (has_taken self.new (came ++ bytes.now)) };
+}
 
 /// A peer with its present connection.
 #[derive(Drop)]
@@ -18,6 +31,16 @@ pub struct PeerSeat {
     /// Cuts what comes on the connection into messages.
     pub reader: Reader,
     pub stream: Option<Arc<UnixStream, Global>>,
+}
+
+impl PeerSeat {
+    /// Whether the server is there that the peer is connected to.
+    pub fn is_here(&self) -> bool {
+        match &self.stream {
+            Some(stream) => is_open(stream),
+            None => false,
+        }
+    }
 }
 
 /// A peer, for all of its threads.
@@ -59,10 +82,7 @@ impl SharedPeer {
     /// Takes the session's name for the peer, as long as its server is there.
     pub fn learn<R: Wait>(&self, rt: &R, mark: SessionMark) {
         let mut seat = self.seat.lock(rt);
-        let is_here = match &seat.stream {
-            Some(stream) => is_open(stream),
-            None => false,
-        };
+        let is_here = seat.is_here();
         seat.peer.learn(mark, is_here);
     }
 

@@ -1,5 +1,8 @@
 //! Waits for a peer's end, and does in time what it does by itself.
 
+ghost use Rattle.std.specs.Prelude.{◌≡◌};
+ghost use Rattle.server_client.specs.Lines.{has_line};
+
 use crate::attach::Sources;
 use crate::ending::PeerEnding;
 use crate::opening::{Door, another_door, mark_of};
@@ -104,13 +107,12 @@ fn is_hidden<R: Files<File = File> + AllocGlobal>(
     }
 }
 
-fn has_line(lines: &[u8], wanted: &[u8]) -> bool {
-    for line in lines.split(|byte| *byte == b'\n') {
-        if line == wanted {
-            return true;
-        }
-    }
-    false
+fn has_line(lines: &[u8], wanted: &[u8]) -> bool
+    ensures { result ≡ has_line lines.now wanted.now }
+{
+    lines
+        .split(|byte| *byte == b'\n')
+        .any(|line| line == wanted)
 }
 
 // What comes of what the peer met. A window waits for a mark of the server that made the socket, but not for long.
@@ -127,7 +129,7 @@ fn judge<R: PeerHost + Wait + Files<File = File> + AllocGlobal>(
     }
 }
 
-// Opens a window again in a server that has let it in. What stands beside the socket is that server's by now.
+// Opens a window again in a server that has let it in, if what stands beside the socket is that server's.
 fn reopen<R: PeerHost + Wait + Files<File = File> + AllocGlobal>(
     rt: &R,
     shared: &SharedPeer,
@@ -137,7 +139,9 @@ fn reopen<R: PeerHost + Wait + Files<File = File> + AllocGlobal>(
     let mark = mark_of(rt, arguments.socket);
     let mut seat = shared.seat.lock(rt);
     let number = seat.peer.page_number;
-    let opened = seat.peer.reopen(&mark, is_hidden(rt, arguments, number));
+    let is_hidden = is_hidden(rt, arguments, number);
+    let is_here = seat.is_here();
+    let opened = seat.peer.reopen(&mark, is_here, is_hidden);
     if let Err(fault) = opened {
         seat.peer.end_by(Err(fault));
     }

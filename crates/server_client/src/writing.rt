@@ -1,5 +1,9 @@
 //! Writes to standard output and the sizes' file, and sends frames to the server.
 
+ghost use Rattle.std.specs.Prelude.{◌≤◌, length, OnOk};
+ghost use Rattle.std.specs.Io.KnownBytes.{Appends};
+ghost use Rattle.server_client.specs.Sending.{SendsSome};
+
 use crate::shared::SharedPeer;
 use crate::{PeerHost, Sink};
 use client_peer::Batch;
@@ -11,16 +15,20 @@ use std::io::{ErrorKind, Write};
 use std::os::unix::net::UnixStream;
 use std::sync::{Arc, Wait};
 
+// Writes bytes to standard output, and lines to the sizes' file.
 fn write<O: Write>(
     output: &mut O,
     sizes: &mut Option<File>,
-    (bytes, lines): (Vec<u8>, Vec<u8>),
-) -> io::Result<()> {
+    bytes: &[u8],
+    lines: &[u8],
+) -> io::Result<()>
+    ensures { OnOk result (Appends (O.contents output.old) (O.contents output.new) bytes.now) }
+{
     // If the sizes' file takes no size, the peer goes on.
     if let Some(file) = sizes {
-        let _ = file.write_all(&lines);
+        let _ = file.write_all(lines);
     }
-    output.write_all(&bytes)?;
+    output.write_all(bytes)?;
     output.flush()
 }
 
@@ -36,9 +44,9 @@ pub fn write_out<R: PeerHost + Wait, O: Sink>(
         let mut seat = shared
             .work
             .wait_while(rt, seat, |seat| !seat.peer.has_output());
-        let taken = seat.peer.begin_writing();
+        let (bytes, lines) = seat.peer.begin_writing();
         drop(seat);
-        let fault = match write(output, sizes, taken) {
+        let fault = match write(output, sizes, &bytes, &lines) {
             Ok(()) => None,
             Err(error) => Some(PeerFault::Refused(RefusedPart::Output, error)),
         };
@@ -53,18 +61,28 @@ pub fn write_out<R: PeerHost + Wait, O: Sink>(
     }
 }
 
+// Makes one write of what wasn't sent.
+fn send_once<S: Write>(stream: &mut S, batch: &mut Batch) -> io::Result<usize>
+    requires { batch.old.sent ≤ length batch.old.frames.items }
+    ensures sends { SendsSome (S.contents stream.old) batch.old (S.contents stream.new) batch.new }
+{
+    let count = stream.write(&batch.frames[batch.sent..])?;
+    batch.sent += count;
+    Ok(count)
+}
+
 // Sends all bytes, or fewer if the socket has a time limit and takes nothing for that time. Returns
 // whether the socket is open.
-fn send_some(stream: &UnixStream, batch: &mut Batch) -> bool {
-    let mut stream = stream;
-    for _ in 0..=batch.frames.len() {
-        let rest = batch.frames.get(batch.sent..).unwrap_or(&[]);
-        if rest.is_empty() {
+fn send_some<S: Write>(stream: &mut S, batch: &mut Batch) -> bool
+    ensures { SendsSome (S.contents stream.old) batch.old (S.contents stream.new) batch.new }
+{
+    'writes: for _ in 0..=batch.frames.len() {
+        if batch.sent >= batch.frames.len() {
             break;
         }
-        match stream.write(rest) {
+        match send_once(stream, batch) {
             Ok(0) => return false,
-            Ok(count) => batch.sent = batch.sent.saturating_add(count),
+            Ok(_) => {}
             Err(error) if error.kind() == ErrorKind::WouldBlock => break,
             Err(error) if error.kind() == ErrorKind::Interrupted => {}
             Err(_) => return false,
@@ -95,7 +113,8 @@ pub fn send<R: Wait>(rt: &R, shared: &SharedPeer) {
         let Some((mut batch, stream)) = begin(rt, shared) else {
             break;
         };
-        let is_open = send_some(&stream, &mut batch);
+        let mut socket: &UnixStream = &stream;
+        let is_open = send_some(&mut socket, &mut batch);
         let mut seat = shared.seat.lock(rt);
         let kept = seat.peer.end_sending(batch, is_open);
         let goes_on = kept.is_ok() && !seat.peer.is_stuck;
