@@ -1,6 +1,6 @@
 //! A loop's seat in the session that it shares.
 
-ghost use Rattle.std.specs.Prelude.{◌≡◌, ◌||◌, Option, is_some};
+ghost use Rattle.std.specs.Prelude.{◌≡◌, ◌||◌, Option, is_some, true};
 ghost use Rattle.session.specs.Trace.{happening};
 ghost use Rattle.hub.specs.Seats.{Ruled};
 ghost use Rattle.server_session.specs.Loading.{closed_by, opened_by, size_of};
@@ -216,7 +216,9 @@ impl<L: Begun, S: LoopSession<L>, B: Counting, T: TrailCount> SessionSeat
     }
 
     fn has_stopped(&self) -> bool {
-        self.shared.stopped().is_some() || self.accounts.trail.filled().is_some()
+        let stopped = self.shared.stopped();
+        let filled = self.accounts.trail.filled();
+        stopped.is_some() || filled.is_some()
     }
 
     fn take<R: Wait>(&mut self, rt: &R) -> (Vec<(Effect, Option<UserId>)>, bool) {
