@@ -57,5 +57,7 @@ presses_read old new t times typed same p =
             asks = a.asks;
           };
       lost = q.lost;
+      ends = q.ends;
+      lasts = q.lasts;
       helped = q.helped;
     }

@@ -4,3 +4,4 @@ pub mod Handing
 pub mod Hearing
 pub mod Passing
 pub mod Sending
+pub mod Waiting

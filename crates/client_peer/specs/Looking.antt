@@ -1,12 +1,14 @@
 -- What a peer does next.
-use Rattle.std.specs.Prelude.{◌≡◌, ◌⊎◌, true, false, None, IsSome}
-use Rattle.client_typing.specs.Following.{Rests}
+use Rattle.std.specs.Prelude.{◌≡◌, ◌≢◌, ◌⊎◌, ◌≤◌, ◌-◌, ℕ, true, false, Some, None, IsSome, IsSomeAnd}
+use Rattle.client_words.specs.declared.leaving.InputStage.{InputStage}
+use Rattle.client_words.specs.declared.leaving.InputStage.TheVariants.{Waiting, Left}
+use Rattle.client_typing.specs.Following.{IsStage, Rests}
 use Rattle.client_peer.specs.declared.looking.PeerTask.{PeerTask}
 use Rattle.client_peer.specs.declared.looking.PeerTask.TheVariants as task
 use Rattle.client_peer.specs.declared.notice.NoticeStage.{NoticeStage}
 use Rattle.client_peer.specs.declared.notice.NoticeStage.TheVariants as notice
 use Rattle.client_peer.specs.declared.peer.Peer.{Peer}
-use Rattle.client_peer.specs.Sending.{MaySend}
+use Rattle.client_peer.specs.Sending.{IsMore, MaySend}
 
 -- a text for the last line is still to come
 abbrev pub IsToShow : NoticeStage → Type 0
@@ -29,6 +31,38 @@ abbrev pub IsIdle : Peer → Type 0
 IsIdle p =
     (IsSome p.end × IsOut p)
     ⊎ ((p.end ≡ None) × (MaySend p → ⊥) × (p.times.left_at ≡ None → p.is_reopening ≡ false))
+
+-- The user hasn't left, as far as the input was read.
+abbrev pub StaysOn : Peer → Type 0
+StaysOn p = (s : InputStage) × (s ≢ Left) × IsStage p.typing.leave s
+
+-- the byte that leaves came alone: nothing was read since, for 250 ms
+abbrev pub IsAlone : Peer → ℕ → Type 0
+IsAlone p now =
+    IsStage p.typing.leave Waiting
+    × IsSomeAnd p.times.paired (λ pair. (pair.1 ≡ p.typing.reads) × (250 ≤ now - pair.0))
+
+-- The user leaves, or stays on. A byte that leaves which came alone counts as the last one.
+pub record MayLeave (old : Peer) (now : ℕ) (new : Peer) : Type 0 where
+  pub left : IsSome old.times.left_at → new ≡ old
+  pub leaves : old.times.left_at ≡ None → IsSome new.times.left_at
+      → (new.times.left_at ≡ Some now) × IsStage new.typing.leave Left
+  pub stays : new.times.left_at ≡ None → StaysOn new × (new.frames ≡ old.frames)
+  pub alone : (new.typing ≡ old.typing) ⊎ IsAlone old now
+
+-- As time goes by nothing is lost that waits for the server or for standard output, and nothing that is held.
+pub record Waits (old new : Peer) : Type 0 where
+  pub frames : IsMore old.frames.items new.frames.items
+  pub bytes : IsMore old.bytes.items new.bytes.items
+  pub rest : new ≡ record old {
+    frames = new.frames;
+    bytes = new.bytes;
+    typing = new.typing;
+    notice = new.notice;
+    times = new.times;
+    is_final = new.is_final;
+    end = new.end;
+  }
 
 -- when a task is the next one
 abbrev pub DoesNext : Peer → PeerTask → Type 0

@@ -9,6 +9,7 @@ use Rattle.client_words.specs.declared.arguments.Subcommand.TheVariants.{Attach}
 use Rattle.client_words.specs.declared.fault.PeerFault.{PeerFault}
 use Rattle.client_words.specs.declared.fault.PeerFault.TheVariants as fault
 use Rattle.client_peer.specs.declared.peer.Peer.{Peer}
+use Rattle.client_peer.specs.Sending.{IsMore}
 
 -- An end after which a server may come back: the connection ended without a word or couldn't be made, the trail is
 -- full, the session quit as planned, or the peer was refused and may be let in later.
@@ -53,6 +54,15 @@ pub record ComesBack (old : Peer) (now : ℕ) (is_planned has_place comes_back :
   pub final : IsSome old.end → new.is_final ≡ not comes_back
   pub out : comes_back ≡ true → new.is_welcome ≡ false
   pub end : new.end ≡ old.end
+  pub bytes : IsMore old.bytes.items new.bytes.items
+  pub rest : new ≡ record old {
+    bytes = new.bytes;
+    notice = new.notice;
+    is_final = new.is_final;
+    is_welcome = new.is_welcome;
+    loss = new.loss;
+    times = record old.times { lost_at = new.times.lost_at };
+  }
 
 -- so many seconds have passed since the loss
 abbrev pub IsOver : Peer → ℕ → Type 0

@@ -15,6 +15,10 @@ unsent p = drop p.sent p.frames.items
 abbrev pub left : Batch → List ℕ
 left b = drop b.sent b.frames.items
 
+-- bytes come after those that waited
+abbrev pub IsMore : List ℕ → List ℕ → Type 0
+IsMore old new = (more : List ℕ) × (new ≡ old ++ more)
+
 -- these bytes come after those that waited, and nothing else changes
 pub record Puts (old new : Peer) (bytes : List ℕ) : Type 0 where
   pub added : new.frames.items ≡ old.frames.items ++ bytes

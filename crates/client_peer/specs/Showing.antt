@@ -1,5 +1,6 @@
 -- What a client passes on to its terminal: functions that draws use, and nothing else.
-use Rattle.std.specs.Prelude.{◌≡◌, ℕ, List, [], ◌∷◌, ◌++◌, ◌⊎◌}
+use Rattle.std.specs.Prelude.{◌≡◌, ℕ, List, [], ◌∷◌, ◌++◌, ◌⊎◌, take, codes, decimal}
+use Rattle.client_words.specs.Visible.{visible}
 use Rattle.client_words.specs.declared.arguments.Subcommand.TheVariants.{Attach}
 use Rattle.draw_check.specs.Functions.{BeginDraws}
 use Rattle.draw_check.specs.Places.{place_after}
@@ -49,3 +50,20 @@ pub record CutsOff (old new : Peer) : Type 0 where
 -- the check begins anew only after CAN; else it goes on where it was
 abbrev pub BeginsAnew : Peer → Peer → Type 0
 BeginsAnew old new = CutsOff old new ⊎ Keeps old new
+
+-- ---- what a client writes to its terminal of its own
+
+-- a text for the last line, of which no character controls the terminal
+abbrev pub noted : List ℕ → List ℕ
+noted text = codes "mux: " ++ visible text
+
+-- It stands in reverse at the bottom. The cursor's place and rendition are saved before it and restored after it.
+abbrev pub notice_line : ℕ → List ℕ → List ℕ
+notice_line rows text =
+    0x1B ∷ 0x37 ∷ 0x1B ∷ 0x5B ∷ decimal rows ++ (codes ";1H" ++ (0x1B ∷ codes "[0;7m" ++ (text
+    ++ (0x1B ∷ codes "[m" ++ (0x1B ∷ codes "[K" ++ 0x1B ∷ codes "8")))))
+
+-- the line has the text, or the beginning of it that there is room for
+abbrev pub ShowsNotice : Peer → Peer → Type 0
+ShowsNotice old new =
+    (count : ℕ) × (new.bytes.items ≡ old.bytes.items ++ notice_line old.rows (take count old.notice.text.items))

@@ -1,5 +1,5 @@
 -- What of the input is sent.
-use Rattle.std.specs.Prelude.{◌≡◌, ◌==◌, ℕ, Bool, true, false, not, ◌&&◌, ◌||◌, List, [], ◌++◌, ◌⊎◌, None, IsSome}
+use Rattle.std.specs.Prelude.{◌≡◌, ◌==◌, ℕ, Bool, true, false, not, ◌&&◌, ◌||◌, List, [], ◌++◌, ◌⊎◌, None, IsSome, Contains}
 use Rattle.attach_proto.specs.declared.kind.Kind.TheVariants.{Keys}
 use Rattle.attach_proto.specs.declared.message.Message.TheVariants.{Resize}
 use Rattle.attach_proto.specs.Spelling.{spelling}
@@ -31,13 +31,15 @@ pub record SendsAssisted (old new : Peer) (typed : List ℕ) : Type 0 where
   pub asks : MayAsk old frames new.frames.items
 
 -- What a client's user types is put down whole and in order. With --fit it is followed, so that `fit` comes between
--- two keys. While no server is there, it is dropped; while the help is shown, the page is asked for instead.
+-- two keys. While no server is there, it is dropped, and C-c ends the client; while the help is shown, the page is asked for instead.
 pub record Presses (old new : Peer) (typed : List ℕ) : Type 0 where
   pub sends : IsSeated old → old.typing.assists ≡ false → Sends old.frames.items new.frames.items Keys typed
   pub follows : IsSeated old → old.typing.assists ≡ false → old.fits ≡ true
       → Follows old.typing.keys typed new.typing.keys
   pub assisted : IsSeated old → old.typing.assists ≡ true → SendsAssisted old new typed
   pub lost : IsSome old.loss → new.frames ≡ old.frames
+  pub ends : IsSome old.loss → Contains typed 3 → (new.is_final ≡ true) × (new.end ≡ old.loss)
+  pub lasts : IsSome old.loss → (Contains typed 3 → ⊥) → (new.is_final ≡ old.is_final) × (new.end ≡ old.end)
   pub helped : old.loss ≡ None → old.is_helping ≡ true
       → (new.is_helping ≡ false) × (new.frames.items ≡ old.frames.items ++ spelling (Resize old.rows old.columns))
 

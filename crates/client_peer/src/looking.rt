@@ -1,10 +1,11 @@
 //! What a peer does by itself, as time goes by.
 
-ghost use Rattle.std.specs.Prelude.{◌≡◌, ◌↔◌, true, false, None, IsSome, IsTrue, option_map, string_bytes};
+ghost use Rattle.std.specs.Prelude.{◌≡◌, ◌↔◌, ◌⊎◌, true, false, None, IsSome, IsTrue, option_map, string_bytes};
 ghost use Rattle.client_peer.specs.Returning.{may_return, is_refused, is_unknown, ComesBack, AtLoss};
-ghost use Rattle.client_peer.specs.Sending.{HasServer};
+ghost use Rattle.client_peer.specs.Sending.{HasServer, IsMore};
 ghost use Rattle.client_peer.specs.Typing.{Fits};
-ghost use Rattle.client_peer.specs.Looking.{DoesNext, IsDue};
+ghost use Rattle.client_typing.specs.Following.{IsStage};
+ghost use Rattle.client_peer.specs.Looking.{DoesNext, IsAlone, IsDue, MayLeave, StaysOn, Waits};
 
 use crate::notice::NoticeStage;
 use crate::peer::Peer;
@@ -109,7 +110,9 @@ fn may_return(end: Result<Why, PeerFault>, is_planned: bool, is_refused: bool) -
 impl Peer {
     /// Looks at the time, in milliseconds, and says what is to be done next.
     pub fn look(&mut self, now: u64) -> PeerTask
-        ensures { DoesNext self.new result }
+        ensures next { DoesNext self.new result }
+        ensures waits { Waits self.old self.new }
+        ensures stays { self.new.times.left_at ≡ None → StaysOn self.new }
     {
         self.look_at_leaving(now);
         if let Some(left) = self.times.left_at {
@@ -128,7 +131,9 @@ impl Peer {
     // What is to be done while the connection is open.
     fn look_open(&mut self, now: u64) -> PeerTask
         requires { (self.old.end ≡ None) × (self.old.times.left_at ≡ None) }
-        ensures { DoesNext self.new result }
+        ensures next { DoesNext self.new result }
+        ensures waits { Waits self.old self.new }
+        ensures leave { self.new.typing.leave ≡ self.old.typing.leave }
     {
         if self.is_to_begin(now) {
             self.times.has_begun = true;
@@ -150,7 +155,10 @@ impl Peer {
     }
 
     // Leaves if the byte that leaves came, and no second one in time.
-    fn look_at_leaving(&mut self, now: u64) {
+    fn look_at_leaving(&mut self, now: u64)
+        ensures leaves { MayLeave self.old now self.new }
+        ensures waits { Waits self.old self.new }
+    {
         if self.times.left_at.is_some() {
             return;
         }
@@ -166,7 +174,12 @@ impl Peer {
         }
     }
 
-    fn look_at_pair(&mut self, now: u64) {
+    fn look_at_pair(&mut self, now: u64)
+        requires { IsStage self.old.typing.leave InputStage.Waiting }
+        ensures alone { (self.new.typing ≡ self.old.typing) ⊎ IsAlone self.old now }
+        ensures left { self.new.times.left_at ≡ self.old.times.left_at }
+        ensures same { self.new ≡ record self.old { typing = self.new.typing; times = self.new.times } }
+    {
         let reads = self.typing.reads;
         match self.times.paired {
             Some((since, read)) if read == reads && now.saturating_sub(since) < PAIR => {}
@@ -202,7 +215,8 @@ impl Peer {
 
     fn look_at_end(&mut self, now: u64) -> PeerTask
         requires { IsSome self.old.end }
-        ensures { DoesNext self.new result }
+        ensures next { DoesNext self.new result }
+        ensures same { self.new ≡ record self.old { times = self.new.times } }
     {
         if !self.is_final {
             return PeerTask::Ask;
@@ -236,8 +250,13 @@ impl Peer {
     }
 
     fn look_at_notice(&mut self, now: u64)
-        ensures lasts { (self.new.end ≡ self.old.end) × (self.new.times.left_at ≡ self.old.times.left_at) }
-        ensures reopening { self.new.is_reopening ≡ self.old.is_reopening }
+        ensures waits { Waits self.old self.new }
+        ensures same { self.new ≡ record self.old {
+          frames = self.new.frames;
+          bytes = self.new.bytes;
+          notice = self.new.notice;
+          times = record self.old.times { has_typed = false };
+        } }
     {
         let has_typed = self.times.has_typed;
         self.times.has_typed = false;
@@ -260,8 +279,12 @@ impl Peer {
     // Gives the window in focus its region's size, once the terminal's stays the same and the session waits for no key.
     fn look_at_fit(&mut self, now: u64)
         ensures fits { Fits self.old self.new }
-        ensures lasts { (self.new.end ≡ self.old.end) × (self.new.times.left_at ≡ self.old.times.left_at) }
-        ensures reopening { self.new.is_reopening ≡ self.old.is_reopening }
+        ensures leave { self.new.typing.leave ≡ self.old.typing.leave }
+        ensures same { self.new ≡ record self.old {
+          frames = self.new.frames;
+          typing = self.new.typing;
+          times = record self.old.times { wants_fit = self.new.times.wants_fit; fit_at = self.new.times.fit_at };
+        } }
     {
         if !self.times.wants_fit || !self.is_welcome {
             return;
@@ -350,7 +373,8 @@ impl Peer {
 
     // Says on a client's terminal that its server is gone. CAN ends what may have been cut.
     fn tell_loss(&mut self)
-        ensures { self.new ≡ record self.old { bytes = self.new.bytes; notice = self.new.notice } }
+        ensures same { self.new ≡ record self.old { bytes = self.new.bytes; notice = self.new.notice } }
+        ensures adds { IsMore self.old.bytes.items self.new.bytes.items }
     {
         if !self.subcommand.is_attach() {
             return;

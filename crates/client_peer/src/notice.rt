@@ -1,8 +1,9 @@
 //! What a client writes to its terminal of its own: a line at the bottom, and its help.
 
-ghost use Rattle.std.specs.Prelude.{◌≡◌, OnErr};
+ghost use Rattle.std.specs.Prelude.{◌≡◌, ℕ, OnErr, OnOk, take};
 ghost use Rattle.client_peer.specs.Meeting.{StaysClosed};
-ghost use Rattle.client_peer.specs.Showing.{Keeps};
+ghost use Rattle.client_peer.specs.Sending.{IsMore};
+ghost use Rattle.client_peer.specs.Showing.{Keeps, ShowsNotice, noted};
 
 use crate::peer::Peer;
 use client_words::{PeerFault, put_visible};
@@ -68,7 +69,9 @@ fn is_of_server(text: &[u8]) -> bool {
 }
 
 // The first bytes of a text, at most so many, without a part of a character at their end.
-fn cut(text: &[u8], most: usize) -> &[u8] {
+fn cut(text: &[u8], most: usize) -> &[u8]
+    ensures { (count : ℕ) × (result.now ≡ take count text.now) }
+{
     if text.len() <= most {
         return text;
     }
@@ -111,6 +114,7 @@ impl Peer {
     pub fn notify(&mut self, text: &[u8]) -> Result<(), AllocError>
         ensures keeps { Keeps self.old self.new }
         ensures same { self.new ≡ record self.old { notice = self.new.notice } }
+        ensures text { OnOk result (self.new.notice.text.items ≡ noted text.now) }
     {
         let mut visible = Vec::new(self.alloc);
         visible.extend_from_slice(b"mux: ")?;
@@ -126,7 +130,9 @@ impl Peer {
     /// Puts the text down. The terminal's place and rendition are saved and restored (DECSC, DECRC), and
     /// reverse on this line is used by no draw.
     pub fn put_notice(&mut self) -> Result<(), PeerFault>
+        ensures shows { OnOk result (ShowsNotice self.old self.new) }
         ensures err { OnErr result (Keeps self.old self.new) }
+        ensures adds { IsMore self.old.bytes.items self.new.bytes.items }
         ensures same { self.new ≡ record self.old { bytes = self.new.bytes } }
     {
         let columns = usize::from(self.columns).saturating_sub(1);
@@ -140,7 +146,8 @@ impl Peer {
     /// Puts the text down again if a whole draw has come since it was shown, so that it is read until a key takes it
     /// away.
     pub fn keep_notice(&mut self)
-        ensures { self.new ≡ record self.old { bytes = self.new.bytes; notice = self.new.notice } }
+        ensures adds { IsMore self.old.bytes.items self.new.bytes.items }
+        ensures same { self.new ≡ record self.old { bytes = self.new.bytes; notice = self.new.notice } }
     {
         let is_shown = matches!(self.notice.stage, NoticeStage::Shown(_));
         if is_shown && self.notice.is_hidden && !self.is_cut && !self.is_covered {
@@ -153,6 +160,7 @@ impl Peer {
     pub fn help(&mut self) -> Result<(), PeerFault>
         ensures typing { self.new.typing ≡ self.old.typing }
         ensures frames { self.new.frames.items ≡ self.old.frames.items }
+        ensures adds { OnOk result (IsMore self.old.bytes.items self.new.bytes.items) }
     {
         if self.is_cut || self.is_covered {
             return Ok(());

@@ -2,6 +2,7 @@
 
 ghost use Rattle.std.specs.Prelude.{◌≡◌, OnOk};
 ghost use Rattle.client_peer.specs.Ending.{EndsInput};
+ghost use Rattle.client_peer.specs.Sending.{IsMore};
 ghost use Rattle.client_peer.specs.Typing.{TypesIn, Presses, SendsAssisted, MayAsk};
 
 use crate::notice::NoticeStage;
@@ -15,7 +16,8 @@ const ETX: u8 = 0x03;
 impl Peer {
     /// Takes what was read of standard input.
     pub fn type_in(&mut self, input: &[u8]) -> Result<(), PeerFault>
-        ensures { OnOk result (TypesIn self.old self.new input.now) }
+        ensures types { OnOk result (TypesIn self.old self.new input.now) }
+        ensures adds { OnOk result (IsMore self.old.bytes.items self.new.bytes.items) }
     {
         let mut bytes = Vec::new(self.alloc);
         self.typing.read(input, &mut bytes)?;
@@ -34,6 +36,7 @@ impl Peer {
     // Takes keys. They are dropped while no server is there, and one takes the help away.
     fn press(&mut self, keys: &[u8]) -> Result<(), PeerFault>
         ensures presses { OnOk result (Presses self.old self.new keys.now) }
+        ensures adds { OnOk result (IsMore self.old.bytes.items self.new.bytes.items) }
         ensures leave { self.new.typing.leave ≡ self.old.typing.leave }
     {
         if self.is_lost() {
@@ -64,6 +67,7 @@ impl Peer {
     fn assist(&mut self, keys: &[u8]) -> Result<(), PeerFault>
         ensures leave { self.new.typing.leave ≡ self.old.typing.leave }
         ensures sends { OnOk result (SendsAssisted self.old self.new keys.now) }
+        ensures adds { OnOk result (IsMore self.old.bytes.items self.new.bytes.items) }
     {
         let mut out = Vec::new(self.alloc);
         let page = self.rows.saturating_sub(3);
@@ -84,6 +88,7 @@ impl Peer {
     fn tell_scrolled(&mut self) -> Result<(), PeerFault>
         ensures typing { self.new.typing ≡ self.old.typing }
         ensures asks { OnOk result (MayAsk self.old self.old.frames.items self.new.frames.items) }
+        ensures bytes { self.new.bytes ≡ self.old.bytes }
     {
         let back = self.typing.back;
         if back == 0 {

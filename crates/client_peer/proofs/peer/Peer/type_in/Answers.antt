@@ -6,8 +6,8 @@ use Rattle.client_peer.specs.Typing.{Presses}
 use Rattle.client_peer.proofs.Assisting.{presses_read}
 use Rattle.client_peer.proofs.peer.Peer.type_in.Goals as goal
 
-pub returns : goal.returns
-returns c =
+pub returns-clause-types : goal.returns-clause-types
+returns-clause-types c =
     let old : Peer = c.args.self.now in
     let new : Peer = c.press.new.self in
     let middle : Peer =
