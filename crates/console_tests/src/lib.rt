@@ -3,13 +3,13 @@
 #![tactic(auto)]
 
 #[cfg(test)]
+mod grants;
+#[cfg(test)]
 mod input;
 #[cfg(test)]
 mod orders;
 #[cfg(test)]
 mod refusals;
-#[cfg(test)]
-mod rights;
 #[cfg(test)]
 mod scripts;
 #[cfg(test)]

@@ -1,7 +1,7 @@
 //! The commands that `mux-rights`, `mux-console` and `mux-guest` of `contrib/` give. Each script is
 //! played as a whole, since a lock keeps them apart.
 
-use crate::rights::{COMMANDS, GRANTS, GUEST, Grant, TITLES};
+use crate::grants::{COMMANDS, GRANTS, GUEST, Grant, TITLES};
 use crate::stage::ConsoleStage;
 use session::Event;
 use std::alloc::AllocError;

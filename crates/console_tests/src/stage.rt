@@ -1,6 +1,6 @@
 //! A session whose owner gives commands, and everybody's rights after each command.
 
-use crate::rights::{GRANTS, GUEST, TITLES, given};
+use crate::grants::{GRANTS, GUEST, TITLES, given};
 use crate::table::Table;
 use acl::UserId;
 use session::{Event, Notes, Session};

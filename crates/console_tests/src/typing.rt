@@ -1,6 +1,6 @@
 //! Tests at the end which consoles each user's keys reach, whatever the access lists say.
 
-use crate::rights::{COMMANDS, GUEST, TITLES, given};
+use crate::grants::{COMMANDS, GUEST, TITLES, given};
 use crate::stage::{ConsoleStage, user};
 use acl::UserId;
 use session::{Effect, Event};
