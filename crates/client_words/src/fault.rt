@@ -5,24 +5,9 @@ ghost use Rattle.client_words.specs.Ending.{status_of, status_after};
 
 use crate::arguments::Arguments;
 use attach_proto::{Why, WriteFault};
+use program_words::SystemError;
 use std::alloc::{AllocError, AllocFailed};
-use std::io::ErrorKind;
 use std::{fmt, io};
-
-/// An error of the system. Its text has no number if the error has a plain name.
-#[derive(Clone, Copy, Debug, Drop)]
-pub struct SystemError(pub io::Error);
-
-impl fmt::Display for SystemError {
-    fn fmt<W: fmt::Write>(&self, f: &mut fmt::Formatter<W>) -> fmt::Result {
-        let SystemError(error) = *self;
-        match error.kind() {
-            ErrorKind::NotFound => f.write_str("no such file"),
-            ErrorKind::Other | ErrorKind::Uncategorized => write!(f, "{error}"),
-            kind => write!(f, "{kind}"),
-        }
-    }
-}
 
 /// Why `mux` failed.
 #[derive(Clone, Copy)]

@@ -11,7 +11,7 @@ mod size_lines;
 mod visible;
 
 pub use arguments::{Arguments, Subcommand, arguments_of, frame_of};
-pub use fault::{PeerFault, RefusedPart, SystemError, ToldFault, gone, status_after};
+pub use fault::{PeerFault, RefusedPart, ToldFault, gone, status_after};
 pub use leaving::{InputStage, LeaveReader};
 pub use refusals::explain;
 pub use size_lines::{SizeLines, TerminalSize};

@@ -1,7 +1,9 @@
 pub use Rattle.hub_check.specs.Judges
 pub use Rattle.hub_ledger.specs.Closing
+pub use Rattle.hub_ledger.specs.Faults
 pub use Rattle.hub_ledger.specs.Seats
 pub use Rattle.hub_ledger.specs.declared.Begun
+pub use Rattle.hub_ledger.specs.declared.ledger.answer
 pub use Rattle.hub_trail.specs.Filing
 pub use Rattle.hub_trail.specs.Judging
 pub use Rattle.hub_trail.specs.Legal

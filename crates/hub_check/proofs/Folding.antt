@@ -1,18 +1,13 @@
 -- Tests of lists, and the lines of commands.
-use Rattle.std.proofs.Common.{◌≡◌, ◌∙◌, ◌∷◌, ◌&&◌, ◌||◌, [], ℕ, List, Bool, true, false, not, Some, Ok, Err, refl, ap}
-use Rattle.std.proofs.Common.{sym, map, filter, drop, if◌then◌else◌, suc, zero, slice_get}
-use Rattle.std.specs.Prelude.{◌↔◌, Result}
-use Rattle.std.specs.List.{AllByRecursion, list_all}
+use Rattle.hub_check.proofs.Vocabulary.{◌≡◌, ◌∙◌, ◌∷◌, ◌&&◌, ◌||◌, [], ℕ, List, Bool, true, not, Some, Ok, Err, refl}
+use Rattle.hub_check.proofs.Vocabulary.{ap, sym, map, filter, drop, suc, zero, ◌↔◌, AllByRecursion, list_all}
+use Rattle.hub_check.proofs.Vocabulary.{false≢true, Act, UserId, same_user, Command, has_act_of}
+use Rattle.std.proofs.Common.{false, if◌then◌else◌, slice_get}
+use Rattle.std.specs.Prelude.{Result}
 use Rattle.std.specs.Option.{option_map_or}
-use Rattle.std.proofs.lemmas.Bool.{false≢true}
-use Rattle.acl.specs.declared.act.Act.{Act}
-use Rattle.acl.specs.declared.user_id.UserId.{UserId}
-use Rattle.acl.specs.Same.{same_user}
-use Rattle.command_lang.specs.declared.command.Command.{Command}
 use Rattle.command_lang.specs.Relation.{Relates}
 use Rattle.command_lang.proofs.OneReading.{relates-reads}
 use Rattle.command_lang.specs.declared.fault.ParseFault.{ParseFault}
-use Rattle.hub_trail.specs.Legal.{has_act_of}
 
 -- ---- tests of lists
 

@@ -1,23 +1,16 @@
 -- Parts of entries, and entries one after another.
-use Rattle.std.proofs.Common.{◌≡◌, ◌∷◌, [], ℕ, List, true, Option, Some, None, Ok, Err, refl, sym, subst, zero, suc}
-use Rattle.std.specs.Prelude.{◌↔◌, is_err}
-use Rattle.std.proofs.lemmas.Bool.{false≢true}
-use Rattle.std.specs.List.{AllByRecursion}
-use Rattle.acl.specs.declared.leaders.Edition.{Edition}
-use Rattle.acl.specs.declared.user_id.UserId.{UserId}
-use Rattle.acl.specs.History.{History, followed_by}
-use Rattle.command_lang.specs.declared.command.Command.{Command}
+use Rattle.hub_check.proofs.Vocabulary.{◌≡◌, ◌∷◌, [], ℕ, List, true, Some, Ok, Err, refl, sym, subst, zero, suc, ◌↔◌}
+use Rattle.hub_check.proofs.Vocabulary.{false≢true, AllByRecursion, Edition, UserId, History, followed_by, Command}
+use Rattle.hub_check.proofs.Vocabulary.{Verdict, Kept, Ending, Entry, AreOfUser, AreLet, IsOfKnown, AreGood, IsBadAt}
+use Rattle.hub_check.proofs.Vocabulary.{AreTrue, IsReading, HaveActs, FitsLine, IsJudged}
+use Rattle.std.proofs.Common.{Option, None}
+use Rattle.std.specs.Prelude.{is_err}
 use Rattle.command_lang.specs.Names.{name_of}
-use Rattle.session.specs.refusal.Verdict.{Verdict}
-use Rattle.hub_trail.specs.declared.kept.Kept.{Kept}
 use Rattle.hub_trail.specs.declared.kept.Kept.TheVariants as kept
-use Rattle.hub_trail.specs.Trails.{Ending, Entry}
-use Rattle.hub_trail.specs.Legal.{AsksFirst, IsTrue, AreOfUser, AreLet, HasItsActs, AreLegal}
-use Rattle.hub_trail.specs.Legal.{Fits, IsSaid, IsOfKnown}
+use Rattle.hub_trail.specs.Legal.{AsksFirst, IsTrue, HasItsActs, AreLegal, Fits, IsSaid}
 use Rattle.hub_trail.specs.Saying.{says as line_says}
-use Rattle.hub_trail.specs.Judging.{is_on_there, AreGood, AreJudgeable, IsBadAt, IsIllegalAt}
-use Rattle.hub_check.specs.Parts.{AreTrue, IsReading, HaveActs, HaveActsIfDone, AreSaidIfDone, FitsCommand, FitsLine}
-use Rattle.hub_check.specs.Parts.{IsAnswered, IsJudged}
+use Rattle.hub_trail.specs.Judging.{is_on_there, AreJudgeable, IsIllegalAt}
+use Rattle.hub_check.specs.Parts.{HaveActsIfDone, AreSaidIfDone, FitsCommand, IsAnswered}
 
 -- ---- verdicts
 

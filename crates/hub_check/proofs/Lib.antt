@@ -1,3 +1,4 @@
+pub mod Vocabulary
 pub mod Folding
 pub mod Judged
 pub mod Taken

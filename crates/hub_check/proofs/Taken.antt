@@ -1,11 +1,8 @@
 -- One entry more, after others.
-use Rattle.std.proofs.Common.{◌≡◌, ◌∷◌, ◌++◌, [], List, length, refl}
-use Rattle.acl.specs.declared.leaders.Edition.{Edition}
-use Rattle.acl.specs.declared.user_id.UserId.{UserId}
-use Rattle.acl.specs.History.{History, followed_by}
-use Rattle.hub_trail.specs.Trails.{Entry}
-use Rattle.hub_trail.specs.Legal.{acts_after}
-use Rattle.hub_trail.specs.Judging.{IsGood, AreGood, IsBadAt}
+use Rattle.hub_check.proofs.Vocabulary.{◌≡◌, ◌∷◌, [], List, length, refl, Edition, UserId, History, followed_by, Entry}
+use Rattle.hub_check.proofs.Vocabulary.{acts_after, AreGood, IsBadAt}
+use Rattle.std.proofs.Common.{◌++◌}
+use Rattle.hub_trail.specs.Judging.{IsGood}
 
 pub good_next : (edition : Edition) (owner : UserId) (h : History) (es : List Entry) (e : Entry)
     → AreGood edition owner h es → IsGood edition owner (acts_after h es) e

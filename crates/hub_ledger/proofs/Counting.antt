@@ -1,16 +1,10 @@
 -- If there are as many receipts as entries, no place is wrong exactly if each receipt has its
 -- entry.
-use Rattle.std.proofs.Common.{◌≡◌, ℕ, zero, suc, ◌<◌, ◌≤◌, ◌+◌, Bool, true, false, List, [], ◌∷◌, length, Option, Some}
-use Rattle.std.proofs.Common.{None, refl, ap, sym, ◌∙◌, subst, arith, cond, add-one, inl, inr}
-use Rattle.std.specs.Prelude.{◌↔◌, ◌⊎◌, ◌==◌, nat_lt, slice_get}
-use Rattle.std.specs.List.{AllByRecursion}
-use Rattle.std.proofs.lemmas.Bool.Decides.{nat_tests}
-use Rattle.std.proofs.lemmas.Option.{slice_get_within}
-use Rattle.session.proofs.Lists.{all_weaken}
-use Rattle.hub_trail.specs.Trails.{Entry}
-use Rattle.hub_record.specs.Receipts.{Receipt}
-use Rattle.hub_ledger.specs.Seats.{AllBelow}
-use Rattle.hub_ledger.specs.Closing.{AreOf, AreThere, AreTold, IsFirstWrong, IsOf, IsThere, times}
+use Rattle.hub_ledger.proofs.Vocabulary.{◌≡◌, ℕ, zero, suc, ◌<◌, ◌≤◌, ◌+◌, Bool, true, false, List, [], ◌∷◌, length}
+use Rattle.hub_ledger.proofs.Vocabulary.{Option, Some, None, refl, ap, sym, ◌∙◌, subst, arith, cond, add-one, inl, inr}
+use Rattle.hub_ledger.proofs.Vocabulary.{◌↔◌, ◌⊎◌, ◌==◌, nat_lt, slice_get, AllByRecursion, nat_tests, slice_get_within}
+use Rattle.hub_ledger.proofs.Vocabulary.{all_weaken, Entry, Receipt, AllBelow, AreOf, IsFirstWrong, IsOf, times}
+use Rattle.hub_ledger.specs.Closing.{AreThere, AreTold, IsThere}
 use Rattle.hub_ledger.proofs.Rising.{others_below, times_cons, times_none}
 
 -- ---- how many receipts name a place below one

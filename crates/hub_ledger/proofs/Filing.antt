@@ -1,18 +1,17 @@
 -- What one more step does to the trail under the lock, and what is handed out of it.
-use Rattle.std.proofs.Common.{◌≡◌, ℕ, ◌+◌, Bool, true, false, List, [], ◌∷◌, ◌++◌, length, map, Option, Some, None}
-use Rattle.std.proofs.Common.{refl, ap, sym, ◌∙◌, subst, arith, length-append}
-use Rattle.std.specs.Prelude.{IfOk, IfSome, Result, Ok, Err, is_some, slice_get, if◌then◌else◌}
-use Rattle.std.specs.Result.{result_ok}
-use Rattle.std.proofs.lemmas.List.{append-nil, length-map}
-use Rattle.session.specs.Trace.{EventValue, Reply, Entry}
-use Rattle.hub_trail.specs.declared.kept.Kept.{Kept}
+use Rattle.hub_ledger.proofs.Vocabulary.{◌≡◌, ℕ, ◌+◌, Bool, true, false, List, [], ◌∷◌, ◌++◌, length, map, Option, Some}
+use Rattle.hub_ledger.proofs.Vocabulary.{None, refl, ap, sym, ◌∙◌, subst, arith, length-append, IfOk, Result, Ok, Err}
+use Rattle.hub_ledger.proofs.Vocabulary.{is_some, slice_get, if◌then◌else◌, result_ok, append-nil, length-map}
+use Rattle.hub_ledger.proofs.Vocabulary.{EventValue, Reply, Kept, filed, kept_of, marked, State, entry_of, Receipt}
+use Rattle.hub_ledger.proofs.Vocabulary.{IsReceived, Sitting, StandsLast, Told, stepped}
+use Rattle.std.specs.Prelude.{IfSome}
+use Rattle.session.specs.Trace.{Entry}
 use Rattle.hub_trail.specs.Trails as trails
 use Rattle.hub_trail.specs.Filing as filing
-use Rattle.hub_trail.specs.Filing.{ending_of, filed, kept_of}
-use Rattle.hub_ledger.specs.Routing.{is_draw, marked}
-use Rattle.hub_ledger.specs.States.{State, Takes, entry_of}
-use Rattle.hub_record.specs.Receipts.{Receipt}
-use Rattle.hub_ledger.specs.Seats.{HasReceipt, IsHanded, IsReceived, Sitting, StandsLast, Told, placed, stepped}
+use Rattle.hub_trail.specs.Filing.{ending_of}
+use Rattle.hub_ledger.specs.Routing.{is_draw}
+use Rattle.hub_ledger.specs.States.{Takes}
+use Rattle.hub_ledger.specs.Seats.{HasReceipt, IsHanded, placed}
 
 one_filed : (o : Option Kept) (step : Entry) → is_some o ≡ true → length (filing.entry_of o step) ≡ 1
 one_filed None step is = absurd (cc (is))

@@ -1,3 +1,4 @@
+pub mod Vocabulary
 pub mod Steps
 pub mod Stripping
 pub mod Counting

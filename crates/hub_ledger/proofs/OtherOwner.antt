@@ -1,27 +1,20 @@
 -- A trail that is legal for its own owner, judged as a trail of somebody else: the first entry that
 -- isn't good isn't legal. Entries that are legal for both make nobody known.
-use Rattle.std.proofs.Common.{◌≡◌, ◌∙◌, ◌∷◌, [], ℕ, zero, suc, Bool, true, false, List, Ok, Err, refl, ap, sym, subst}
-use Rattle.std.proofs.Common.{take, inl, inr}
-use Rattle.std.specs.Prelude.{◌&&◌, ◌||◌, ◌==◌}
+use Rattle.hub_ledger.proofs.Vocabulary.{◌≡◌, ◌∙◌, ◌∷◌, [], ℕ, zero, suc, Bool, true, false, List, Ok, Err, refl, ap}
+use Rattle.hub_ledger.proofs.Vocabulary.{sym, subst, take, inl, inr, ◌&&◌, ◌||◌, ◌==◌, AllByRecursion, list_any}
+use Rattle.hub_ledger.proofs.Vocabulary.{Edition, UserId, History, followed_by, Verdict, Kept, Ending, Entry, AreLegal}
+use Rattle.hub_ledger.proofs.Vocabulary.{CanFollow, AreJudgeable, IsBadAt, IsIllegalAt, bad_illegal}
 use Rattle.std.proofs.lemmas.Bool.{false≢true}
-use Rattle.std.specs.List.{AllByRecursion, list_all, list_any}
+use Rattle.std.specs.List.{list_all}
 use Rattle.acl.specs.declared.act.Act.{Act}
 use Rattle.acl.specs.declared.act.Act.TheVariants as act
-use Rattle.acl.specs.declared.leaders.Edition.{Edition}
-use Rattle.acl.specs.declared.user_id.UserId.{UserId}
-use Rattle.acl.specs.History.{History, decides_known, followed_by, is_known, latest}
+use Rattle.acl.specs.History.{decides_known, is_known, latest}
 use Rattle.acl.specs.Same.{same_user}
 use Rattle.acl.proofs.StandsForLemmas.{same_user-refl, same_user-true}
 use Rattle.writelock.specs.Holding.{clients_after, clients_of}
-use Rattle.session.specs.refusal.Verdict.{Verdict}
-use Rattle.hub_trail.specs.declared.kept.Kept.{Kept}
 use Rattle.hub_trail.specs.declared.kept.Kept.TheVariants as kept
 use Rattle.hub_trail.specs.Fitting.{detaches, shuts}
-use Rattle.hub_trail.specs.Trails.{Ending, Entry}
-use Rattle.hub_trail.specs.Legal.{AreLegal, AreLet, AreOfUser, Fits, IsLegalEntry, IsOfKnown, is_client_of, user_of}
-use Rattle.rights.specs.Acts.{CanFollow}
-use Rattle.hub_trail.specs.Judging.{AreJudgeable, IsBadAt, IsIllegalAt}
-use Rattle.hub_check.proofs.Judged.{bad_illegal}
+use Rattle.hub_trail.specs.Legal.{AreLet, AreOfUser, Fits, IsLegalEntry, IsOfKnown, is_client_of, user_of}
 
 -- ---- acts that make nobody known
 

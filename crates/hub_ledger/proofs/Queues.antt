@@ -1,23 +1,16 @@
 -- Effects are put after those that wait for the seat of their peer.
-use Rattle.std.proofs.Common.{Option}
-use Rattle.std.proofs.Common.{◌≡◌, ◌≢◌, ℕ, zero, suc, ◌<◌, ◌≤◌, ◌+◌, Bool, true, false, List, [], ◌∷◌, ◌++◌, length}
-use Rattle.std.proofs.Common.{Some, set, filter, refl, ap, sym, ◌∙◌, subst, inl, inr, arith, length-append}
-use Rattle.std.proofs.Common.{append_assoc}
-use Rattle.std.specs.Prelude.{◌==◌, IsSome, slice_get, vec_len, vec_capacity, if◌then◌else◌}
-use Rattle.std.specs.List.{AllByRecursion}
+use Rattle.hub_ledger.proofs.Vocabulary.{Option, ◌≡◌, ◌≢◌, ℕ, zero, suc, ◌<◌, ◌≤◌, ◌+◌, Bool, true, false, List, []}
+use Rattle.hub_ledger.proofs.Vocabulary.{◌∷◌, ◌++◌, length, Some, set, refl, ap, sym, ◌∙◌, subst, inl, inr, arith}
+use Rattle.hub_ledger.proofs.Vocabulary.{length-append, append_assoc, ◌==◌, IsSome, slice_get, vec_len, vec_capacity}
+use Rattle.hub_ledger.proofs.Vocabulary.{if◌then◌else◌, AllByRecursion, append-nil, map-set, map_push, filter-append}
+use Rattle.hub_ledger.proofs.Vocabulary.{Vec, Global, UserId, equal, Effect, Input, Deliver, Say, Size, Gone, Owners}
+use Rattle.hub_ledger.proofs.Vocabulary.{AreSeats, seat_of, HasPeer, Sent, views}
+use Rattle.std.proofs.Common.{filter}
 use Rattle.std.specs.Option.{option_map, option_map_or}
 use Rattle.std.proofs.lemmas.Option.{slice_get-map}
-use Rattle.std.proofs.lemmas.List.{append-nil, map-set, map_push}
-use Rattle.std.proofs.lemmas.List.Elements.{filter-append}
-use Rattle.std.specs.declared.vec.Vec.{Vec}
-use Rattle.std.specs.declared.alloc.Global.{Global}
-use Rattle.acl.specs.declared.user_id.UserId.{UserId}
-use Rattle.session.proofs.Lists.{equal, itself}
-use Rattle.session.specs.event.Effect.{Effect}
-use Rattle.session.specs.event.Effect.TheVariants.{Input, Deliver, Say, Size, Gone}
+use Rattle.session.proofs.Lists.{itself}
 use Rattle.session.specs.event.Peer.TheVariants as peer
-use Rattle.hub_peers.specs.Peers.{Owners, AreSeats, seat_of, HasPeer}
-use Rattle.hub_ledger.specs.Routing.{Sent, is_for, sent_by, views}
+use Rattle.hub_ledger.specs.Routing.{is_for, sent_by}
 use Rattle.hub_ledger.proofs.Places.{slice_get-set, slice_get-set_here, slice_get-set_other}
 
 -- ---- seats of peers

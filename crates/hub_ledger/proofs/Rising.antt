@@ -1,18 +1,11 @@
 -- Facts of receipts whose places rise.
-use Rattle.std.proofs.Common.{◌≡◌, ℕ, zero, suc, ◌<◌, ◌≤◌, ◌+◌, ◌-◌, Bool, true, false, List, [], ◌∷◌, ◌++◌, length}
-use Rattle.std.proofs.Common.{Some, refl, ap, sym, ◌∙◌, subst, arith, cond, length-append}
-use Rattle.std.specs.Prelude.{◌↔◌, ◌==◌, nat_lt, slice_get, if◌then◌else◌}
-use Rattle.std.specs.List.{AllByRecursion}
-use Rattle.std.proofs.lemmas.Bool.Decides.{nat_tests}
-use Rattle.std.proofs.lemmas.List.{append-nil}
-use Rattle.std.proofs.lemmas.List.Elements.{filter-append}
+use Rattle.hub_ledger.proofs.Vocabulary.{◌≡◌, ℕ, zero, suc, ◌<◌, ◌≤◌, ◌+◌, ◌-◌, Bool, true, false, List, [], ◌∷◌, ◌++◌}
+use Rattle.hub_ledger.proofs.Vocabulary.{length, Some, refl, ap, sym, ◌∙◌, subst, arith, cond, length-append, ◌↔◌, ◌==◌}
+use Rattle.hub_ledger.proofs.Vocabulary.{nat_lt, slice_get, if◌then◌else◌, AllByRecursion, nat_tests, append-nil}
+use Rattle.hub_ledger.proofs.Vocabulary.{filter-append, slice_get_within, all_append, all_weaken, equal, Entry, Receipt}
+use Rattle.hub_ledger.proofs.Vocabulary.{AllBelow, AreOf, IsOf, Rise, before, times}
 use Rattle.std.proofs.lemmas.List.Sums.{count_by-le-length, length-filter, sum_by-append, sum_by-cons}
-use Rattle.std.proofs.lemmas.Option.{slice_get_within}
-use Rattle.session.proofs.Lists.{all_append, all_weaken, equal}
 use Rattle.hub_ledger.proofs.Queues.{all_at}
-use Rattle.hub_trail.specs.Trails.{Entry}
-use Rattle.hub_record.specs.Receipts.{Receipt}
-use Rattle.hub_ledger.specs.Rising.{AllBelow, AreOf, IsOf, Rise, before, times}
 
 -- ---- all
 

@@ -1,13 +1,10 @@
 -- What is kept under the lock says that the trail is legal, and has the acts of the tables.
-use Rattle.std.proofs.Common.{◌≡◌, ap, ◌∙◌, subst, sym, []}
-use Rattle.session.specs.Trace.{Trace}
-use Rattle.session.specs.Run.{tables_of}
+use Rattle.hub_ledger.proofs.Vocabulary.{◌≡◌, ap, ◌∙◌, subst, sym, [], Trace, tables_of, AreJudgeable, IsLegal, State}
+use Rattle.hub_ledger.proofs.Vocabulary.{Stood, IsKept}
 use Rattle.hub_trail.specs.Trails as trails
-use Rattle.hub_trail.specs.Judging.{AreJudgeable}
-use Rattle.hub_trail.specs.Legal.{IsLegal, acts_of}
+use Rattle.hub_trail.specs.Legal.{acts_of}
 use Rattle.hub_trail.proofs.Runs.{acts_run, legal_run}
 use Rattle.hub_trail.proofs.Steps.{judged_run}
-use Rattle.hub_ledger.specs.States.{State, Stood, IsKept}
 
 pub kept_legal : (s : State) → IsKept s → IsLegal s.trail
 kept_legal s kept = subst IsLegal kept.past.1.trail (legal_run kept.past.0 kept.past.1.stands.run)

@@ -1,29 +1,25 @@
 -- A step of the session keeps the facts of what lies under the lock.
-use Rattle.std.proofs.Common.{◌≡◌, ℕ, ◌<◌, ◌≤◌, Bool, true, false, List, [], ◌∷◌, ◌++◌, length, refl, ap, sym, ◌∙◌}
-use Rattle.std.proofs.Common.{subst, arith, length-append, Option, Some, None}
-use Rattle.std.specs.List.{AllByRecursion}
-use Rattle.session.proofs.Lists.{all_append, all_weaken}
+use Rattle.hub_ledger.proofs.Vocabulary.{◌≡◌, ℕ, ◌<◌, ◌≤◌, Bool, true, false, List, [], ◌∷◌, ◌++◌, length, refl, ap}
+use Rattle.hub_ledger.proofs.Vocabulary.{sym, ◌∙◌, subst, arith, length-append, Option, Some, None, AllByRecursion}
+use Rattle.hub_ledger.proofs.Vocabulary.{all_append, all_weaken, Effect, Input, Deliver, Say, Size, Gone, EventValue}
+use Rattle.hub_ledger.proofs.Vocabulary.{Reply, Trace, tables_of, Session, StandsFor, wants_memory, entry_of, Kept}
+use Rattle.hub_ledger.proofs.Vocabulary.{filed, Owners, AreSeats, HasPeer, with_peers, with_entries, written, State}
+use Rattle.hub_ledger.proofs.Vocabulary.{Stood, IsKept}
 use Rattle.session.proofs.FewEffects.{step_few}
 use Rattle.session.proofs.Sounding.{fresh_sound, run_sound}
-use Rattle.session.specs.event.Effect.{Effect}
-use Rattle.session.specs.event.Effect.TheVariants.{Input, Deliver, Say, Size, Gone}
 use Rattle.session.specs.event.Peer.TheVariants as peer
-use Rattle.session.specs.Trace.{EventValue, Reply, Entry, Trace, with_step}
+use Rattle.session.specs.Trace.{Entry, with_step}
 use Rattle.session.specs.Sound.{AreSound}
 use Rattle.session.specs.Tables.{Tables, fresh}
-use Rattle.session.specs.Run.{IsStep, tables_of}
-use Rattle.session.specs.session.Session.{Session}
+use Rattle.session.specs.Run.{IsStep}
 use Rattle.session.specs.Noted.{Noted}
-use Rattle.session.specs.Stands.{StandsFor, Takes, IfTaken, wants_memory, entry_of}
-use Rattle.hub_trail.specs.declared.kept.Kept.{Kept}
+use Rattle.session.specs.Stands.{Takes, IfTaken}
 use Rattle.hub_trail.specs.Filing as filing
-use Rattle.hub_trail.specs.Filing.{filed}
 use Rattle.hub_trail.specs.Peers.{HasCome, one_more, attaches, opens}
 use Rattle.hub_trail.proofs.Coming.{peers_came}
 use Rattle.hub_trail.proofs.Serials.{gives_serials}
-use Rattle.hub_peers.specs.Peers.{Owners, AreSeats, HasPeer, with_peer, with_peers}
-use Rattle.hub_record.specs.Growing.{with_entries, written}
-use Rattle.hub_ledger.specs.States.{State, Stood, IsKept, IsAfter}
+use Rattle.hub_peers.specs.Peers.{with_peer}
+use Rattle.hub_ledger.specs.States.{IsAfter}
 
 -- ---- peers
 

@@ -1,19 +1,14 @@
 -- The receipts of all seats are removed, from the last place downwards.
-use Rattle.std.proofs.Common.{◌≡◌, ℕ, zero, suc, ◌<◌, ◌≤◌, ◌+◌, Bool, true, false, List, [], ◌∷◌, ◌++◌, length, Option}
-use Rattle.std.proofs.Common.{Some, None, refl, ap, sym, ◌∙◌, subst, arith, take, set, length-append, append_assoc}
-use Rattle.std.proofs.Common.{add-one, inl, inr}
-use Rattle.std.specs.Prelude.{◌↔◌, ◌⊎◌, ◌==◌, ◌&&◌, slice_get}
-use Rattle.std.proofs.lemmas.List.{append-nil, take_all}
-use Rattle.std.proofs.lemmas.Option.{slice_get_within}
-use Rattle.session.proofs.Lists.{all_append, and_first, and_second, both_true, equal}
+use Rattle.hub_ledger.proofs.Vocabulary.{◌≡◌, ℕ, zero, suc, ◌<◌, ◌≤◌, ◌+◌, Bool, true, false, List, [], ◌∷◌, ◌++◌}
+use Rattle.hub_ledger.proofs.Vocabulary.{length, Option, Some, None, refl, ap, sym, ◌∙◌, subst, arith, take, set}
+use Rattle.hub_ledger.proofs.Vocabulary.{length-append, append_assoc, add-one, inl, inr, ◌↔◌, ◌⊎◌, ◌==◌, ◌&&◌}
+use Rattle.hub_ledger.proofs.Vocabulary.{slice_get, append-nil, take_all, slice_get_within, all_append, equal, Entry}
+use Rattle.hub_ledger.proofs.Vocabulary.{Receipt, Sitting, AreOf, IsFirstWrong, IsOf, IsTold, before, receipts_of}
+use Rattle.hub_ledger.proofs.Vocabulary.{times}
+use Rattle.session.proofs.Lists.{and_first, and_second, both_true}
 use Rattle.hub_ledger.proofs.Places.{slice_get-set_other}
-use Rattle.hub_trail.specs.Trails.{Entry}
-use Rattle.hub_record.specs.Receipts.{Receipt}
-use Rattle.hub_ledger.specs.Seats.{Sitting}
-use Rattle.hub_ledger.specs.Closing.{AreOf, IsFirstWrong, IsOf, IsTold, before, receipts_of, times}
 use Rattle.hub_ledger.proofs.Rising.{all_parts, are_of_before, before_append, before_are_of, before_before}
-use Rattle.hub_ledger.proofs.Rising.{times_append}
-use Rattle.hub_ledger.proofs.Rising.{times_before}
+use Rattle.hub_ledger.proofs.Rising.{times_append, times_before}
 
 -- the first wrong place, from a given one on
 abbrev pub IsWrongFrom : List Entry → List Receipt → ℕ → Option ℕ → Type 0

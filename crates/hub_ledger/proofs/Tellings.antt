@@ -1,13 +1,9 @@
 -- What a list of seats was told, with one more seat.
-use Rattle.std.proofs.Common.{◌≡◌, ℕ, zero, suc, ◌+◌, List, [], ◌∷◌, ◌++◌, Some, false, length, take, drop, ap, sym}
-use Rattle.std.proofs.Common.{◌∙◌, arith, length-append}
-use Rattle.std.specs.Prelude.{◌||◌, slice_get}
-use Rattle.std.specs.List.{list_any}
-use Rattle.std.proofs.lemmas.List.{append-nil, drop_all, take_all}
+use Rattle.hub_ledger.proofs.Vocabulary.{◌≡◌, ℕ, zero, suc, ◌+◌, List, [], ◌∷◌, ◌++◌, Some, false, length, take, drop}
+use Rattle.hub_ledger.proofs.Vocabulary.{ap, sym, ◌∙◌, arith, length-append, ◌||◌, slice_get, list_any, append-nil}
+use Rattle.hub_ledger.proofs.Vocabulary.{take_all, Receipt, AreNumbered, NoneAsks, Sitting, receipts_of}
+use Rattle.std.proofs.lemmas.List.{drop_all}
 use Rattle.std.proofs.lemmas.List.Folds.{list_any-append}
-use Rattle.hub_record.specs.Receipts.{Receipt}
-use Rattle.hub_ledger.specs.Seats.{AreNumbered, NoneAsks, Sitting}
-use Rattle.hub_ledger.specs.Closing.{receipts_of}
 use Rattle.hub_ledger.proofs.Stripping.{receipts_append}
 
 pub pushed : (all rest : List Sitting) (s : Sitting) → all ≡ rest ++ s ∷ [] → (length all ≡ length rest + 1)

@@ -1,52 +1,23 @@
 -- When the verdicts and the reply of an entry are legal, and that those of a Command are.
-use Rattle.std.proofs.Common.{◌≡◌, ◌∙◌, ℕ, Bool, true, false, List, [], ◌++◌, Option, Some, None, Result, Ok, Err}
-use Rattle.std.proofs.Common.{refl, ap, subst, sym, inl, inr}
-use Rattle.std.specs.Prelude.{if◌then◌else◌}
-use Rattle.std.specs.List.{AllByRecursion}
-use Rattle.std.proofs.lemmas.Bool.{both_ways}
-use Rattle.acl.specs.declared.leaders.Edition.{Edition}
-use Rattle.acl.specs.declared.user_id.UserId.{UserId}
-use Rattle.acl.specs.History.{History}
+use Rattle.hub_trail.proofs.Vocabulary.{◌≡◌, ◌∙◌, ℕ, Bool, true, false, List, [], ◌++◌, Option, Some, None, refl, subst}
+use Rattle.hub_trail.proofs.Vocabulary.{inl, inr, if◌then◌else◌, AllByRecursion, both_ways, Edition, UserId, History}
+use Rattle.hub_trail.proofs.Vocabulary.{Execute, same_user, same_user-refl, ParseFault, name_of, read_line, line, Check}
+use Rattle.hub_trail.proofs.Vocabulary.{Done, Refusal, UnknownUser, Line, Command, Tables, is_known, may_in, Caller}
+use Rattle.hub_trail.proofs.Vocabulary.{line_caller, verdicts, first_fault, checks, Deed, Answer, does, taken, Outcome}
+use Rattle.hub_trail.proofs.Vocabulary.{finished, refused, left_acts, reply_of, done, outcome, line_ruling, answered}
+use Rattle.hub_trail.proofs.Vocabulary.{commanded, told, Either, all_weaken, Kept, Entry, IsTrue, AsksFirst}
+use Rattle.hub_trail.proofs.Vocabulary.{CarriesFailed, IsDenied, is_granted, failed, first_names, user_of, ending_of}
+use Rattle.std.proofs.Common.{Result, Ok, Err, ap, sym}
 use Rattle.acl.specs.declared.act.Object.TheVariants as object
-use Rattle.acl.specs.declared.bits.Bit.TheVariants.{Execute}
-use Rattle.acl.specs.Same.{same_user}
-use Rattle.acl.proofs.StandsForLemmas.{same_user-refl}
 use Rattle.command_lang.specs.declared.command.Command.{Command as Order}
-use Rattle.command_lang.specs.declared.fault.ParseFault.{ParseFault}
-use Rattle.command_lang.specs.Names.{name_of}
-use Rattle.command_lang.specs.Relation.{read_line}
 use Rattle.command_lang.proofs.OneReading.{relates-reads}
-use Rattle.keys.specs.Grammar.{line}
-use Rattle.session.specs.refusal.Check.{Check}
-use Rattle.session.specs.event.Done.{Done}
-use Rattle.session.specs.refusal.Refusal.{Refusal}
-use Rattle.session.specs.refusal.Refusal.TheVariants.{UnknownUser, Line}
-use Rattle.session.specs.Trace.{Command}
-use Rattle.session.specs.Tables.{Tables}
-use Rattle.session.specs.Tables.{is_known}
-use Rattle.session.specs.Rights.{may_in}
-use Rattle.session.specs.Lines.{Caller, line_caller}
-use Rattle.session.specs.Checks.{verdicts, first_fault, checks}
-use Rattle.session.specs.Deeds.{Deed, Answer}
-use Rattle.session.specs.Commands.{does}
-use Rattle.session.specs.Keying.{taken}
-use Rattle.session.specs.Outcomes.{Outcome, finished, refused, where_passed, left_acts, reply_of, done}
-use Rattle.session.specs.Events.{outcome}
-use Rattle.session.specs.Answering.{line_ruling, answered, commanded, told}
-use Rattle.session.proofs.Doing.{Either}
-use Rattle.session.proofs.Lists.{all_weaken}
+use Rattle.session.specs.Outcomes.{where_passed}
 use Rattle.session.proofs.Quiet.{Of}
 use Rattle.session.proofs.Outcomes as outcomes
-use Rattle.hub_trail.specs.declared.kept.Kept.{Kept}
 use Rattle.hub_trail.specs.declared.kept.Kept.TheVariants as kept
-use Rattle.hub_trail.specs.Trails.{Entry}
-use Rattle.hub_trail.specs.Legal.{IsTrue, AreOfUser, AsksForCommand, AsksFirst, AreLet, CarriesFailed, IsDenied}
-use Rattle.hub_trail.specs.Legal.{HasItsActs}
-use Rattle.hub_trail.specs.Legal.{is_let, is_granted, failed, first_names, is_of_user}
-use Rattle.hub_trail.specs.Legal.{user_of}
-use Rattle.hub_trail.specs.Filing.{ending_of}
-use Rattle.hub_trail.proofs.Verdicts.{true_verdicts, own_verdicts, all_pass, Tells, IsPlain, IsCheckOf}
-use Rattle.hub_trail.proofs.Verdicts.{tells, plain_refusal, plain_tells, denial_carries, refusal_denies, none_denied}
+use Rattle.hub_trail.specs.Legal.{AreOfUser, AsksForCommand, AreLet, HasItsActs, is_let, is_of_user}
+use Rattle.hub_trail.proofs.Verdicts.{true_verdicts, own_verdicts, all_pass, Tells, IsPlain, IsCheckOf, tells}
+use Rattle.hub_trail.proofs.Verdicts.{plain_refusal, plain_tells, denial_carries, refusal_denies, none_denied}
 use Rattle.hub_trail.proofs.Verdicts.{plain_checks, own_checks}
 use Rattle.hub_trail.proofs.Names.{HasFirst, HasEach, has_first, each_then}
 use Rattle.hub_trail.proofs.Rules.{Still, stills}

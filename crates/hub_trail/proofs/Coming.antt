@@ -1,34 +1,28 @@
 -- The effects of a step are for clients and windows that came before.
-use Rattle.std.proofs.Common.{◌≡◌, ◌∙◌, ℕ, ◌<◌, Bool, true, false, List, [], ◌∷◌, Option, Some, None, map, refl, ap}
-use Rattle.std.proofs.Common.{subst, sym, ⊎_elim, take}
-use Rattle.std.specs.Prelude.{◌==◌, if◌then◌else◌, MatchOption}
-use Rattle.std.specs.List.{AllByRecursion}
-use Rattle.std.specs.Option.{option_and_then}
-use Rattle.acl.specs.declared.user_id.UserId.{UserId}
+use Rattle.hub_trail.proofs.Vocabulary.{◌≡◌, ◌∙◌, ℕ, ◌<◌, Bool, true, false, List, [], ◌∷◌, Option, Some, None, map}
+use Rattle.hub_trail.proofs.Vocabulary.{refl, ap, subst, sym, ⊎_elim, take, ◌==◌, if◌then◌else◌, MatchOption}
+use Rattle.hub_trail.proofs.Vocabulary.{AllByRecursion, option_and_then, UserId, read_line, Effect, NoWindow}
+use Rattle.hub_trail.proofs.Vocabulary.{EventValue, Detach, Keys, Command, Output, Closed, Draw, Rises, Tables, Window}
+use Rattle.hub_trail.proofs.Vocabulary.{Client, row_of, client_at, window_at, focused, is_known, Caller, caller_of}
+use Rattle.hub_trail.proofs.Vocabulary.{line_caller, command_item, step_items, taken, Given, commands_of, with_order}
+use Rattle.hub_trail.proofs.Vocabulary.{order_in, ok_of, SomeOf, IsStep, all_weaken, row_serial}
 use Rattle.command_lang.specs.declared.command.Command.{Command as Order}
 use Rattle.command_lang.specs.declared.command.Command.TheVariants as command
-use Rattle.command_lang.specs.Relation.{read_line}
-use Rattle.session.specs.event.Effect.{Effect}
 use Rattle.session.specs.event.Effect.TheVariants.{Input, Deliver, Say, Size, Gone}
 use Rattle.session.specs.event.Peer.TheVariants as peer
 use Rattle.session.specs.event.Reason.{Reason}
 use Rattle.session.specs.event.Reason.TheVariants as reason
-use Rattle.session.specs.refusal.Refusal.TheVariants.{NoWindow}
-use Rattle.session.specs.Trace.{EventValue, Detach, Keys, Command, Output, Closed, Draw, Entry}
-use Rattle.session.specs.Sound.{Rises, AreSound}
-use Rattle.session.specs.Tables.{Tables, Window, Client, row_of, client_at, window_at, focused, is_known}
-use Rattle.session.specs.Lines.{Caller, caller_of, line_caller}
-use Rattle.session.specs.Keying.{command_item, step_items, taken}
+use Rattle.session.specs.Trace.{Entry}
+use Rattle.session.specs.Sound.{AreSound}
 use Rattle.session.specs.Answering as answering
 use Rattle.session.specs.Outcomes as outcomes
 use Rattle.session.specs.Comings as comings
 use Rattle.session.specs.Deeds as deeds
-use Rattle.session.specs.Given.{Given, commands_of, with_order, order_in, ok_of}
-use Rattle.session.specs.Promises.{SomeOf, IsOn, IsOpen, IsClient, IsDoneBy, IsDoneByRight, IsByKeys, IsEffectOf}
-use Rattle.session.specs.Run.{IsStep, IsDraw, HasEffects}
+use Rattle.session.specs.Promises.{IsOn, IsOpen, IsClient, IsDoneBy, IsDoneByRight, IsByKeys, IsEffectOf}
+use Rattle.session.specs.Run.{IsDraw, HasEffects}
 use Rattle.session.proofs.Asking.{keys_given, line_listed, focus_listed}
 use Rattle.session.proofs.Denying.{IsListed}
-use Rattle.session.proofs.Lists.{all_weaken, some_weaken, some_row, row_serial}
+use Rattle.session.proofs.Lists.{some_weaken, some_row}
 use Rattle.session.proofs.EffectsCaused.{never_delivers, no_other}
 use Rattle.hub_trail.specs.Peers.{HasCome}
 

@@ -1,57 +1,30 @@
 -- What a step files is legal in what was asked and answered, and a step that writes no entry has no
 -- acts.
-use Rattle.std.proofs.Common.{◌≡◌, ◌∙◌, ℕ, Bool, true, false, List, [], ◌∷◌, ◌++◌, Option, Some, None, Result, Ok, Err}
-use Rattle.std.proofs.Common.{refl, ap, inl, inr, ◌⊎◌, ⊎_elim, take}
-use Rattle.std.specs.Prelude.{◌==◌, if◌then◌else◌}
-use Rattle.std.specs.List.{AllByRecursion}
-use Rattle.std.proofs.lemmas.Bool.{and_from, or_left, eq-eqb}
-use Rattle.acl.specs.declared.user_id.UserId.{UserId}
+use Rattle.hub_trail.proofs.Vocabulary.{◌≡◌, ◌∙◌, ℕ, Bool, true, false, List, [], ◌∷◌, ◌++◌, Option, Some, None, Result}
+use Rattle.hub_trail.proofs.Vocabulary.{Ok, Err, refl, ap, inl, inr, ⊎_elim, take, ◌==◌, if◌then◌else◌, AllByRecursion}
+use Rattle.hub_trail.proofs.Vocabulary.{and_from, or_left, eq-eqb, UserId, Write, same_user, same_user-refl}
+use Rattle.hub_trail.proofs.Vocabulary.{stops_nobody_but, ParseFault, read_line, Item, typed, bound, line, Check, Done}
+use Rattle.hub_trail.proofs.Vocabulary.{StatusMessage, Refusal, NoWindow, Line, Verdict, EventValue, Attach, Detach}
+use Rattle.hub_trail.proofs.Vocabulary.{Keys, Command, Open, Closed, ActsAgree, Window, Client, Tables, window_at}
+use Rattle.hub_trail.proofs.Vocabulary.{client_at, with_client, focused_window, may_in, holder_in, caller_of, verdicts}
+use Rattle.hub_trail.proofs.Vocabulary.{first_fault, checks, typing_checks, Deed, Answer, changing, parts, closes, does}
+use Rattle.hub_trail.proofs.Vocabulary.{items_behind, typed_bytes, command_item, taken, Outcome, finished, left_acts}
+use Rattle.hub_trail.proofs.Vocabulary.{done, outcome, attaches, opens, attach_checks, open_checks, new_client}
+use Rattle.hub_trail.proofs.Vocabulary.{new_window, told, typing_verdicts, message_of, keyed, by_line, ordered, Ordered}
+use Rattle.hub_trail.proofs.Vocabulary.{reading, types, keys_outcome, OnlyRead, Either, told_read, all_append}
+use Rattle.hub_trail.proofs.Vocabulary.{all_weaken, SameClients, typing_clients, nobody_left, Kept, is_granted}
+use Rattle.hub_trail.proofs.Vocabulary.{from_command, failed, is_client_of, user_of, kept_of}
+use Rattle.std.proofs.Common.{◌⊎◌}
 use Rattle.acl.specs.declared.act.Object.TheVariants as object
-use Rattle.acl.specs.declared.bits.Bit.TheVariants.{Write}
-use Rattle.acl.specs.Same.{same_user}
-use Rattle.acl.proofs.StandsForLemmas.{same_user-refl}
-use Rattle.writelock.specs.LockTable.{stops_nobody_but}
 use Rattle.command_lang.specs.declared.command.Command.{Command as Order}
-use Rattle.command_lang.specs.declared.fault.ParseFault.{ParseFault}
-use Rattle.command_lang.specs.Relation.{read_line}
-use Rattle.keys.specs.Grammar.{Item, typed, bound, line}
-use Rattle.session.specs.refusal.Check.{Check}
-use Rattle.session.specs.event.Done.{Done}
 use Rattle.session.specs.event.Reason.TheVariants as reason
-use Rattle.session.specs.event.StatusMessage.{StatusMessage}
 use Rattle.session.specs.event.StatusMessage.TheVariants as message
-use Rattle.session.specs.refusal.Refusal.{Refusal}
-use Rattle.session.specs.refusal.Refusal.TheVariants.{NoWindow, Line}
-use Rattle.session.specs.refusal.Verdict.{Verdict}
 use Rattle.session.specs.refusal.Verdict.TheVariants as verdict
-use Rattle.session.specs.Trace.{EventValue, Attach, Detach, Keys, Command, Open, Closed}
-use Rattle.session.specs.Sound.{ActsAgree}
-use Rattle.session.specs.Tables.{Window, Client, Tables, window_at, client_at, with_client, focused_window}
-use Rattle.session.specs.Rights.{may_in, holder_in}
 use Rattle.session.specs.Texts.{text_of}
-use Rattle.session.specs.Lines.{caller_of}
-use Rattle.session.specs.Checks.{verdicts, first_fault, checks, typing_checks}
-use Rattle.session.specs.Deeds.{Deed, Answer, changing, parts, closes}
-use Rattle.session.specs.Commands.{does}
-use Rattle.session.specs.Keying.{items_behind, typed_bytes, command_item, taken}
-use Rattle.session.specs.Outcomes.{Outcome, finished, left_acts, done}
-use Rattle.session.specs.Events.{outcome}
-use Rattle.session.specs.Comings.{attaches, opens, attach_checks, open_checks, new_client, new_window}
-use Rattle.session.specs.Answering.{told, typing_verdicts, message_of, keyed}
-use Rattle.session.specs.Answering.{by_line, ordered, Ordered, reading, types, keys_outcome}
-use Rattle.session.specs.Promises.{OnlyRead}
-use Rattle.session.proofs.Doing.{Either}
-use Rattle.session.proofs.Granting.{told_read}
-use Rattle.session.proofs.Lists.{all_append, all_weaken}
-use Rattle.session.proofs.Unread.{SameClients, typing_clients, nobody_left}
 use Rattle.session.proofs.Outcomes as outcomes
-use Rattle.hub_trail.specs.declared.kept.Kept.{Kept}
 use Rattle.hub_trail.specs.declared.kept.Kept.TheVariants as kept
-use Rattle.hub_trail.specs.Legal.{is_granted, from_command, failed, is_client_of}
-use Rattle.hub_trail.specs.Legal.{user_of}
-use Rattle.hub_trail.specs.Filing.{kept_of}
-use Rattle.hub_trail.proofs.Verdicts.{AreTrue, true_verdicts, AreOf, own_verdicts, all_pass, IsCheckOf}
-use Rattle.hub_trail.proofs.Verdicts.{own_checks, own_typing}
+use Rattle.hub_trail.proofs.Verdicts.{AreTrue, true_verdicts, AreOf, own_verdicts, all_pass, IsCheckOf, own_checks}
+use Rattle.hub_trail.proofs.Verdicts.{own_typing}
 use Rattle.hub_trail.proofs.Sights.{stays_alike, left_none, with_stays, parted_found, closed_found, attached}
 use Rattle.hub_trail.proofs.Rules.{rules, Still, stills, listed_rules, read_rules}
 use Rattle.hub_trail.proofs.Answered.{Legal, refused_legal, finished_legal, passed_legal, own_user, granted_first}

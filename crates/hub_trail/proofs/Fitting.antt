@@ -1,65 +1,39 @@
 -- What a step files has only acts that its event can have.
-use Rattle.std.proofs.Common.{◌≡◌, ℕ, Bool, true, false, not, List, [], ◌∷◌, ◌++◌, Option, Some, None, Result, Ok, Err}
-use Rattle.std.proofs.Common.{refl, ap, sym, ◌∙◌, subst, inl, inr, map, filter, take}
-use Rattle.std.specs.Prelude.{if◌then◌else◌, ◌==◌, ◌&&◌}
-use Rattle.std.specs.List.{AllByRecursion, list_all}
-use Rattle.std.specs.Option.{option_map_or}
-use Rattle.acl.specs.declared.user_id.UserId.{UserId}
-use Rattle.acl.specs.declared.act.Act.{Act}
+use Rattle.hub_trail.proofs.Vocabulary.{◌≡◌, ℕ, Bool, true, false, not, List, [], ◌∷◌, ◌++◌, Option, Some, None, Result}
+use Rattle.hub_trail.proofs.Vocabulary.{Ok, Err, refl, ap, sym, ◌∙◌, subst, inl, inr, map, filter, take, if◌then◌else◌}
+use Rattle.hub_trail.proofs.Vocabulary.{◌==◌, ◌&&◌, AllByRecursion, list_all, option_map_or, UserId, Act, Execute}
+use Rattle.hub_trail.proofs.Vocabulary.{CommandName, History, same_user, same_user-refl, ParseFault, name_of, Item}
+use Rattle.hub_trail.proofs.Vocabulary.{typed, bound, line, Effect, NoWindow, UnknownUser, Verdict, EventValue, Attach}
+use Rattle.hub_trail.proofs.Vocabulary.{Detach, Keys, Command, Open, Output, Closed, Draw, Reply, AreFit, Window}
+use Rattle.hub_trail.proofs.Vocabulary.{Client, Tables, window_at, client_at, focused, is_known, may_in, Caller}
+use Rattle.hub_trail.proofs.Vocabulary.{caller_of, line_caller, verdicts, first_fault, checks, Deed, Answer, parts}
+use Rattle.hub_trail.proofs.Vocabulary.{closes, entering, without_windows, does, step_items, typed_bytes, command_item}
+use Rattle.hub_trail.proofs.Vocabulary.{taken, Outcome, finished, refused, left_acts, reply_of, done, outcome}
+use Rattle.hub_trail.proofs.Vocabulary.{attach_checks, attaches, new_client, open_checks, opens, new_window, answered}
+use Rattle.hub_trail.proofs.Vocabulary.{commanded, line_ruling, keys_outcome, typing_verdicts, ordered, reading, types}
+use Rattle.hub_trail.proofs.Vocabulary.{Given, commands_of, with_order, order_in, ok_of, SomeOf, IsStep, equal, itself}
+use Rattle.hub_trail.proofs.Vocabulary.{both_true, row_serial, all_weaken, all_append, all_map, all_passed, all_of}
+use Rattle.hub_trail.proofs.Vocabulary.{none_left, Either, Did, Obeys, with_clients, IsMine, obeys_of, Kept, Entry}
+use Rattle.hub_trail.proofs.Vocabulary.{AsksFirst, from_command, is_client_of, kept_of, ending_of, entry_of, makes}
+use Rattle.hub_trail.proofs.Vocabulary.{LeftBy, left_where, parted}
 use Rattle.acl.specs.declared.act.Act.TheVariants as act
 use Rattle.acl.specs.declared.act.Object.TheVariants as object
-use Rattle.acl.specs.declared.bits.Bit.TheVariants.{Execute}
-use Rattle.acl.specs.declared.command_name.CommandName.{CommandName}
-use Rattle.acl.specs.History.{History}
-use Rattle.acl.specs.Same.{same_user}
-use Rattle.acl.proofs.StandsForLemmas.{same_user-refl}
 use Rattle.command_lang.specs.declared.command.Command.{Command as Order}
-use Rattle.command_lang.specs.declared.fault.ParseFault.{ParseFault}
-use Rattle.command_lang.specs.Names.{name_of}
-use Rattle.keys.specs.Grammar.{Item, typed, bound, line}
-use Rattle.session.specs.event.Effect.{Effect}
 use Rattle.session.specs.event.Reason.TheVariants as reason
-use Rattle.session.specs.refusal.Refusal.TheVariants.{NoWindow, UnknownUser}
-use Rattle.session.specs.refusal.Verdict.{Verdict}
 use Rattle.session.specs.refusal.Verdict.TheVariants.{Right as right}
-use Rattle.session.specs.Trace.{EventValue, Attach, Detach, Keys, Command, Open, Output, Closed, Draw, Reply}
 use Rattle.session.specs.Trace as trace
-use Rattle.session.specs.Sound.{AreFit}
-use Rattle.session.specs.Tables.{Window, Client, Tables, window_at, client_at, focused, is_known}
-use Rattle.session.specs.Rights.{may_in}
-use Rattle.session.specs.Lines.{Caller, caller_of, line_caller, read_line}
-use Rattle.session.specs.Checks.{verdicts, first_fault, checks}
-use Rattle.session.specs.Deeds.{Deed, Answer, parts, closes, entering, without_windows}
-use Rattle.session.specs.Commands.{does, ruling}
-use Rattle.session.specs.Keying.{step_items, typed_bytes, command_item, taken}
-use Rattle.session.specs.Outcomes.{Outcome, finished, refused, left_acts, reply_of, done}
-use Rattle.session.specs.Events.{outcome}
-use Rattle.session.specs.Comings.{attach_checks, attaches, new_client, open_checks, opens, new_window}
-use Rattle.session.specs.Answering.{answered, commanded, line_ruling, keys_outcome, typing_verdicts, ordered}
-use Rattle.session.specs.Answering.{reading, types}
-use Rattle.session.specs.Given.{Given, commands_of, with_order, order_in, ok_of}
+use Rattle.session.specs.Lines.{read_line}
+use Rattle.session.specs.Commands.{ruling}
 use Rattle.session.specs.Keeps.{KeepsPromise}
-use Rattle.session.specs.Promises.{SomeOf}
-use Rattle.session.specs.Run.{IsStep}
-use Rattle.session.proofs.Lists.{equal, itself, both_true, row_serial, all_weaken, all_append, all_map, all_passed}
-use Rattle.session.proofs.Lists.{all_of}
-use Rattle.session.proofs.Leaving.{none_left}
-use Rattle.session.proofs.Doing.{Either}
 use Rattle.session.proofs.Outcomes as outcomes
-use Rattle.session.proofs.Steps.{Did, Obeys, with_clients}
-use Rattle.session.proofs.Focusing.{IsMine}
-use Rattle.session.proofs.Gating.{obeys_of}
 use Rattle.session.proofs.Callers.{Own, IsOf, callers, unique, own_read}
-use Rattle.hub_trail.specs.declared.kept.Kept.{Kept}
 use Rattle.hub_trail.specs.declared.kept.Kept.TheVariants as kept
-use Rattle.hub_trail.specs.Trails.{Entry}
-use Rattle.hub_trail.specs.Legal.{AsksFirst, Fits, from_command, is_client_of}
-use Rattle.hub_trail.specs.Filing.{kept_of, ending_of, entry_of}
+use Rattle.hub_trail.specs.Legal.{Fits}
 use Rattle.hub_trail.proofs.Answered.{entry}
 use Rattle.hub_trail.proofs.Entries.{asks_none}
 use Rattle.hub_trail.proofs.Sights.{attached}
-use Rattle.hub_trail.specs.Fitting.{makes, made_by, enters_once, attaches_one, opens_one, detaches, shuts}
-use Rattle.session.proofs.GuestsLeaving.{LeftBy, left_where, nobody, parted, appended, shut, left_read}
+use Rattle.hub_trail.specs.Fitting.{made_by, enters_once, attaches_one, opens_one, detaches, shuts}
+use Rattle.session.proofs.GuestsLeaving.{nobody, appended, shut, left_read}
 use Rattle.hub_trail.proofs.Below.{below}
 use Rattle.hub_trail.proofs.Making.{Fine, fine}
 

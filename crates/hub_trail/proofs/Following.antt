@@ -1,37 +1,25 @@
 -- The acts of a list command that isn't refused can follow one another, after those of the tables.
-use Rattle.std.proofs.Common.{◌≡◌, ◌∙◌, Bool, true, false, not, ◌||◌, List, [], ◌∷◌, ◌++◌, Option, Some, None, refl, ap}
-use Rattle.std.proofs.Common.{sym, subst}
-use Rattle.std.specs.Prelude.{if◌then◌else◌, is_none, nat_lt, length}
-use Rattle.std.specs.List.{AllByRecursion, list_any}
-use Rattle.std.specs.Option.{option_or}
-use Rattle.std.proofs.lemmas.Bool.{or_left, or_right, and_from}
-use Rattle.acl.specs.declared.act.Act.{Act}
+use Rattle.hub_trail.proofs.Vocabulary.{◌≡◌, ◌∙◌, Bool, true, false, not, ◌||◌, List, [], ◌∷◌, ◌++◌, Option, Some, None}
+use Rattle.hub_trail.proofs.Vocabulary.{refl, ap, sym, subst, if◌then◌else◌, nat_lt, length, AllByRecursion, list_any}
+use Rattle.hub_trail.proofs.Vocabulary.{option_or, or_left, or_right, and_from, Act, Object, Bit, BitChange, Edition}
+use Rattle.hub_trail.proofs.Vocabulary.{MaskEntry, MaskScope, NewLeader, UserId, same_user, History, followed_by, among}
+use Rattle.hub_trail.proofs.Vocabulary.{there, new_name_fault, known_name_fault, change_fault, mask_fault, with_name}
+use Rattle.hub_trail.proofs.Vocabulary.{names_user, sets_on, sets, user_acts, name_acts, change_acts, new_acts}
+use Rattle.hub_trail.proofs.Vocabulary.{known_acts, added, name_sets, names_sets, add_acts, scope_acts, mask_acts}
+use Rattle.hub_trail.proofs.Vocabulary.{group_acts, same_user-refl, CanFollow, follow_append}
+use Rattle.std.specs.Prelude.{is_none}
 use Rattle.acl.specs.declared.act.Act.TheVariants as act
-use Rattle.acl.specs.declared.act.Object.{Object}
 use Rattle.acl.specs.declared.act.Object.TheVariants.{Window, Command}
-use Rattle.acl.specs.declared.bits.Bit.{Bit}
-use Rattle.acl.specs.declared.bits.BitChange.{BitChange}
-use Rattle.acl.specs.declared.leaders.Edition.{Edition}
-use Rattle.acl.specs.declared.entries.MaskEntry.{MaskEntry}
-use Rattle.acl.specs.declared.entries.MaskScope.{MaskScope}
 use Rattle.acl.specs.declared.entries.MaskScope.TheVariants as scope
-use Rattle.acl.specs.declared.entries.NewLeader.{NewLeader}
 use Rattle.acl.specs.declared.entries.NewLeader.TheVariants.{Nobody, Named}
 use Rattle.acl.specs.declared.entries.AclFault.TheVariants.{OwnerKept, TooManyUsers, UnknownUser}
-use Rattle.acl.specs.declared.user_id.UserId.{UserId}
-use Rattle.acl.specs.Same.{same_user}
-use Rattle.acl.specs.History.{History, followed_by, users_of, among, leaders_of, there}
-use Rattle.acl.specs.Commands.{new_name_fault, known_name_fault, change_fault, mask_fault, scope_fault, group_fault}
-use Rattle.acl.specs.Commands.{leader_fault, with_name, with_names, names_user}
-use Rattle.acl.specs.Commands.{sets_on, sets, user_acts, name_acts, change_acts, new_acts, known_acts, added, name_sets}
-use Rattle.acl.specs.Commands.{names_sets, add_acts, scope_acts, mask_acts, group_acts, removal_acts}
+use Rattle.acl.specs.History.{users_of, leaders_of}
+use Rattle.acl.specs.Commands.{scope_fault, group_fault, leader_fault, with_names, removal_acts}
 use Rattle.acl.proofs.NameLemmas.{among-with_name, among-with_names}
-use Rattle.acl.proofs.StandsForLemmas.{same_user-refl}
 use Rattle.session.proofs.ActsOfMoves.{followed_append}
 use Rattle.session.proofs.Moving.{is_aside}
 use Rattle.hub_trail.proofs.Sights.{any_behind}
-use Rattle.rights.specs.Acts.{can_follow, CanFollow}
-use Rattle.rights.proofs.Running.{follow_append}
+use Rattle.rights.specs.Acts.{can_follow}
 
 -- ---- acts after acts
 

@@ -1,27 +1,14 @@
 -- An event that isn't refused is one of a known user.
-use Rattle.std.proofs.Common.{◌≡◌, ℕ, Bool, true, false, List, [], Option, None, Ok, Err, refl, ap, sym}
-use Rattle.std.specs.Prelude.{if◌then◌else◌, is_ok}
-use Rattle.std.specs.List.{AllByRecursion}
-use Rattle.acl.specs.declared.user_id.UserId.{UserId}
-use Rattle.acl.specs.declared.act.Act.{Act}
-use Rattle.acl.specs.History.{History}
-use Rattle.session.specs.event.Effect.{Effect}
-use Rattle.session.specs.refusal.Refusal.TheVariants.{UnknownUser}
-use Rattle.session.specs.refusal.Verdict.{Verdict}
-use Rattle.session.specs.Trace.{EventValue, Attach, Detach, Keys, Command, Open, Output, Closed, Draw, Reply}
+use Rattle.hub_trail.proofs.Vocabulary.{◌≡◌, ℕ, Bool, true, false, List, [], Option, None, Ok, Err, refl, ap, sym}
+use Rattle.hub_trail.proofs.Vocabulary.{if◌then◌else◌, is_ok, AllByRecursion, UserId, Act, History, Effect, UnknownUser}
+use Rattle.hub_trail.proofs.Vocabulary.{Verdict, EventValue, Attach, Detach, Keys, Command, Open, Output, Closed, Draw}
+use Rattle.hub_trail.proofs.Vocabulary.{Reply, Tables, Window, is_known, line_caller, first_fault, verdicts, outcome}
+use Rattle.hub_trail.proofs.Vocabulary.{Outcome, reply_of, refused, attach_checks, attaches, new_client, open_checks}
+use Rattle.hub_trail.proofs.Vocabulary.{opens, new_window, commanded, line_ruling, IsStep, Entry, kept_of, entry_of}
 use Rattle.session.specs.Trace as trace
-use Rattle.session.specs.Tables.{Tables, Window, is_known}
-use Rattle.session.specs.Lines.{line_caller, read_line}
-use Rattle.session.specs.Checks.{first_fault, verdicts}
-use Rattle.session.specs.Events.{outcome}
-use Rattle.session.specs.Outcomes.{Outcome, reply_of, refused}
-use Rattle.session.specs.Comings.{attach_checks, attaches, new_client, open_checks, opens, new_window}
-use Rattle.session.specs.Answering.{commanded, line_ruling}
-use Rattle.session.specs.Run.{IsStep}
+use Rattle.session.specs.Lines.{read_line}
 use Rattle.session.proofs.Outcomes as outcomes
 use Rattle.session.proofs.Gating.{first_passed}
-use Rattle.hub_trail.specs.Trails.{Entry}
-use Rattle.hub_trail.specs.Filing.{kept_of, entry_of}
 use Rattle.hub_trail.specs.Legal.{IsOfKnown}
 
 abbrev pub EntryIsOfKnown : UserId → History → Entry → Type 0

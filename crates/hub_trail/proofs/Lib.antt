@@ -1,3 +1,4 @@
+pub mod Vocabulary
 pub mod Verdicts
 pub mod Sights
 pub mod Names

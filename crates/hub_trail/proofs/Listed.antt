@@ -1,22 +1,12 @@
 -- Which acts a list command has.
-use Rattle.std.proofs.Common.{Bool, true, false, List, [], ◌∷◌, Option, Some, None}
-use Rattle.std.specs.Prelude.{if◌then◌else◌}
-use Rattle.std.specs.List.{AllByRecursion}
-use Rattle.acl.specs.declared.user_id.UserId.{UserId}
-use Rattle.acl.specs.declared.bits.Bit.{Bit}
-use Rattle.acl.specs.declared.bits.BitChange.{BitChange}
-use Rattle.acl.specs.declared.act.Act.{Act}
+use Rattle.hub_trail.proofs.Vocabulary.{Bool, true, false, List, [], ◌∷◌, Option, Some, None, if◌then◌else◌}
+use Rattle.hub_trail.proofs.Vocabulary.{AllByRecursion, UserId, Bit, BitChange, Act, Object, MaskEntry, MaskScope}
+use Rattle.hub_trail.proofs.Vocabulary.{NewLeader, among, change_acts, name_acts, user_acts, sets, sets_on, with_name}
+use Rattle.hub_trail.proofs.Vocabulary.{add_acts, known_acts, new_acts, names_sets, name_sets, added, group_acts}
+use Rattle.hub_trail.proofs.Vocabulary.{mask_acts, scope_acts, all_append}
 use Rattle.acl.specs.declared.act.Act.TheVariants as act
-use Rattle.acl.specs.declared.act.Object.{Object}
 use Rattle.acl.specs.declared.act.PresetKind.{PresetKind}
-use Rattle.acl.specs.declared.entries.MaskEntry.{MaskEntry}
-use Rattle.acl.specs.declared.entries.MaskScope.{MaskScope}
 use Rattle.acl.specs.declared.entries.MaskScope.TheVariants as scope
-use Rattle.acl.specs.declared.entries.NewLeader.{NewLeader}
-use Rattle.acl.specs.History.{among}
-use Rattle.acl.specs.Commands.{change_acts, name_acts, user_acts, sets, sets_on, with_name, add_acts, known_acts}
-use Rattle.acl.specs.Commands.{new_acts, names_sets, name_sets, added, group_acts, mask_acts, scope_acts}
-use Rattle.session.proofs.Lists.{all_append}
 
 module _ (P : Act → Type 0) (known : (u : UserId) → P (act.Known u))
     (set : (u : UserId) (bit : Bit) (o : Object) (value : Bool) → P (act.Set u bit o value)) where

@@ -1,45 +1,27 @@
 -- Which acts each command does, command by command.
-use Rattle.std.proofs.Common.{◌≡◌, ℕ, Bool, true, false, not, List, [], ◌∷◌, ◌++◌, Option, Some, None, Ok, refl, ap}
-use Rattle.std.proofs.Common.{sym, ◌∙◌, subst, map, filter}
-use Rattle.std.specs.Prelude.{◌==◌}
-use Rattle.std.specs.List.{AllByRecursion}
-use Rattle.std.specs.Option.{option_and_then}
-use Rattle.acl.specs.declared.user_id.UserId.{UserId}
-use Rattle.acl.specs.declared.act.Act.{Act}
+use Rattle.hub_trail.proofs.Vocabulary.{◌≡◌, ℕ, Bool, true, false, not, List, [], ◌∷◌, ◌++◌, Option, Some, None, Ok}
+use Rattle.hub_trail.proofs.Vocabulary.{refl, ap, sym, ◌∙◌, subst, map, filter, ◌==◌, AllByRecursion, option_and_then}
+use Rattle.hub_trail.proofs.Vocabulary.{UserId, Act, same_user, named_by, change_fault, mask_fault, same_user-refl}
+use Rattle.hub_trail.proofs.Vocabulary.{name_of, Arrangement, Quit, StatusMessage, Refusal, Acl, Windows, NoWindow}
+use Rattle.hub_trail.proofs.Vocabulary.{NoSuchWindow, Tables, Window, Client, window_at, client_at, with_client}
+use Rattle.hub_trail.proofs.Vocabulary.{with_layout, focused, known_users, group_fault_in, names_of, new_leader_of}
+use Rattle.hub_trail.proofs.Vocabulary.{window_named, Caller, left_acts, Deed, Answer, removes, parts, closes, is_of}
+use Rattle.hub_trail.proofs.Vocabulary.{enters, entering, changing, acting, without_windows, does, caller_client}
+use Rattle.hub_trail.proofs.Vocabulary.{mask_entries, Either, is_plain, none_left, nobody_left, equal, itself}
+use Rattle.hub_trail.proofs.Vocabulary.{all_weaken, all_append, all_map, all_of, all_passed, all_left, IsMine, makes}
+use Rattle.hub_trail.proofs.Vocabulary.{LeftBy, left_where, parted}
 use Rattle.acl.specs.declared.act.Act.TheVariants as act
-use Rattle.acl.specs.Same.{same_user}
-use Rattle.acl.specs.Names.{named_by}
-use Rattle.acl.specs.Commands.{change_fault, mask_fault}
-use Rattle.acl.proofs.StandsForLemmas.{same_user-refl}
 use Rattle.command_lang.specs.declared.command.Command.{Command as Order}
 use Rattle.command_lang.specs.declared.command.Command.TheVariants as command
-use Rattle.command_lang.specs.Names.{name_of}
-use Rattle.regions.specs.Layouts.{Arrangement, kept_alone, split_focused, remove_focused, next_focus}
-use Rattle.session.specs.event.Reason.TheVariants.{Detached, Quit}
-use Rattle.session.specs.event.StatusMessage.{StatusMessage}
-use Rattle.session.specs.refusal.Refusal.{Refusal}
-use Rattle.session.specs.refusal.Refusal.TheVariants.{Acl, Windows, NoWindow}
-use Rattle.session.specs.rows.WindowsFault.TheVariants.{NoSuchWindow}
-use Rattle.session.specs.Tables.{Tables, Window, Client, window_at, client_at, with_client, with_layout, focused}
-use Rattle.session.specs.Tables.{known_users}
-use Rattle.session.specs.Rights.{group_fault_in}
-use Rattle.session.specs.Naming.{names_of, new_leader_of, window_named, window_after, window_before}
-use Rattle.session.specs.Lines.{Caller}
-use Rattle.session.specs.Outcomes.{left_acts}
-use Rattle.session.specs.Deeds.{Deed, Answer, given, removes, parts, closes, is_of, enters, arranges, entering}
-use Rattle.session.specs.Deeds.{former_of, showing, shown_in_focus, changing, acting, both, hearing}
-use Rattle.session.specs.Deeds.{without_windows}
-use Rattle.session.specs.Commands.{does, caller_client, on_client, known_fault, mask_entries, is_taken, way_of}
-use Rattle.session.proofs.Doing.{Either, by_given, by_unless, by_refused, by_clear, by_changes, by_shown}
-use Rattle.session.proofs.Doing.{caller_is, is_plain}
-use Rattle.session.proofs.Leaving.{none_left}
-use Rattle.session.proofs.Unread.{nobody_left}
-use Rattle.session.proofs.Lists.{equal, itself, all_weaken, all_append, all_map, all_of, all_passed}
-use Rattle.session.proofs.Events.{all_left}
-use Rattle.session.proofs.Focusing.{IsMine}
+use Rattle.regions.specs.Layouts.{kept_alone, split_focused, remove_focused, next_focus}
+use Rattle.session.specs.event.Reason.TheVariants.{Detached}
+use Rattle.session.specs.Naming.{window_after, window_before}
+use Rattle.session.specs.Deeds.{given, arranges, former_of, showing, shown_in_focus, both, hearing}
+use Rattle.session.specs.Commands.{on_client, known_fault, is_taken, way_of}
+use Rattle.session.proofs.Doing.{by_given, by_unless, by_refused, by_clear, by_changes, by_shown, caller_is}
 use Rattle.session.proofs.CommandActs.{IsCaller}
-use Rattle.hub_trail.specs.Fitting.{makes, is_client}
-use Rattle.session.proofs.GuestsLeaving.{LeftBy, left_where, parted, turned}
+use Rattle.hub_trail.specs.Fitting.{is_client}
+use Rattle.session.proofs.GuestsLeaving.{turned}
 use Rattle.hub_trail.proofs.Listed.{change_all, add_all, group_all, mask_all}
 
 module _ (t : Tables) (k : Caller) (by : IsCaller t k) (mine : IsMine t k) where

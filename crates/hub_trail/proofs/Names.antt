@@ -1,33 +1,25 @@
 -- A list command that was done has an act for each name in its first word.
-use Rattle.std.proofs.Common.{◌≡◌, true, List, [], ◌∷◌, ◌++◌, Option, Some, None, Ok, Err, map, filter, refl}
-use Rattle.std.specs.List.{AllByRecursion, list_any}
-use Rattle.std.specs.Option.{option_or}
-use Rattle.std.proofs.lemmas.Bool.{or_left}
-use Rattle.acl.specs.declared.user_id.UserId.{UserId}
+use Rattle.hub_trail.proofs.Vocabulary.{◌≡◌, true, [], ◌∷◌, ◌++◌, map, filter, AllByRecursion, list_any, option_or}
+use Rattle.hub_trail.proofs.Vocabulary.{or_left, UserId, Act, NewLeader, named_by, added, sets, new_name_fault}
+use Rattle.hub_trail.proofs.Vocabulary.{with_name, known_name_fault, group_acts, known_acts, names_sets, same_user-refl}
+use Rattle.hub_trail.proofs.Vocabulary.{Refusal, Acl, Windows, NoSuchWindow, Window, Client, known_users}
+use Rattle.hub_trail.proofs.Vocabulary.{group_fault_in, names_of, new_leader_of, Caller, Answer, acting, removes, is_of}
+use Rattle.hub_trail.proofs.Vocabulary.{does, first_names}
+use Rattle.std.proofs.Common.{List, Option, Some, None, Ok, Err, refl}
 use Rattle.acl.specs.declared.act.Object.{Object}
 use Rattle.acl.specs.declared.act.Object.TheVariants as object
-use Rattle.acl.specs.declared.act.Act.{Act}
 use Rattle.acl.specs.declared.act.Act.TheVariants as act
 use Rattle.acl.specs.declared.entries.AclFault.{AclFault}
-use Rattle.acl.specs.declared.entries.NewLeader.{NewLeader}
-use Rattle.acl.specs.Names.{named_by}
-use Rattle.acl.specs.Commands.{added, sets, change_fault, new_name_fault, with_name, known_name_fault, group_acts}
-use Rattle.acl.specs.Commands.{known_acts, names_sets}
-use Rattle.acl.proofs.StandsForLemmas.{same_user-refl}
+use Rattle.acl.specs.Commands.{change_fault}
 use Rattle.command_lang.specs.declared.command.Command.{Command}
 use Rattle.command_lang.specs.declared.command.Command.TheVariants as command
 use Rattle.command_lang.specs.declared.command.Users.TheVariants as users
-use Rattle.session.specs.refusal.Refusal.{Refusal}
-use Rattle.session.specs.refusal.Refusal.TheVariants.{Acl, Windows}
-use Rattle.session.specs.rows.WindowsFault.TheVariants.{NoSuchWindow}
-use Rattle.session.specs.Tables.{Tables, Window, Client, known_users}
-use Rattle.session.specs.Rights.{add_acts_in, group_fault_in}
-use Rattle.session.specs.Naming.{names_of, every_window, every_command, new_leader_of}
-use Rattle.session.specs.Lines.{Caller}
-use Rattle.session.specs.Deeds.{Deed, Answer, acting, given, unless, removes, is_of}
-use Rattle.session.specs.Commands.{does}
+use Rattle.session.specs.Tables.{Tables}
+use Rattle.session.specs.Rights.{add_acts_in}
+use Rattle.session.specs.Naming.{every_window, every_command}
+use Rattle.session.specs.Deeds.{Deed, given, unless}
 use Rattle.session.proofs.Quiet.{Of}
-use Rattle.hub_trail.specs.Legal.{is_act_of, has_act_of, first_names}
+use Rattle.hub_trail.specs.Legal.{is_act_of, has_act_of}
 use Rattle.hub_trail.proofs.Sights.{any_behind, any_before}
 
 abbrev pub HasEach : List Act → List (Option UserId) → Type 0

@@ -1,29 +1,24 @@
 -- What is named is there: windows, the objects of lists, and the windows that clients show.
-use Rattle.std.proofs.Common.{◌≡◌, ◌∙◌, ℕ, Bool, true, false, List, [], ◌∷◌, ◌++◌, Option, Some, None, map, filter}
-use Rattle.std.proofs.Common.{refl, sym, subst, inl, inr, ⊎_elim}
-use Rattle.std.specs.Prelude.{if◌then◌else◌, IfSome, MatchOption, is_some, slice_get, unwrap_or, nat_eq}
-use Rattle.std.specs.List.{AllByRecursion, list_any}
-use Rattle.std.specs.Option.{option_map, option_or, option_and_then}
+use Rattle.hub_trail.proofs.Vocabulary.{◌≡◌, ◌∙◌, ℕ, Bool, true, false, List, [], ◌∷◌, ◌++◌, Option, Some, None, map}
+use Rattle.hub_trail.proofs.Vocabulary.{filter, refl, sym, subst, inl, inr, ⊎_elim, if◌then◌else◌, MatchOption, is_some}
+use Rattle.hub_trail.proofs.Vocabulary.{nat_eq, AllByRecursion, list_any, option_map, option_or, option_and_then}
+use Rattle.hub_trail.proofs.Vocabulary.{Object, CommandName, is_open, there, all_names, command_named, AreFit, Tables}
+use Rattle.hub_trail.proofs.Vocabulary.{Window, Client, window_at, focused, lowest, window_named, is_wide, wide_objects}
+use Rattle.hub_trail.proofs.Vocabulary.{item_objects, objects_of, every_window, every_command, has, has_row, IsThere}
+use Rattle.hub_trail.proofs.Vocabulary.{lowest_there, number_there, has_there, Holds, all_append, all_map, all_of}
+use Rattle.hub_trail.proofs.Vocabulary.{all_weaken, serials, SameClients}
+use Rattle.std.specs.Prelude.{IfSome, slice_get, unwrap_or}
 use Rattle.std.specs.Str.{bytes_eq}
-use Rattle.acl.specs.declared.act.Object.{Object}
 use Rattle.acl.specs.declared.act.Object.TheVariants as object
-use Rattle.acl.specs.declared.command_name.CommandName.{CommandName}
-use Rattle.acl.specs.History.{is_open, there}
-use Rattle.command_lang.specs.Names.{all_names, command_named}
 use Rattle.session.specs.Naming.{spelled}
 use Rattle.regions.specs.declared.layout.Shown.{Shown}
 use Rattle.regions.specs.Layouts.{empty}
-use Rattle.session.specs.Sound.{IsOpen, ShowsOpen, AreFit}
-use Rattle.session.specs.Tables.{Tables, Window, Client, window_at, focused}
-use Rattle.session.specs.Naming.{with_number, lowest, window_named, is_wide, wide_objects, item_objects}
-use Rattle.session.specs.Naming.{objects_of, every_window, every_command}
+use Rattle.session.specs.Sound.{IsOpen, ShowsOpen}
+use Rattle.session.specs.Naming.{with_number}
 use Rattle.session.specs.Promises.{unread}
-use Rattle.session.proofs.ActsOfMoves.{has, has_row}
-use Rattle.session.proofs.Showing.{IsThere, lowest_there, number_there, get_all}
-use Rattle.session.proofs.FitCommands.{has_there, ShowsIn, PageIn, Holds}
-use Rattle.session.proofs.Lists.{all_append, all_map, all_of, all_weaken, members}
-use Rattle.session.proofs.Moving.{serials}
-use Rattle.session.proofs.Unread.{SameClients}
+use Rattle.session.proofs.Showing.{get_all}
+use Rattle.session.proofs.FitCommands.{ShowsIn, PageIn}
+use Rattle.session.proofs.Lists.{members}
 
 -- ---- windows that are named
 

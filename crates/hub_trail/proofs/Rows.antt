@@ -1,51 +1,31 @@
 -- The acts of a command can follow those of the tables.
-use Rattle.std.proofs.Common.{◌≡◌, ◌∙◌, ℕ, Bool, true, false, ◌||◌, List, [], ◌∷◌, Option, Some, None, map, refl, ap}
-use Rattle.std.proofs.Common.{subst}
-use Rattle.std.specs.Prelude.{if◌then◌else◌, MatchOption}
-use Rattle.std.specs.List.{AllByRecursion}
-use Rattle.std.specs.Option.{option_map, option_and_then}
-use Rattle.std.proofs.lemmas.Bool.{and_from}
-use Rattle.acl.specs.declared.act.Act.{Act}
+use Rattle.hub_trail.proofs.Vocabulary.{◌≡◌, ◌∙◌, ℕ, Bool, true, false, ◌||◌, List, [], ◌∷◌, Option, Some, None, map}
+use Rattle.hub_trail.proofs.Vocabulary.{refl, ap, subst, if◌then◌else◌, MatchOption, AllByRecursion, option_map}
+use Rattle.hub_trail.proofs.Vocabulary.{option_and_then, and_from, Act, Write, Execute, UserId, Edition, History}
+use Rattle.hub_trail.proofs.Vocabulary.{followed_by, is_open, named_by, known_name_fault, name_of, Arrangement, Check}
+use Rattle.hub_trail.proofs.Vocabulary.{Quit, Tables, Window, Client, client_at, with_layout, focused, known_users}
+use Rattle.hub_trail.proofs.Vocabulary.{may_in, names_of, new_leader_of, Caller, passes, first_fault, checks}
+use Rattle.hub_trail.proofs.Vocabulary.{window_checks, Deed, parts, removes, is_of, closes, entering, enters, does}
+use Rattle.hub_trail.proofs.Vocabulary.{caller_client, mask_entries, Either, has, serials, IsThere, Holds, has_there}
+use Rattle.hub_trail.proofs.Vocabulary.{all_append, CanFollow, follow_append}
 use Rattle.acl.specs.declared.act.Act.TheVariants as act
 use Rattle.acl.specs.declared.act.LockMode.{LockMode}
 use Rattle.acl.specs.declared.act.LockMode.TheVariants.{Off, Auto, On}
 use Rattle.acl.specs.declared.act.Object.TheVariants as object
-use Rattle.acl.specs.declared.bits.Bit.TheVariants.{Write, Execute}
-use Rattle.acl.specs.declared.user_id.UserId.{UserId}
-use Rattle.acl.specs.declared.leaders.Edition.{Edition}
-use Rattle.acl.specs.History.{History, followed_by, is_open}
-use Rattle.acl.specs.Names.{named_by}
-use Rattle.acl.specs.Commands.{known_name_fault}
 use Rattle.writelock.specs.Holding.{is_off}
 use Rattle.command_lang.specs.declared.command.Command.{Command}
 use Rattle.command_lang.specs.declared.command.Command.TheVariants as command
-use Rattle.command_lang.specs.Names.{name_of}
-use Rattle.regions.specs.Layouts.{Arrangement}
-use Rattle.session.specs.refusal.Check.{Check}
 use Rattle.session.specs.refusal.Check.TheVariants.{Right as right}
-use Rattle.session.specs.event.Reason.TheVariants.{Removed, Quit}
-use Rattle.session.specs.Tables.{Tables, Window, Client, client_at, with_layout, focused, known_users}
-use Rattle.session.specs.Rights.{may_in}
-use Rattle.session.specs.Naming.{names_of, new_leader_of}
-use Rattle.session.specs.Lines.{Caller}
+use Rattle.session.specs.event.Reason.TheVariants.{Removed}
 use Rattle.command_lang.specs.Needs.{typing}
-use Rattle.session.specs.Checks.{passes, refusal_of, first_fault, checks, window_checks}
-use Rattle.session.specs.Deeds.{Deed, parts, removes, is_of, closes, entering, enters}
-use Rattle.session.specs.Commands.{does, caller_client, mask_entries}
-use Rattle.session.proofs.Doing.{Either}
-use Rattle.session.proofs.ActsOfMoves.{has}
-use Rattle.session.proofs.Moving.{serials}
-use Rattle.session.proofs.Showing.{IsThere, ShowsNoOther}
+use Rattle.session.specs.Checks.{refusal_of}
+use Rattle.session.proofs.Showing.{ShowsNoOther}
 use Rattle.session.proofs.Shapes as shapes
 use Rattle.session.proofs.Shapes.{Acted, Shape, by_shape}
-use Rattle.session.proofs.FitCommands.{Holds, page_of, has_there}
-use Rattle.session.proofs.Lists.{all_append}
+use Rattle.session.proofs.FitCommands.{page_of}
 use Rattle.session.proofs.Unread.{row_at}
-use Rattle.rights.specs.Acts.{CanFollow}
-use Rattle.rights.proofs.Running.{follow_append}
-use Rattle.hub_trail.proofs.Following.{is_free, AllFree, free_follow, users_stay, change_leads}
-use Rattle.hub_trail.proofs.Following.{add_leads}
-use Rattle.hub_trail.proofs.Following.{mask_leads, here_follow, removal_follows, group_follows}
+use Rattle.hub_trail.proofs.Following.{is_free, AllFree, free_follow, users_stay, change_leads, add_leads, mask_leads}
+use Rattle.hub_trail.proofs.Following.{here_follow, removal_follows, group_follows}
 use Rattle.hub_trail.proofs.Naming.{OpenIs, AreThere, there_open, every_there, list_there, focus_open}
 
 abbrev pub Follows : Tables → List Act → Type 0

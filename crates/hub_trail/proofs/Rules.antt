@@ -1,18 +1,9 @@
 -- Commands leave the owner, the edition and the next serials unchanged.
-use Rattle.std.proofs.Common.{◌≡◌, ℕ, List, Option, Some, None, refl}
-use Rattle.acl.specs.declared.leaders.Edition.{Edition}
-use Rattle.acl.specs.declared.user_id.UserId.{UserId}
-use Rattle.acl.specs.Names.{named_by}
+use Rattle.hub_trail.proofs.Vocabulary.{◌≡◌, ℕ, List, Option, Some, None, refl, Edition, UserId, named_by}
+use Rattle.hub_trail.proofs.Vocabulary.{StatusMessage, Tables, Caller, Deed, removes, does, told, with_listed, OnlyRead}
+use Rattle.hub_trail.proofs.Vocabulary.{Either, told_read}
 use Rattle.command_lang.specs.declared.command.Command.{Command}
-use Rattle.session.specs.event.StatusMessage.{StatusMessage}
-use Rattle.session.specs.Tables.{Tables}
-use Rattle.session.specs.Lines.{Caller}
-use Rattle.session.specs.Deeds.{Deed, removes}
-use Rattle.session.specs.Commands.{does}
-use Rattle.session.specs.Answering.{told, with_listed}
-use Rattle.session.specs.Promises.{OnlyRead}
-use Rattle.session.proofs.Doing.{Either}
-use Rattle.session.proofs.Granting.{told_read, same_tables}
+use Rattle.session.proofs.Granting.{same_tables}
 use Rattle.session.proofs.Shapes as shapes
 
 -- the owner, the edition, and the next serials of windows and clients

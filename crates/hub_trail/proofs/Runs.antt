@@ -1,26 +1,18 @@
 -- The trail of a run is legal.
-use Rattle.std.specs.List.{AllByRecursion}
-use Rattle.std.proofs.Common.{◌≡◌, ◌∙◌, List, [], ◌∷◌, ◌++◌, Option, Some, None, refl, ap, subst, sym}
-use Rattle.acl.specs.declared.leaders.Edition.{Edition}
-use Rattle.acl.specs.declared.user_id.UserId.{UserId}
-use Rattle.acl.specs.History.{History, followed_by, may}
+use Rattle.hub_trail.proofs.Vocabulary.{AllByRecursion, ◌≡◌, ◌∙◌, List, [], ◌∷◌, ◌++◌, Option, Some, None, refl, ap}
+use Rattle.hub_trail.proofs.Vocabulary.{subst, sym, Edition, UserId, History, followed_by, Verdict, Effect, EventValue}
+use Rattle.hub_trail.proofs.Vocabulary.{AreFit, Tables, fresh, outcome, IsStep, IsRun, IsRunFrom, drawn, tables_from}
+use Rattle.hub_trail.proofs.Vocabulary.{run_fit, fresh_fit, Kept, Entry, IsTrue, acts_after, kept_of, entry_of, filed}
+use Rattle.hub_trail.proofs.Vocabulary.{entries_of, ending_of}
+use Rattle.acl.specs.History.{may}
 use Rattle.writelock.specs.Holding.{holder}
-use Rattle.session.specs.refusal.Verdict.{Verdict}
 use Rattle.session.specs.refusal.Verdict.TheVariants.{Right as right, Lock as lock}
-use Rattle.session.specs.event.Effect.{Effect}
-use Rattle.session.specs.Trace.{EventValue}
 use Rattle.session.specs.Trace as trace
-use Rattle.session.specs.Sound.{AreFit}
-use Rattle.session.specs.Tables.{Tables, fresh}
-use Rattle.session.specs.Events.{outcome}
-use Rattle.session.specs.Run.{IsStep, IsRun, IsRunFrom, after, drawn, tables_from, tables_of}
+use Rattle.session.specs.Run.{after, tables_of}
 use Rattle.session.proofs.ActsOfRuns.{after_acts}
-use Rattle.session.proofs.Staying.{run_fit, fresh_fit}
-use Rattle.hub_trail.specs.declared.kept.Kept.{Kept}
-use Rattle.hub_trail.specs.Trails.{Entry}
 use Rattle.hub_trail.specs.Laws.{AskTheSame}
-use Rattle.hub_trail.specs.Legal.{IsTrue, AreLegal, IsLegal, acts_after, acts_of}
-use Rattle.hub_trail.specs.Filing.{kept_of, entry_of, filed, entries_of, trail_of, ending_of}
+use Rattle.hub_trail.specs.Legal.{AreLegal, IsLegal, acts_of}
+use Rattle.hub_trail.specs.Filing.{trail_of}
 use Rattle.hub_trail.proofs.Rules.{Rules}
 use Rattle.hub_trail.proofs.Serials.{rules_after}
 use Rattle.hub_trail.proofs.Answered.{entry, IsAnswered}

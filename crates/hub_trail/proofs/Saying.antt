@@ -1,52 +1,27 @@
 -- The line of a Command that was done is a command, and says all acts on users and rights.
-use Rattle.std.proofs.Common.{◌≡◌, ℕ, Bool, true, false, List, [], ◌∷◌, Option, Some, None, Result, Ok, Err, refl}
-use Rattle.std.proofs.Common.{ap, sym, ◌∙◌, subst, map, filter, inl, inr}
-use Rattle.std.specs.Prelude.{if◌then◌else◌, ◌&&◌, is_ok}
-use Rattle.std.specs.List.{AllByRecursion}
-use Rattle.acl.specs.declared.user_id.UserId.{UserId}
-use Rattle.acl.specs.declared.act.Act.{Act}
+use Rattle.hub_trail.proofs.Vocabulary.{◌≡◌, ℕ, Bool, true, false, List, [], ◌∷◌, Option, Some, None, Result, Ok, Err}
+use Rattle.hub_trail.proofs.Vocabulary.{refl, ap, sym, ◌∙◌, subst, map, filter, inl, inr, if◌then◌else◌, ◌&&◌, is_ok}
+use Rattle.hub_trail.proofs.Vocabulary.{AllByRecursion, UserId, Act, History, same_user, named_by, change_acts}
+use Rattle.hub_trail.proofs.Vocabulary.{add_acts, added, group_acts, names_user, same_user-refl, ParseFault, read_line}
+use Rattle.hub_trail.proofs.Vocabulary.{Effect, Verdict, EventValue, Attach, Detach, Keys, Command, Open, Closed, Reply}
+use Rattle.hub_trail.proofs.Vocabulary.{Window, Client, Tables, known_users, focused, with_layout, is_known, names_of}
+use Rattle.hub_trail.proofs.Vocabulary.{new_leader_of, Caller, line_caller, Deed, Answer, entering, is_of, does}
+use Rattle.hub_trail.proofs.Vocabulary.{mask_entries, Given, with_order, ok_of, UnknownUser, commanded, line_ruling}
+use Rattle.hub_trail.proofs.Vocabulary.{outcome, left_acts, refused, SomeOf, IsStep, both_true, all_append, all_of}
+use Rattle.hub_trail.proofs.Vocabulary.{Either, all_left, obeys_of, Did, Obeys, with_clients, kept_of, entry_of, Entry}
+use Rattle.hub_trail.proofs.Vocabulary.{changes, items_say}
 use Rattle.acl.specs.declared.act.Act.TheVariants as act
-use Rattle.acl.specs.History.{History}
-use Rattle.acl.specs.Same.{same_user}
-use Rattle.acl.specs.Names.{named_by}
-use Rattle.acl.specs.Commands.{change_acts, add_acts}
-use Rattle.acl.specs.Commands.{added, group_acts, names_user, chosen_leader}
-use Rattle.acl.proofs.StandsForLemmas.{same_user-refl}
+use Rattle.acl.specs.Commands.{chosen_leader}
 use Rattle.command_lang.specs.declared.command.Command.{Command as Order}
 use Rattle.command_lang.specs.declared.command.Command.TheVariants as command
 use Rattle.command_lang.specs.declared.command.Users.{Users}
 use Rattle.command_lang.specs.declared.command.Users.TheVariants as users
-use Rattle.command_lang.specs.declared.fault.ParseFault.{ParseFault}
-use Rattle.command_lang.specs.Relation.{read_line}
 use Rattle.command_lang.proofs.OneReading.{reads-relates}
-use Rattle.session.specs.event.Effect.{Effect}
-use Rattle.session.specs.refusal.Verdict.{Verdict}
-use Rattle.session.specs.Trace.{EventValue, Attach, Detach, Keys, Command, Open, Closed, Reply}
 use Rattle.session.specs.Trace as trace
-use Rattle.session.specs.Tables.{Window, Client, Tables, known_users, focused, with_layout, is_known}
-use Rattle.session.specs.Naming.{names_of}
-use Rattle.session.specs.Naming.{new_leader_of}
-use Rattle.session.specs.Lines.{Caller, line_caller}
-use Rattle.session.specs.Deeds.{Deed, Answer, entering, is_of}
 use Rattle.session.specs.Deeds as deeds
-use Rattle.session.specs.Commands.{does, mask_entries}
-use Rattle.session.specs.Given.{Given, with_order, ok_of}
-use Rattle.session.specs.refusal.Refusal.TheVariants.{UnknownUser}
-use Rattle.session.specs.Answering.{commanded, line_ruling}
-use Rattle.session.specs.Events.{outcome}
-use Rattle.session.specs.Outcomes.{left_acts, refused}
-use Rattle.session.specs.Promises.{SomeOf}
-use Rattle.session.specs.Run.{IsStep}
-use Rattle.session.proofs.Lists.{both_true, all_append, all_of}
-use Rattle.session.proofs.Doing.{Either}
 use Rattle.session.proofs.Shapes as shapes
-use Rattle.session.proofs.Events.{all_left}
-use Rattle.session.proofs.Gating.{obeys_of}
-use Rattle.session.proofs.Steps.{Did, Obeys, with_clients}
-use Rattle.hub_trail.specs.Filing.{kept_of, entry_of}
-use Rattle.hub_trail.specs.Trails.{Entry}
 use Rattle.hub_trail.specs.Legal.{IsSaid}
-use Rattle.hub_trail.specs.Saying.{is_named, changes, items_say, same_leader, says}
+use Rattle.hub_trail.specs.Saying.{is_named, same_leader, says}
 use Rattle.hub_trail.proofs.Below.{below}
 use Rattle.hub_trail.proofs.Listed.{mask_all}
 use Rattle.hub_trail.proofs.Worded.{change_all, add_all, words_all, others_all, bits_all, items_said}

@@ -1,24 +1,13 @@
 -- Each verdict is on an object that is there.
-use Rattle.std.proofs.Common.{◌≡◌, ℕ, Bool, true, false, List, [], ◌∷◌, Option, Some, None, refl}
-use Rattle.std.specs.Prelude.{if◌then◌else◌}
-use Rattle.std.specs.List.{AllByRecursion}
-use Rattle.std.specs.Option.{option_map}
-use Rattle.acl.specs.declared.user_id.UserId.{UserId}
-use Rattle.acl.specs.declared.bits.Bit.TheVariants.{Write}
+use Rattle.hub_trail.proofs.Vocabulary.{◌≡◌, ℕ, Bool, true, false, List, [], ◌∷◌, Option, Some, None, refl}
+use Rattle.hub_trail.proofs.Vocabulary.{if◌then◌else◌, AllByRecursion, option_map, UserId, Write, Check, Needs, Verdict}
+use Rattle.hub_trail.proofs.Vocabulary.{Tables, Window, Client, focused, focused_window, Caller, needs, passes}
+use Rattle.hub_trail.proofs.Vocabulary.{verdicts, checks, typing_checks, where_needed, window_checks, typing_verdicts}
+use Rattle.hub_trail.proofs.Vocabulary.{IsThere, at_there, all_append, is_on_there}
 use Rattle.acl.specs.declared.act.Object.TheVariants as object
 use Rattle.command_lang.specs.declared.command.Command.{Command}
-use Rattle.session.specs.refusal.Check.{Check}
 use Rattle.session.specs.refusal.Check.TheVariants.{Right as right, Unlocked as unlocked}
-use Rattle.command_lang.specs.declared.needs.Needs.{Needs}
-use Rattle.session.specs.refusal.Verdict.{Verdict}
-use Rattle.session.specs.Tables.{Tables, Window, Client, focused, focused_window}
-use Rattle.session.specs.Lines.{Caller}
-use Rattle.command_lang.specs.Needs.{needs}
-use Rattle.session.specs.Checks.{passes, verdict, verdicts, checks, typing_checks, where_needed, window_checks}
-use Rattle.session.specs.Answering.{typing_verdicts}
-use Rattle.session.proofs.Showing.{IsThere, at_there}
-use Rattle.session.proofs.Lists.{all_append}
-use Rattle.hub_trail.specs.Judging.{is_on_there}
+use Rattle.session.specs.Checks.{verdict}
 use Rattle.hub_trail.proofs.Naming.{OpenIs, there_open}
 
 -- ---- the verdicts of checks

@@ -1,19 +1,12 @@
 -- Each step leaves the owner and the edition, and gives the next serials to what it attaches and
 -- opens.
-use Rattle.std.proofs.Common.{◌≡◌, ◌∙◌, List, [], Option, Some, None, Ok, refl, ap, subst, sym, take}
+use Rattle.hub_trail.proofs.Vocabulary.{◌≡◌, ◌∙◌, List, [], Option, Some, None, Ok, refl, ap, subst, sym, take, Effect}
+use Rattle.hub_trail.proofs.Vocabulary.{Refusal, EventValue, Attach, Open, Draw, Reply, Tables, Client, client_at}
+use Rattle.hub_trail.proofs.Vocabulary.{with_client, Caller, line_caller, Deed, does, taken, Outcome, refused, done}
+use Rattle.hub_trail.proofs.Vocabulary.{outcome, IsStep, drawn, Either}
 use Rattle.command_lang.specs.declared.command.Command.{Command as Order}
-use Rattle.session.specs.event.Effect.{Effect}
-use Rattle.session.specs.refusal.Refusal.{Refusal}
-use Rattle.session.specs.Trace.{EventValue, Attach, Open, Draw, Reply, Entry}
-use Rattle.session.specs.Tables.{Tables, Client, client_at, with_client}
-use Rattle.session.specs.Lines.{Caller, line_caller}
-use Rattle.session.specs.Deeds.{Deed}
-use Rattle.session.specs.Commands.{does}
-use Rattle.session.specs.Keying.{taken}
-use Rattle.session.specs.Outcomes.{Outcome, refused, done}
-use Rattle.session.specs.Events.{outcome}
-use Rattle.session.specs.Run.{IsStep, drawn, drawn_on}
-use Rattle.session.proofs.Doing.{Either}
+use Rattle.session.specs.Trace.{Entry}
+use Rattle.session.specs.Run.{drawn_on}
 use Rattle.session.proofs.Outcomes as outcomes
 use Rattle.hub_trail.specs.Peers.{MakesNext, one_more, GivesSerials}
 use Rattle.hub_trail.specs.Peers as peers

@@ -1,22 +1,14 @@
 -- A user leaves a window only if none of their clients has it in focus; what goes has its act, and
 -- clients of the tables are attached.
-use Rattle.std.proofs.Common.{◌≡◌, ◌∙◌, ℕ, Bool, true, false, ◌&&◌, ◌||◌, List, [], ◌∷◌, ◌++◌, Option, Some, None, map}
-use Rattle.std.proofs.Common.{filter, reverse, refl, ap, sym}
-use Rattle.std.specs.Prelude.{◌==◌, if◌then◌else◌}
-use Rattle.std.specs.List.{list_any}
-use Rattle.std.proofs.lemmas.Bool.{and_from, or_left, or_right, eq-eqb}
-use Rattle.std.proofs.lemmas.List.{reverse-append}
-use Rattle.acl.specs.declared.user_id.UserId.{UserId}
-use Rattle.acl.specs.declared.act.Act.{Act}
+use Rattle.hub_trail.proofs.Vocabulary.{◌≡◌, ◌∙◌, ℕ, Bool, true, false, ◌&&◌, ◌||◌, List, ◌∷◌, ◌++◌, Option, Some, None}
+use Rattle.hub_trail.proofs.Vocabulary.{map, filter, reverse, sym, ◌==◌, if◌then◌else◌, list_any, and_from, or_left}
+use Rattle.hub_trail.proofs.Vocabulary.{or_right, eq-eqb, reverse-append, UserId, Act, same_user, same_user-refl}
+use Rattle.hub_trail.proofs.Vocabulary.{ActsAgree, Tables, Client, Window, row_of, client_at, focused, is_in_focus}
+use Rattle.hub_trail.proofs.Vocabulary.{left_acts_of, left_acts, row_serial, is_client_of}
+use Rattle.std.proofs.Common.{[], refl, ap}
 use Rattle.acl.specs.declared.act.Act.TheVariants as act
-use Rattle.acl.specs.Same.{same_user}
-use Rattle.acl.proofs.StandsForLemmas.{same_user-refl}
-use Rattle.session.specs.Sound.{ActsAgree}
-use Rattle.session.specs.Tables.{Tables, Client, Window, row_of, with_row, client_at, focused, is_window}
-use Rattle.session.specs.Tables.{is_in_focus}
-use Rattle.session.specs.Outcomes.{left_acts_of, left_acts}
-use Rattle.session.proofs.Lists.{row_serial}
-use Rattle.hub_trail.specs.Legal.{is_client_of, is_parted, is_closed}
+use Rattle.session.specs.Tables.{with_row, is_window}
+use Rattle.hub_trail.specs.Legal.{is_parted, is_closed}
 
 -- ---- a list with more elements
 

@@ -1,60 +1,38 @@
 -- Tables of rights and locks can judge what a step files, and so the trail of a run.
-use Rattle.std.proofs.Common.{◌≡◌, ◌∙◌, ℕ, ◌<◌, Bool, true, false, not, ◌&&◌, List, [], ◌∷◌, ◌++◌, Option, Some, None}
-use Rattle.std.proofs.Common.{Result, Ok, Err, map, reverse, refl, ap, sym, subst, take, arith}
-use Rattle.std.specs.Prelude.{◌==◌, ◌||◌, ◌^◌, if◌then◌else◌, MatchOption, is_some, nat_lt, length}
-use Rattle.std.specs.List.{AllByRecursion, list_any}
-use Rattle.std.specs.Option.{option_map}
-use Rattle.std.proofs.lemmas.Bool.{and_from}
+use Rattle.hub_trail.proofs.Vocabulary.{◌≡◌, ◌∙◌, ℕ, ◌<◌, Bool, true, false, not, ◌&&◌, List, [], ◌∷◌, ◌++◌, Option}
+use Rattle.hub_trail.proofs.Vocabulary.{Some, None, Result, Ok, Err, map, reverse, refl, ap, sym, subst, take, ◌==◌}
+use Rattle.hub_trail.proofs.Vocabulary.{◌||◌, if◌then◌else◌, MatchOption, is_some, nat_lt, length, AllByRecursion}
+use Rattle.hub_trail.proofs.Vocabulary.{list_any, option_map, and_from, reverse-append, Act, Edition, UserId, History}
+use Rattle.hub_trail.proofs.Vocabulary.{followed_by, is_open, ParseFault, read_line, Item, typed, bound, line, Check}
+use Rattle.hub_trail.proofs.Vocabulary.{StatusMessage, Refusal, Verdict, EventValue, Reply, Rises, AreFit, Tables}
+use Rattle.hub_trail.proofs.Vocabulary.{Window, Client, fresh, client_at, with_client, focused, is_in_focus, lowest}
+use Rattle.hub_trail.proofs.Vocabulary.{caller_of, line_caller, passes, checks, first_fault, verdicts, Deed, Answer}
+use Rattle.hub_trail.proofs.Vocabulary.{changing, parts, closes, does, items_behind, typed_bytes, command_item, taken}
+use Rattle.hub_trail.proofs.Vocabulary.{Outcome, finished, refused, done, reply_of, left_acts_of, left_acts, outcome}
+use Rattle.hub_trail.proofs.Vocabulary.{attaches, new_client, open_checks, opens, new_window, typing_verdicts, keyed}
+use Rattle.hub_trail.proofs.Vocabulary.{with_listed, message_of, by_line, ordered, Ordered, reading, types}
+use Rattle.hub_trail.proofs.Vocabulary.{keys_outcome, IsStep, IsRun, IsRunFrom, tables_from, has, has_row, Either}
+use Rattle.hub_trail.proofs.Vocabulary.{at_there, number_there, lowest_there, Holds, all_append, serials, run_fit}
+use Rattle.hub_trail.proofs.Vocabulary.{fresh_fit, typing_clients, Kept, Entry, acts_after, kept_of, entry_of, filed}
+use Rattle.hub_trail.proofs.Vocabulary.{entries_of, is_on_there, follow_append}
+use Rattle.std.proofs.Common.{arith}
+use Rattle.std.specs.Prelude.{◌^◌}
 use Rattle.std.proofs.lemmas.Bool.Decides.{nat_tests}
-use Rattle.std.proofs.lemmas.List.{reverse-append}
 use Rattle.std.proofs.lemmas.List.Folds.{list_any-append}
-use Rattle.acl.specs.declared.act.Act.{Act}
 use Rattle.acl.specs.declared.act.Act.TheVariants as act
-use Rattle.acl.specs.declared.leaders.Edition.{Edition}
-use Rattle.acl.specs.declared.user_id.UserId.{UserId}
-use Rattle.acl.specs.History.{History, followed_by, is_open, open_count}
+use Rattle.acl.specs.History.{open_count}
 use Rattle.command_lang.specs.declared.command.Command.{Command as Order}
-use Rattle.command_lang.specs.declared.fault.ParseFault.{ParseFault}
-use Rattle.command_lang.specs.Relation.{read_line}
-use Rattle.keys.specs.Grammar.{Item, typed, bound, line}
-use Rattle.session.specs.refusal.Check.{Check}
 use Rattle.session.specs.event.Reason.TheVariants as reason
-use Rattle.session.specs.event.StatusMessage.{StatusMessage}
-use Rattle.session.specs.refusal.Refusal.{Refusal}
-use Rattle.session.specs.refusal.Verdict.{Verdict}
-use Rattle.session.specs.Trace.{EventValue, Reply}
 use Rattle.session.specs.Trace as trace
-use Rattle.session.specs.Sound.{Rises, AreFit, client_serials}
-use Rattle.session.specs.Tables.{Tables, Window, Client, fresh, client_at, with_client, focused, is_in_focus}
-use Rattle.session.specs.Naming.{lowest, free_number}
-use Rattle.session.specs.Lines.{caller_of, line_caller}
-use Rattle.session.specs.Checks.{passes, checks, first_fault, verdicts}
-use Rattle.session.specs.Deeds.{Deed, Answer, changing, parts, closes}
-use Rattle.session.specs.Commands.{does}
-use Rattle.session.specs.Keying.{items_behind, typed_bytes, command_item, taken}
-use Rattle.session.specs.Outcomes.{Outcome, finished, refused, done, reply_of, left_acts_of, left_acts}
-use Rattle.session.specs.Events.{outcome}
-use Rattle.session.specs.Comings.{attaches, new_client, open_checks, opens, new_window, has_place, outputs}
-use Rattle.session.specs.Answering.{typing_verdicts, keyed, with_listed, message_of, by_line, ordered, Ordered}
-use Rattle.session.specs.Answering.{reading, types, unsaid, keys_outcome}
-use Rattle.session.specs.Run.{IsStep, IsRun, IsRunFrom, tables_from}
-use Rattle.session.proofs.ActsOfMoves.{has, has_row}
-use Rattle.session.proofs.Doing.{Either}
-use Rattle.session.proofs.Showing.{at_there, number_there, lowest_there}
-use Rattle.session.proofs.FitCommands.{Holds}
-use Rattle.session.proofs.Lists.{all_append, and_first}
-use Rattle.session.proofs.Moving.{serials}
-use Rattle.session.proofs.Staying.{run_fit, fresh_fit}
-use Rattle.session.proofs.Unread.{typing_clients}
+use Rattle.session.specs.Sound.{client_serials}
+use Rattle.session.specs.Naming.{free_number}
+use Rattle.session.specs.Comings.{has_place, outputs}
+use Rattle.session.specs.Answering.{unsaid}
+use Rattle.session.proofs.Lists.{and_first}
 use Rattle.session.proofs.Outcomes as outcomes
-use Rattle.hub_trail.specs.declared.kept.Kept.{Kept}
-use Rattle.hub_trail.specs.Trails.{Entry}
-use Rattle.hub_trail.specs.Legal.{acts_after}
-use Rattle.hub_trail.specs.Filing.{kept_of, entry_of, filed, entries_of}
 use Rattle.rights.specs.Acts.{is_client}
-use Rattle.hub_trail.specs.Judging.{is_on_there, AreJudgeable}
+use Rattle.hub_trail.specs.Judging.{AreJudgeable}
 use Rattle.hub_trail.proofs.Runs.{Named, IsJudged, judged}
-use Rattle.rights.proofs.Running.{follow_append}
 use Rattle.hub_trail.proofs.Following.{is_free, AllFree, free_follow}
 use Rattle.hub_trail.proofs.Naming.{OpenIs, there_open, fit_holds, same_holds}
 use Rattle.hub_trail.proofs.Seeing.{SeeThere, verdicts_see, checks_see, typed_see}

@@ -1,37 +1,21 @@
 -- Facts of the verdicts of checks, and of the first check that fails.
-use Rattle.std.proofs.Common.{◌≡◌, ℕ, Bool, true, false, not, List, [], ◌∷◌, Option, Some, None, Err, refl, subst, sym}
-use Rattle.std.specs.Prelude.{if◌then◌else◌}
-use Rattle.std.specs.List.{AllByRecursion, list_all}
-use Rattle.std.specs.Option.{option_map}
-use Rattle.std.proofs.lemmas.Bool.{and_from, eq-eqb, both_ways}
-use Rattle.acl.specs.declared.user_id.UserId.{UserId}
-use Rattle.acl.specs.declared.bits.Bit.{Bit}
-use Rattle.acl.specs.declared.bits.Bit.TheVariants.{Read, Write, Execute}
-use Rattle.acl.specs.declared.act.Object.{Object}
+use Rattle.hub_trail.proofs.Vocabulary.{◌≡◌, ℕ, Bool, true, false, not, List, [], ◌∷◌, Option, Some, None, Err, refl}
+use Rattle.hub_trail.proofs.Vocabulary.{subst, sym, if◌then◌else◌, AllByRecursion, list_all, option_map, and_from}
+use Rattle.hub_trail.proofs.Vocabulary.{eq-eqb, both_ways, UserId, Bit, Read, Write, Execute, Object, same_user}
+use Rattle.hub_trail.proofs.Vocabulary.{same_bit, same_user-refl, stops_nobody_but, Check, Needs, Refusal, NoWindow}
+use Rattle.hub_trail.proofs.Vocabulary.{Verdict, Tables, Window, may_in, holder_in, Caller, needs, verdicts}
+use Rattle.hub_trail.proofs.Vocabulary.{first_fault, checks, typing_checks, where_needed, window_checks, is_plain}
+use Rattle.hub_trail.proofs.Vocabulary.{all_append, Kept, IsTrue, failed, user_of, CarriesFailed, IsDenied}
 use Rattle.acl.specs.declared.act.Object.TheVariants as object
-use Rattle.acl.specs.Same.{same_user, same_bit, index_of_command}
-use Rattle.acl.proofs.StandsForLemmas.{same_user-refl}
-use Rattle.writelock.specs.LockTable.{stops_nobody_but}
+use Rattle.acl.specs.Same.{index_of_command}
 use Rattle.command_lang.specs.declared.command.Command.{Command}
-use Rattle.session.specs.refusal.Check.{Check}
 use Rattle.session.specs.refusal.Check.TheVariants.{Right as right, Unlocked as unlocked, Must as must}
-use Rattle.command_lang.specs.declared.needs.Needs.{Needs}
-use Rattle.session.specs.refusal.Refusal.{Refusal}
-use Rattle.session.specs.refusal.Refusal.TheVariants.{EntryDenied, LockDenied, NoWindow}
-use Rattle.session.specs.refusal.Verdict.{Verdict}
+use Rattle.session.specs.refusal.Refusal.TheVariants.{EntryDenied, LockDenied}
 use Rattle.session.specs.refusal.Verdict.TheVariants as verdict
-use Rattle.session.specs.Tables.{Tables, Window}
-use Rattle.session.specs.Rights.{may_in, holder_in}
 use Rattle.session.specs.Denials.{entry_denial, lock_denial, denied_on}
-use Rattle.session.specs.Lines.{Caller}
-use Rattle.command_lang.specs.Needs.{needs}
-use Rattle.session.specs.Checks.{verdicts, first_fault, checks, typing_checks, where_needed, window_checks}
-use Rattle.session.proofs.Doing.{is_plain}
-use Rattle.session.proofs.Lists.{all_append}
-use Rattle.hub_trail.specs.declared.kept.Kept.{Kept}
 use Rattle.hub_trail.specs.declared.kept.Kept.TheVariants as kept
 use Rattle.hub_trail.specs.Trails.{Ending}
-use Rattle.hub_trail.specs.Legal.{IsTrue, passes, failed, user_of, is_denial, is_named, is_of, CarriesFailed, IsDenied}
+use Rattle.hub_trail.specs.Legal.{passes, is_denial, is_named, is_of}
 
 -- each verdict of checks is true
 abbrev pub AreTrue : Tables → List Verdict → Type 0

@@ -1,36 +1,23 @@
 -- The words of a line name the users, bits and objects of the acts that they give.
-use Rattle.std.proofs.Common.{◌≡◌, ℕ, Bool, true, false, List, [], ◌∷◌, ◌++◌, Option, Some, None, refl}
-use Rattle.std.proofs.Common.{ap, ◌∙◌, subst, map, filter}
-use Rattle.std.specs.Prelude.{if◌then◌else◌, ◌&&◌, nat_eq, not}
-use Rattle.std.specs.List.{AllByRecursion, list_any}
-use Rattle.std.specs.Option.{option_map, option_map_or, option_or, option_and_then}
+use Rattle.hub_trail.proofs.Vocabulary.{◌≡◌, ℕ, Bool, true, false, List, [], ◌∷◌, ◌++◌, Option, Some, None, refl, ap}
+use Rattle.hub_trail.proofs.Vocabulary.{◌∙◌, subst, map, filter, if◌then◌else◌, ◌&&◌, nat_eq, not, AllByRecursion}
+use Rattle.hub_trail.proofs.Vocabulary.{list_any, option_map, option_map_or, option_or, option_and_then, UserId, Bit}
+use Rattle.hub_trail.proofs.Vocabulary.{Read, Write, Execute, BitChange, Act, Object, CommandName, among, same_user}
+use Rattle.hub_trail.proofs.Vocabulary.{same_bit, named_by, change_acts, name_acts, user_acts, sets_on, with_name}
+use Rattle.hub_trail.proofs.Vocabulary.{add_acts, known_acts, new_acts, names_sets, name_sets, added, names_user}
+use Rattle.hub_trail.proofs.Vocabulary.{same_user-refl, command_named, all_names, Command, Window, Tables, is_wide}
+use Rattle.hub_trail.proofs.Vocabulary.{wide_objects, item_objects, objects_of, every_window, every_command}
+use Rattle.hub_trail.proofs.Vocabulary.{window_named, itself, both_true, all_weaken, all_append, all_map, all_of}
+use Rattle.hub_trail.proofs.Vocabulary.{all_passed, changes, items_say}
 use Prim.Native.Char.{code}
-use Rattle.acl.specs.declared.user_id.UserId.{UserId}
-use Rattle.acl.specs.declared.bits.Bit.{Bit}
-use Rattle.acl.specs.declared.bits.Bit.TheVariants.{Read, Write, Execute}
-use Rattle.acl.specs.declared.bits.BitChange.{BitChange}
-use Rattle.acl.specs.declared.act.Act.{Act}
 use Rattle.acl.specs.declared.act.Act.TheVariants as act
-use Rattle.acl.specs.declared.act.Object.{Object}
 use Rattle.acl.specs.declared.act.Object.TheVariants as object
-use Rattle.acl.specs.declared.command_name.CommandName.{CommandName}
-use Rattle.acl.specs.History.{among}
-use Rattle.acl.specs.Same.{same_user, same_bit, same_command}
-use Rattle.acl.specs.Names.{named_by}
-use Rattle.acl.specs.Commands.{change_acts, name_acts, user_acts, sets_on, with_name, add_acts, known_acts, new_acts}
-use Rattle.acl.specs.Commands.{names_sets, name_sets, added, names_user}
+use Rattle.acl.specs.Same.{same_command}
 use Rattle.acl.specs.Commands as acl
-use Rattle.acl.proofs.StandsForLemmas.{same_user-refl}
 use Rattle.command_lang.specs.declared.command.Command.TheVariants as command
 use Rattle.command_lang.specs.declared.command.Users.TheVariants as users
-use Rattle.command_lang.specs.Names.{command_named, all_names}
-use Rattle.session.specs.Trace.{Command}
-use Rattle.session.specs.Tables.{Window, Tables}
-use Rattle.session.specs.Naming.{is_wide, wide_objects, item_objects, objects_of, every_window}
-use Rattle.session.specs.Naming.{every_command, window_named}
-use Rattle.session.proofs.Lists.{itself, both_true, all_weaken, all_append, all_map, all_of, all_passed}
 use Rattle.session.proofs.GuestsLeaving.{or_early, or_late}
-use Rattle.hub_trail.specs.Saying.{same_value, changes, item_says, items_say}
+use Rattle.hub_trail.specs.Saying.{same_value, item_says}
 
 -- whether an item names the object, if that is a command
 abbrev item_names : List ℕ → Object → Bool

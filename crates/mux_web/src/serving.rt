@@ -1,6 +1,6 @@
 //! `mux-web`, from its arguments to its status.
 
-use program_words::{of_web, tell};
+use program_words::{SystemError, of_web, tell};
 use server_system::{Host, SocketPath};
 use std::io::{ErrorKind, Write};
 use std::net::{IpAddr, Ipv4Addr, Ipv6Addr, SocketAddr};
@@ -65,7 +65,7 @@ fn listeners_at<R: Host>(
         Ok(listener) => listeners.push(listener)?,
         Err(error) => {
             let name = String::from_str(rt.alloc(), options.listen)?;
-            return Err(WebFault::NotMade(name, error));
+            return Err(WebFault::NotMade(name, SystemError(error)));
         }
     }
     let Some(other) = other_loopback(address) else {
@@ -75,7 +75,7 @@ fn listeners_at<R: Host>(
         Ok(listener) => listeners.push(listener)?,
         Err(error) if error.kind() == ErrorKind::AddrNotAvailable => {}
         Err(error) if error.raw_os_error() == Some(EAFNOSUPPORT) => {}
-        Err(error) => return Err(WebFault::Shared(other, error)),
+        Err(error) => return Err(WebFault::Shared(other, SystemError(error))),
     }
     Ok(listeners)
 }

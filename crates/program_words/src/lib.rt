@@ -1,4 +1,4 @@
-//! The programs' arguments, with their help; what the numbers of refusals mean; and the lines of a setup
+//! The programs' arguments, with their help; what the numbers of refusals mean; errors of the system; and the lines of a setup
 //! file: the commands with which its owner begins a session.
 #![tactic(auto)]
 
@@ -16,7 +16,7 @@ pub use mux::of_client;
 pub use mux_trail::of_trail;
 pub use mux_web::of_web;
 pub use muxd::of_server;
-pub use refusals::{RefusedLine, explain};
+pub use refusals::{RefusedLine, SystemError, explain};
 pub use setup::{SetupFault, SetupLine, read_setup, speech_in};
 use std::alloc::Global;
 pub use table::{given, not_given, tell};

@@ -1,6 +1,6 @@
-//! What the numbers of refusals mean.
+//! What the numbers of refusals mean, and what an error of the system is called.
 
-use std::io::Write;
+use std::io::{ErrorKind, Write};
 use std::{fmt, io};
 
 // Every number that a refusal may have: of rights, of windows, of regions, and of a line.
@@ -85,6 +85,21 @@ impl fmt::Display for RefusedLine<'_, '_> {
             None => Ok(()),
             Some((why, None)) => write!(f, " ({why})"),
             Some((why, Some(word))) => write!(f, " ({why}: {word})"),
+        }
+    }
+}
+
+/// An error of the system. Its text has no number if the error has a plain name.
+#[derive(Clone, Copy, Debug, Drop)]
+pub struct SystemError(pub io::Error);
+
+impl fmt::Display for SystemError {
+    fn fmt<W: fmt::Write>(&self, f: &mut fmt::Formatter<W>) -> fmt::Result {
+        let SystemError(error) = *self;
+        match error.kind() {
+            ErrorKind::NotFound => f.write_str("no such file"),
+            ErrorKind::Other | ErrorKind::Uncategorized => write!(f, "{error}"),
+            kind => write!(f, "{kind}"),
         }
     }
 }

@@ -1,3 +1,4 @@
+pub mod Vocabulary
 pub mod Rows
 pub mod Standing
 pub mod Reading

@@ -1,12 +1,7 @@
 -- Acts that set bits of one user, one object after another.
-use Rattle.std.proofs.Common.{◌≡◌, ◌∙◌, ◌∷◌, ◌++◌, [], List, ap, sym, append-nil}
-use Rattle.std.specs.List.{AllByRecursion}
+use Rattle.rights.proofs.Vocabulary.{◌≡◌, ◌∙◌, ◌∷◌, ◌++◌, [], List, ap, sym, append-nil, AllByRecursion, Act, Object}
+use Rattle.rights.proofs.Vocabulary.{BitChange, UserId, sets, sets_on}
 use Rattle.std.proofs.lemmas.List.{append_assoc}
-use Rattle.acl.specs.declared.act.Act.{Act}
-use Rattle.acl.specs.declared.act.Object.{Object}
-use Rattle.acl.specs.declared.bits.BitChange.{BitChange}
-use Rattle.acl.specs.declared.user_id.UserId.{UserId}
-use Rattle.acl.specs.Commands.{sets, sets_on}
 
 pub all_more : {X : Type 0} (P : X → Type 0) (xs : List X) (x : X) → AllByRecursion P xs → P x
     → AllByRecursion P (xs ++ x ∷ [])

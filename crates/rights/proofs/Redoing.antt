@@ -1,25 +1,17 @@
 -- What a list command of one name, bit and object gives.
-use Rattle.std.proofs.Common.{◌≡◌, ◌∙◌, ◌∷◌, ◌++◌, [], List, Bool, true, false, not, ◌&&◌, ◌||◌, refl}
-use Rattle.std.proofs.Common.{Option, Some, None, Ok}
-use Rattle.std.proofs.Common.{ap, sym, subst, is_none, if◌then◌else◌, append-nil}
+use Rattle.rights.proofs.Vocabulary.{◌≡◌, ◌∙◌, ◌∷◌, ◌++◌, [], List, Bool, true, false, not, ◌&&◌, ◌||◌, refl, Option}
+use Rattle.rights.proofs.Vocabulary.{Some, None, ap, sym, subst, is_none, if◌then◌else◌, append-nil, false≢true}
+use Rattle.rights.proofs.Vocabulary.{IfOk-weaker, Act, Known, Set, Object, Bit, BitChange, Edition, UserId, Answers}
+use Rattle.rights.proofs.Vocabulary.{chosen_leader, sets, History, among, followed_by, users_of, leader_in, Rights}
+use Rattle.rights.proofs.Vocabulary.{Follows, Redoes, StandsAfter}
+use Rattle.std.proofs.Common.{Ok}
 use Rattle.std.specs.Prelude.{Result, OnOk}
 use Rattle.std.specs.Option.{option_or}
 use Rattle.std.specs.declared.alloc.AllocError.{AllocError}
-use Rattle.std.proofs.lemmas.Bool.{false≢true}
-use Rattle.std.proofs.lemmas.Result.{IfOk-weaker}
-use Rattle.acl.specs.declared.act.Act.{Act}
-use Rattle.acl.specs.declared.act.Act.TheVariants.{Known, Set}
-use Rattle.acl.specs.declared.act.Object.{Object}
-use Rattle.acl.specs.declared.bits.Bit.{Bit}
-use Rattle.acl.specs.declared.bits.BitChange.{BitChange}
-use Rattle.acl.specs.declared.leaders.Edition.{Edition}
 use Rattle.acl.specs.declared.entries.AclFault.{AclFault}
-use Rattle.acl.specs.declared.user_id.UserId.{UserId}
-use Rattle.acl.specs.Commands.{Answers, change_acts, chosen_leader, sets, user_acts}
-use Rattle.acl.specs.History.{History, among, followed_by, users_of}
-use Rattle.rights.specs.Acts.{can_follow, leader_in}
-use Rattle.rights.specs.declared.rights.Rights.{Rights}
-use Rattle.rights.specs.Following.{Follows, Redoes, StandsAfter, Tells}
+use Rattle.acl.specs.Commands.{change_acts, user_acts}
+use Rattle.rights.specs.Acts.{can_follow}
+use Rattle.rights.specs.Following.{Tells}
 
 pub redo : (old new : Rights) (done : Result (Unit {0}) AclFault) (result : Result Bool AllocError) (act : Act)
     → Tells done result

@@ -1,15 +1,11 @@
 -- Rows of clients, and whose last one goes.
-use Rattle.std.proofs.Common.{◌≡◌, ◌∙◌, ℕ, Bool, true, false, not, ◌&&◌, ◌||◌, List, [], ◌∷◌, Option, Some, None, refl}
-use Rattle.std.proofs.Common.{ap, sym, subst, if◌then◌else◌}
-use Rattle.std.specs.Prelude.{filter, ◌==◌}
-use Rattle.std.specs.List.{list_any}
-use Rattle.std.specs.Option.{option_map_or}
-use Rattle.std.proofs.lemmas.Bool.{false≢true, eqb-true}
-use Rattle.acl.specs.declared.user_id.UserId.{UserId}
-use Rattle.acl.specs.Same.{same_user}
+use Rattle.rights.proofs.Vocabulary.{◌≡◌, ◌∙◌, ℕ, Bool, true, false, not, ◌&&◌, ◌||◌, List, [], ◌∷◌, Option, Some, None}
+use Rattle.rights.proofs.Vocabulary.{refl, ap, sym, subst, if◌then◌else◌, ◌==◌, list_any, option_map_or, false≢true}
+use Rattle.rights.proofs.Vocabulary.{eqb-true, UserId, same_user, Differ, last_in}
+use Rattle.std.specs.Prelude.{filter}
 use Rattle.acl.proofs.StandsForLemmas.{same_user-true}
 use Rattle.acl.proofs.FollowingLemmas.{same_user-sym}
-use Rattle.rights.specs.Clients.{Differ, user_in, has_other, last_in, unless_other}
+use Rattle.rights.specs.Clients.{user_in, has_other, unless_other}
 
 abbrev pub Row : Type 0
 Row = ℕ × UserId

@@ -1,26 +1,10 @@
 -- Acts that set bits of one user on objects whose locks nobody holds.
-use Rattle.std.proofs.Common.{◌≡◌, ◌∙◌, ◌∷◌, ◌++◌, [], List, Bool, true, false, Some, refl, ap, sym, subst, is_none}
-use Rattle.std.specs.Prelude.{All, length}
-use Rattle.std.specs.List.{AllByRecursion}
-use Rattle.std.proofs.lemmas.List.Elements.{All-cons, All-nil}
-use Rattle.acl.specs.declared.act.Act.{Act}
-use Rattle.acl.specs.declared.act.Act.TheVariants.{Set}
-use Rattle.acl.specs.declared.act.Object.{Object}
-use Rattle.acl.specs.declared.act.Object.TheVariants.{Window, Command}
-use Rattle.acl.specs.declared.bits.Bit.{Bit}
-use Rattle.acl.specs.declared.bits.Bit.TheVariants.{Read, Write, Execute}
-use Rattle.acl.specs.declared.bits.BitChange.{BitChange}
-use Rattle.acl.specs.declared.leaders.Edition.{Edition}
-use Rattle.acl.specs.declared.user_id.UserId.{UserId}
-use Rattle.acl.specs.Commands.{sets, sets_on, known_name_fault}
-use Rattle.acl.specs.History.{History, followed_by, users_of, there, open_count}
-use Rattle.writelock.specs.declared.locks.Locks.{Locks}
-use Rattle.writelock.specs.Holding.{clients_of}
-use Rattle.writelock.specs.LockTable.{LocksStandFor}
-use Rattle.acl.proofs.FollowingLemmas.{followed_by-append}
-use Rattle.rights.specs.Acts.{CanFollow}
-use Rattle.rights.specs.Runs.{IsUnlocked, is_unheld}
-use Rattle.rights.specs.Following.{is_nameable}
+use Rattle.rights.proofs.Vocabulary.{◌≡◌, ◌∙◌, ◌∷◌, ◌++◌, [], List, Bool, true, false, Some, refl, ap, sym, subst}
+use Rattle.rights.proofs.Vocabulary.{is_none, All, length, AllByRecursion, All-cons, All-nil, Act, Set, Object, Window}
+use Rattle.rights.proofs.Vocabulary.{Command, Bit, Read, Write, Execute, BitChange, Edition, UserId, sets, sets_on}
+use Rattle.rights.proofs.Vocabulary.{known_name_fault, History, followed_by, users_of, there, open_count, Locks}
+use Rattle.rights.proofs.Vocabulary.{clients_of, LocksStandFor, followed_by-append, CanFollow, IsUnlocked, is_unheld}
+use Rattle.rights.proofs.Vocabulary.{is_nameable}
 use Rattle.rights.proofs.Redoing.{both}
 use Rattle.rights.proofs.Unfreed.{leaves_locks, locks_left}
 

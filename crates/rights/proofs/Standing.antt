@@ -1,19 +1,8 @@
 -- What rights stand for after one act more.
-use Rattle.std.proofs.Common.{◌≡◌, ◌∙◌, ◌∷◌, Bool, true, false, ◌||◌, Some, None, refl, ap, sym, subst, is_some}
-use Rattle.std.proofs.Common.{if◌then◌else◌}
-use Rattle.std.proofs.lemmas.Bool.{false≢true}
-use Rattle.acl.specs.declared.act.Act.{Act}
-use Rattle.acl.specs.declared.leaders.Edition.{Edition}
-use Rattle.acl.specs.declared.user_id.UserId.{UserId}
+use Rattle.rights.proofs.Vocabulary.{◌≡◌, ◌∙◌, ◌∷◌, Bool, true, false, ◌||◌, Some, None, refl, ap, sym, subst, is_some}
+use Rattle.rights.proofs.Vocabulary.{if◌then◌else◌, false≢true, Act, Edition, UserId, History, open_count, Table}
+use Rattle.rights.proofs.Vocabulary.{StandsFor, StandsFor-aside, clients_of, LocksStandFor, Rights, StandsAfter, Differ}
 use Rattle.acl.specs.Commands.{IsAside}
-use Rattle.acl.specs.History.{History, open_count}
-use Rattle.acl.specs.Table.{Table, StandsFor}
-use Rattle.acl.proofs.AsideLemmas.{StandsFor-aside}
-use Rattle.writelock.specs.Holding.{clients_of}
-use Rattle.writelock.specs.LockTable.{LocksStandFor}
-use Rattle.rights.specs.declared.rights.Rights.{Rights}
-use Rattle.rights.specs.Following.{StandsAfter}
-use Rattle.rights.specs.Clients.{Differ}
 
 -- an act that leaves clients and the number of windows
 pub stands_on : (old new : Rights) (edition : Edition) (owner : UserId) (h : History) (act : Act)

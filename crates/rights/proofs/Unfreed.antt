@@ -1,21 +1,12 @@
 -- Locks that an act which sets a bit leaves as they are.
-use Rattle.std.proofs.Common.{◌≡◌, ◌∙◌, ◌∷◌, [], List, ◌&&◌, ◌||◌, ℕ, Bool, true, false, not, Option, Some, None, refl}
-use Rattle.std.proofs.Common.{ap, sym, is_none, unwrap_or, if◌then◌else◌}
-use Rattle.std.specs.Prelude.{◌==◌}
-use Rattle.std.specs.List.{list_any}
-use Rattle.std.proofs.lemmas.Bool.{false≢true, eqb-true}
-use Rattle.acl.specs.declared.act.Act.TheVariants.{Set}
-use Rattle.acl.specs.declared.act.Object.{Object}
-use Rattle.acl.specs.declared.act.Object.TheVariants.{Window, Command}
-use Rattle.acl.specs.declared.bits.Bit.{Bit}
-use Rattle.acl.specs.declared.bits.Bit.TheVariants.{Read, Write, Execute}
-use Rattle.acl.specs.declared.leaders.Edition.{Edition}
-use Rattle.acl.specs.declared.user_id.UserId.{UserId}
-use Rattle.acl.specs.History.{History, decided, has, may, leaders_of, is_open}
-use Rattle.acl.specs.Same.{same_user, same_bit, same_object}
-use Rattle.writelock.specs.declared.locks.Locks.{Locks}
-use Rattle.writelock.specs.Holding.{ends, holder, kept, mode_of}
-use Rattle.writelock.specs.LockTable.{LocksStandFor}
+use Rattle.rights.proofs.Vocabulary.{◌≡◌, ◌∙◌, ◌∷◌, [], List, ◌&&◌, ◌||◌, ℕ, Bool, true, false, not, Option, Some, None}
+use Rattle.rights.proofs.Vocabulary.{refl, ap, sym, is_none, if◌then◌else◌, ◌==◌, list_any, false≢true, eqb-true, Set}
+use Rattle.rights.proofs.Vocabulary.{Object, Window, Command, Bit, Read, Write, Execute, Edition, UserId, History, may}
+use Rattle.rights.proofs.Vocabulary.{leaders_of, is_open, same_user, Locks, holder, mode_of, LocksStandFor}
+use Rattle.std.proofs.Common.{unwrap_or}
+use Rattle.acl.specs.History.{decided, has}
+use Rattle.acl.specs.Same.{same_bit, same_object}
+use Rattle.writelock.specs.Holding.{ends, kept}
 use Rattle.writelock.proofs.HolderLemmas.{able-kept}
 
 -- whether setting a bit leaves each lock as it is: w is taken on no window whose lock is held

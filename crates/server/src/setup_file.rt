@@ -1,7 +1,7 @@
 //! The file of the owner's first commands, and its faults.
 
-use program_words::{RefusedLine, SetupFault, SetupLine, read_setup};
-use server_system::{Host, ServeFault, SystemError};
+use program_words::{RefusedLine, SetupFault, SetupLine, SystemError, read_setup};
+use server_system::{Host, ServeFault};
 use std::alloc::Global;
 use std::{fs, str};
 

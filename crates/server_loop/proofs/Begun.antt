@@ -1,16 +1,12 @@
 -- Connections that are told to go, and the events of first messages.
-use Rattle.std.proofs.Common.{◌≡◌, ℕ, Some, ap, subst, refl}
+use Rattle.server_loop.proofs.Vocabulary.{◌≡◌, ℕ, Some, ap, subst, refl, Why, EventValue, changed, Shown, Dismisses}
+use Rattle.server_loop.proofs.Vocabulary.{state_of, Loop}
 use Rattle.attach_proto.specs.declared.message.Message.{Message}
 use Rattle.attach_proto.specs.declared.message.Message.TheVariants as message
-use Rattle.attach_proto.specs.declared.why.Why.{Why}
-use Rattle.session.specs.Trace.{Attach, Command, EventValue, Open}
-use Rattle.server_connections.specs.Changing.{changed, told_to_go}
+use Rattle.session.specs.Trace.{Attach, Command, Open}
+use Rattle.server_connections.specs.Changing.{told_to_go}
 use Rattle.server_steps.specs.Meaning.{event_of}
-use Rattle.server_users.specs.declared.user.Shown.{Shown}
-use Rattle.server_loop.specs.Beginning.{Dismisses}
 use Rattle.server_loop.specs.Naming.{IsOf}
-use Rattle.server_loop.specs.Submitting.{state_of}
-use Rattle.server_loop.specs.declared.own.Loop.{Loop}
 
 -- the event of a first message names the user who showed the token in it
 pub names_shown : (shown : Shown) (m : Message) (event : EventValue) → Some event ≡ event_of shown m

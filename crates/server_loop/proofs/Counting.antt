@@ -1,17 +1,15 @@
 -- When the entries of users end, after a step was counted or had to wait.
-use Rattle.std.proofs.Common.{◌≡◌, ◌∙◌, ◌/◌, ℕ, Bool, true, Option, Some, ap, subst}
+use Rattle.server_loop.proofs.Vocabulary.{◌≡◌, ◌∙◌, ◌/◌, ℕ, Bool, true, Option, Some, ap, subst, as_nanos, UserId}
+use Rattle.server_loop.proofs.Vocabulary.{EventValue, State, Submits, Stay, cost_of}
 use Rattle.std.specs.Prelude.{option_map, unwrap_or}
-use Rattle.std.specs.Duration.{as_nanos}
 use Rattle.std.specs.declared.time.Duration.{Duration}
-use Rattle.acl.specs.declared.user_id.UserId.{UserId}
-use Rattle.session.specs.Trace.{EventValue}
 use Rattle.server_seat.specs.declared.seat.SessionSeat.{Ghosts as Calls}
 use Rattle.server_steps.specs.Settling.{came_of}
 use Rattle.server_users.specs.Rationed.{MayCause, end_of, later_end}
 use Rattle.server_users.specs.declared.allowance.Outcome.{Outcome}
 use Rattle.server_users.specs.declared.ration.Rations.{Rations}
-use Rattle.server_loop.specs.Submitting.{Answer, State, Submits}
-use Rattle.server_loop.specs.Trying.{EndsAt, IsTried, Stay, cost_of, end_at}
+use Rattle.server_loop.specs.Submitting.{Answer}
+use Rattle.server_loop.specs.Trying.{EndsAt, IsTried, end_at}
 
 -- the entries of the others end as before
 abbrev pub Others : UserId → Rations → Rations → Type 0

@@ -1,13 +1,12 @@
 -- The users who typed what waits for a window, one by one.
-use Rattle.std.proofs.Common.{◌≡◌, ◌<◌, ◌≤◌, ◌+◌, ◌-◌, ℕ, zero, suc, Option, Some, refl, subst, arith, inl, inr}
-use Rattle.acl.specs.declared.user_id.UserId.{UserId}
-use Rattle.server_connections.specs.declared.peer.Role.{Role}
+use Rattle.server_loop.proofs.Vocabulary.{◌≡◌, ◌<◌, ◌+◌, ◌-◌, ℕ, Option, Some, refl, subst, arith, inl, inr, UserId}
+use Rattle.server_loop.proofs.Vocabulary.{Role, State, peer_at, DropsAfter, DropsTyped}
+use Rattle.std.proofs.Common.{◌≤◌, zero, suc}
 use Rattle.server_connections.specs.declared.peer.Role.TheVariants as role
 use Rattle.server_seat.specs.declared.seat.SessionSeat.{Ghosts as Calls}
 use Rattle.server_sending.specs.Typists.{HasNoTypist, IsNextTypist}
 use Rattle.server_steps.specs.Sending.{frames_at}
-use Rattle.server_loop.specs.Submitting.{State, peer_at}
-use Rattle.server_loop.specs.Writing.{DropsAfter, DropsOf, DropsTyped}
+use Rattle.server_loop.specs.Writing.{DropsOf}
 
 module _ {S J : Type 0} (calls : Calls J) (key window : ℕ) where
   pub dropped_next : (end counter : ℕ) (last : Option UserId) (user : UserId) (old mid new : State S J)

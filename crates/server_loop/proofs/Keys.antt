@@ -1,14 +1,12 @@
 -- Keys that wait, by cases.
-use Rattle.std.proofs.Common.{◌≡◌, ◌||◌, ℕ, Bool, true, false, not, Option, Some, None, refl, sym, subst}
+use Rattle.server_loop.proofs.Vocabulary.{◌≡◌, ◌||◌, ℕ, Bool, true, false, not, Option, Some, None, refl, sym, subst}
+use Rattle.server_loop.proofs.Vocabulary.{false≢true, IfBool, State, peer_at, with_peer, MustWait}
 use Rattle.std.proofs.Common.{if◌then◌else◌}
-use Rattle.std.proofs.lemmas.Bool.{false≢true}
 use Rattle.std.specs.Prelude.{MatchOption}
 use Rattle.server_seat.specs.declared.seat.SessionSeat.{Ghosts as Calls}
 use Rattle.server_steps.specs.Typing.{freed_keys, held_keys, target_at}
 use Rattle.server_steps.specs.declared.typing.Target.{Target}
-use Rattle.server_loop.specs.Leaving.{IfBool}
-use Rattle.server_loop.specs.Submitting.{State, peer_at, with_peer}
-use Rattle.server_loop.specs.Typing.{MustWait, Stops, WaitsFor}
+use Rattle.server_loop.specs.Typing.{Stops, WaitsFor}
 use Rattle.server_loop.proofs.Telling.{if_false, if_true}
 
 pub match_none : {A : Type 0} (o : Option A) (X : Type 0) (Y : A → Type 0) → o ≡ None → X → MatchOption o X Y

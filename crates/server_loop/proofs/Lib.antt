@@ -1,3 +1,4 @@
+pub mod Vocabulary
 mod Begun
 mod Counting
 mod Drawn

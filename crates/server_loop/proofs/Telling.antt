@@ -1,11 +1,9 @@
 -- Cases, and effects one by one.
-use Rattle.std.proofs.Common.{◌≡◌, ◌∙◌, ◌<◌, ◌+◌, ◌∷◌, ℕ, Bool, true, false, List, length, drop, get_or, ap, refl, sym, subst}
-use Rattle.std.proofs.lemmas.Bool.{false≢true}
+use Rattle.server_loop.proofs.Vocabulary.{◌≡◌, ◌∙◌, ◌<◌, ◌+◌, ℕ, Bool, true, false, List, drop, ap, refl, sym, subst}
+use Rattle.server_loop.proofs.Vocabulary.{false≢true, Hands, HandsAll, Sent, IfBool, State}
+use Rattle.std.proofs.Common.{◌∷◌, length, get_or}
 use Rattle.std.proofs.lemmas.List.{drop_more}
 use Rattle.server_seat.specs.declared.seat.SessionSeat.{Ghosts as Calls}
-use Rattle.server_loop.specs.Handing.{Hands, HandsAll, Sent}
-use Rattle.server_loop.specs.Leaving.{IfBool}
-use Rattle.server_loop.specs.Submitting.{State}
 
 pub if_true : (b : Bool) (A B : Type 0) → b ≡ true → A → IfBool b A B
 if_true true A B is a = a

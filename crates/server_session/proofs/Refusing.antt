@@ -2,9 +2,9 @@
 use Rattle.std.proofs.Common.{◌≡◌, refl}
 use Rattle.std.specs.Prelude.{IsSome}
 use Rattle.hub.specs.Filing.{kept_of}
-use Rattle.hub_ledger.specs.Faults.{foreign, full}
-use Rattle.hub_ledger.specs.declared.ledger.answer.HubFault.{HubFault}
-use Rattle.hub_ledger.specs.declared.ledger.answer.HubFault.TheVariants as hub
+use Rattle.hub.specs.Faults.{foreign, full}
+use Rattle.hub.specs.answer.HubFault.{HubFault}
+use Rattle.hub.specs.answer.HubFault.TheVariants as hub
 use Rattle.session.specs.Trace.{EventValue}
 use Rattle.server_session.specs.Seating.{IsRefused}
 

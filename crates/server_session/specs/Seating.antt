@@ -3,8 +3,8 @@ use Rattle.std.specs.Prelude.{◌≡◌, ℕ, Bool, Option, Some, None, Result, 
 use Rattle.hub.specs.Filing.{kept_of}
 use Rattle.hub.specs.Seats.{Sitting, Told}
 use Rattle.hub.specs.Trails.{Entry}
-use Rattle.hub_ledger.specs.declared.ledger.answer.HubFault.{HubFault}
-use Rattle.hub_ledger.specs.declared.ledger.answer.HubFault.TheVariants as hub
+use Rattle.hub.specs.answer.HubFault.{HubFault}
+use Rattle.hub.specs.answer.HubFault.TheVariants as hub
 use Rattle.session.specs.Trace.{EventValue}
 use Rattle.server_seat.specs.declared.seat.SeatAnswer.{SeatAnswer}
 use Rattle.server_seat.specs.declared.seat.SeatFault.{SeatFault}

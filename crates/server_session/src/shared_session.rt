@@ -85,7 +85,7 @@ pub trait LoopSession<L: Begun> {
     ghost use Rattle.session.specs.Trace.{EventValue};
     ghost use Rattle.session.specs.event.Effect.{Effect as Effected};
     ghost use Rattle.hub.specs.Seats.{Ruled, Sitting, Told};
-    ghost use Rattle.hub_ledger.specs.declared.ledger.answer.HubFault.{HubFault as Faulted};
+    ghost use Rattle.hub.specs.answer.HubFault.{HubFault as Faulted};
     ghost use Rattle.server_trail.specs.declared.waiting.Stopped.{Stopped as Stop};
     ghost use Rattle.server_users.specs.Entries.{Entry};
 

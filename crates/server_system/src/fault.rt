@@ -1,6 +1,6 @@
 //! What can be wrong, and what to do about it.
 
-use client_words::SystemError;
+use program_words::SystemError;
 use server_trail::JournalFault;
 use server_users::{OpenFolder, UsersFault};
 use std::alloc::{AllocError, AllocFailed, Global};

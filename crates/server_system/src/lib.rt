@@ -11,7 +11,6 @@ mod users_file;
 mod watched;
 mod wired;
 
-pub use client_words::SystemError;
 pub use ending::{Unready, cause_of, is_late, most_new, outcome_of, served, sleep_for};
 pub use fault::ServeFault;
 pub use log::Log;

@@ -6,7 +6,7 @@ ghost use Rattle.server_system.specs.Looking.{AreOf, IsWrong, LooksAt, MayBeTold
 ghost use Rattle.server_system.specs.declared.fault.ServeFault.TheVariants.{NoMemory};
 
 use crate::fault::ServeFault;
-use client_words::SystemError;
+use program_words::SystemError;
 use server_users::{Access, Flaw, OpenFolder, Users, UsersFault, open_folder, own_account};
 use std::alloc::{AllocError, Global};
 use std::fs::Metadata;

@@ -1,20 +1,16 @@
 -- The names on the lines that were read.
-use Rattle.std.proofs.Common.{◌≡◌, ℕ, zero, suc, ◌<◌, ◌++◌, ◌⊎◌, inl}
-use Rattle.std.proofs.Common.{inr, ⊎_elim, Bool, true, false, not, ◌||◌, List, []}
-use Rattle.std.proofs.Common.{◌∷◌, length, get_or, map, refl, sym, ap, ◌∙◌, subst, arith, Some}
-use Rattle.std.specs.Prelude.{All, if◌then◌else◌}
+use Rattle.server_users.proofs.Vocabulary.{◌≡◌, ℕ, zero, suc, ◌<◌, ◌++◌, ◌⊎◌, inl, inr, ⊎_elim, Bool, true, false, List}
+use Rattle.server_users.proofs.Vocabulary.{[], ◌∷◌, length, get_or, map, refl, sym, ap, ◌∙◌, subst, arith, Some}
+use Rattle.server_users.proofs.Vocabulary.{if◌then◌else◌, false≢true, name_of, same_user, UserId, same_user-true}
+use Rattle.server_users.proofs.Vocabulary.{same_user-refl, User, names, entries_of}
+use Rattle.std.proofs.Common.{not, ◌||◌}
+use Rattle.std.specs.Prelude.{All}
 use Rattle.std.specs.List.{Contains, list_any}
-use Rattle.std.proofs.lemmas.Bool.{false≢true}
 use Rattle.std.proofs.lemmas.List.{map-append}
 use Rattle.std.proofs.lemmas.List.Elements.{Contains-append_right, All-nil, All-push, All-head, All-tail}
 use Rattle.indexmap.specs.IndexSet.{insert_key}
-use Rattle.acl.specs.Names.{name_of, named_by}
-use Rattle.acl.specs.Same.{same_user}
-use Rattle.acl.specs.declared.user_id.UserId.{UserId}
-use Rattle.acl.proofs.StandsForLemmas.{same_user-true, same_user-refl}
-use Rattle.server_users.specs.declared.user.User.{User}
-use Rattle.server_users.specs.Entries.{names}
-use Rattle.server_users.specs.Stands.{IsNamed, entries_of}
+use Rattle.acl.specs.Names.{named_by}
+use Rattle.server_users.specs.Stands.{IsNamed}
 use Rattle.server_users.proofs.Lines.{at_head, nothing_has}
 
 abbrev pub ids : List User → List UserId

@@ -1,3 +1,4 @@
+pub mod Vocabulary
 pub mod Known
 pub mod Lines
 pub mod Paying

@@ -1,14 +1,13 @@
 -- A file's lines, one after another.
-use Rattle.std.proofs.Common.{◌≡◌, ℕ, zero, suc, ◌+◌, ◌<◌, List, [], ◌∷◌, ◌++◌, length, drop, refl, sym, ◌∙◌, ap}
-use Rattle.std.proofs.Common.{subst, ◌⊎◌, inl, inr, ⊎_elim, arith, append_assoc, length-append, length-drop}
+use Rattle.server_users.proofs.Vocabulary.{◌≡◌, ℕ, zero, suc, ◌+◌, ◌<◌, List, [], ◌∷◌, ◌++◌, length, refl, sym, ◌∙◌, ap}
+use Rattle.server_users.proofs.Vocabulary.{subst, ◌⊎◌, inl, inr, ⊎_elim, arith, User, names, entry_of, entries_of}
+use Rattle.std.proofs.Common.{drop, append_assoc, length-append, length-drop}
 use Rattle.std.specs.List.{Contains}
 use Rattle.std.proofs.lemmas.List.{append-nil, map-append}
 use Rattle.std.proofs.lemmas.Grind.{flat_map-append}
 use Rattle.std.proofs.lemmas.List.Elements.{Contains-push_cases, Contains-append_right, All-append, All-cons, All-nil}
-use Rattle.server_users.specs.declared.user.User.{User}
-use Rattle.server_users.specs.Entries.{Entry, IsUser, AreUsers, HaveOwnNames, names, spelled, text, IsFileOf}
-use Rattle.server_users.specs.Entries.{EndsLine, IsLine, BreaksAt}
-use Rattle.server_users.specs.Stands.{entry_of, entries_of}
+use Rattle.server_users.specs.Entries.{Entry, IsUser, AreUsers, HaveOwnNames, spelled, text, IsFileOf, EndsLine, IsLine}
+use Rattle.server_users.specs.Entries.{BreaksAt}
 use Rattle.server_users.proofs.Spelled.{one_name}
 
 -- what was read: a line for each user, or the whole file if it lacks the last line feed

@@ -1,12 +1,7 @@
 -- An account that is changed at the place where it is found.
-use Rattle.std.proofs.Common.{◌≡◌, ℕ, Bool, true, false, List, Some, None, set, get_or}
-use Rattle.std.proofs.Common.{ap, sym, subst, ◌∙◌, arith, Option}
-use Rattle.std.specs.Prelude.{unwrap_or, option_map, IfSome, IsTrue}
-use Rattle.acl.specs.Same.{same_user}
-use Rattle.acl.specs.declared.user_id.UserId.{UserId}
-use Rattle.server_users.specs.declared.allowances.Account.{Account}
-use Rattle.server_users.specs.Allowances.{MayPay, Purse, fresh, stands_at}
-use Rattle.server_users.specs.Accounts.{account_of, IsFirst}
+use Rattle.server_users.proofs.Vocabulary.{◌≡◌, ℕ, Bool, true, false, List, Some, None, set, get_or, ap, sym, subst}
+use Rattle.server_users.proofs.Vocabulary.{◌∙◌, arith, Option, unwrap_or, option_map, IfSome, IsTrue, same_user, UserId}
+use Rattle.server_users.proofs.Vocabulary.{Account, MayPay, Purse, fresh, stands_at, account_of, IsFirst}
 use Rattle.server_users.proofs.Places.{is_of, account_at, passes, set_own, set_other}
 
 module _ (accounts : List Account) (u : UserId) (i : ℕ) (a : Account)

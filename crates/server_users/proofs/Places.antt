@@ -1,18 +1,15 @@
 -- Users' accounts and guests, by the places at which they are found.
-use Rattle.std.proofs.Common.{◌≡◌, ℕ, zero, suc, ◌<◌, ◌≤◌, Bool, true, false, List, [], ◌∷◌, ◌++◌, length, Some, None}
-use Rattle.std.proofs.Common.{Ok, Err, set, get_or, refl, ap, sym, subst, ◌∙◌, arith, Option}
-use Rattle.std.specs.Prelude.{if◌then◌else◌, unwrap_or, Result, OnErr}
-use Rattle.std.specs.List.{position, position_or_len, remove}
+use Rattle.server_users.proofs.Vocabulary.{◌≡◌, ℕ, zero, suc, ◌<◌, ◌≤◌, Bool, true, false, List, [], ◌∷◌, ◌++◌, length}
+use Rattle.server_users.proofs.Vocabulary.{Some, None, set, get_or, refl, ap, sym, subst, ◌∙◌, arith, Option}
+use Rattle.server_users.proofs.Vocabulary.{if◌then◌else◌, unwrap_or, position, same_user, UserId, same_user-true}
+use Rattle.server_users.proofs.Vocabulary.{Account, Purse, fresh, account_of, IsFirst}
+use Rattle.std.proofs.Common.{Ok, Err}
+use Rattle.std.specs.Prelude.{Result, OnErr}
+use Rattle.std.specs.List.{position_or_len, remove}
 use Rattle.std.proofs.lemmas.List.Quantifiers.{position-Some}
 use Rattle.std.proofs.lemmas.List.Sums.{fails_before_first}
 use Rattle.std.proofs.lemmas.Grind.{common_steps}
-use Rattle.acl.specs.Same.{same_user}
 use Rattle.acl.specs.History.{without_user}
-use Rattle.acl.specs.declared.user_id.UserId.{UserId}
-use Rattle.acl.proofs.StandsForLemmas.{same_user-true}
-use Rattle.server_users.specs.declared.allowances.Account.{Account}
-use Rattle.server_users.specs.Allowances.{Purse, fresh}
-use Rattle.server_users.specs.Accounts.{account_of, IsFirst}
 
 pub if_true : {A : Type 0} (b : Bool) (x y : A) → b ≡ true → (if b then x else y) ≡ x
 if_true true x y is = refl

@@ -1,13 +1,10 @@
 -- Users' rations, by the places at which they are found.
-use Rattle.std.proofs.Common.{◌≡◌, ℕ, zero, suc, Bool, true, false, List, [], ◌∷◌, ◌++◌, Some, None}
-use Rattle.std.proofs.Common.{set, get_or, refl, ap, sym, subst, ◌∙◌, arith}
-use Rattle.std.specs.Prelude.{if◌then◌else◌, unwrap_or, option_map, IfSome, IsTrue, ◌↔◌}
-use Rattle.std.specs.Duration.{as_nanos}
-use Rattle.acl.specs.Same.{same_user}
-use Rattle.acl.specs.declared.user_id.UserId.{UserId}
-use Rattle.acl.proofs.StandsForLemmas.{same_user-true}
-use Rattle.server_users.specs.Accounts.{IsFirst}
-use Rattle.server_users.specs.Rationed.{MayCause, end_of}
+use Rattle.server_users.proofs.Vocabulary.{◌≡◌, ℕ, zero, suc, Bool, true, false, List, [], ◌∷◌, ◌++◌, Some, None, set}
+use Rattle.server_users.proofs.Vocabulary.{get_or, refl, ap, sym, subst, ◌∙◌, arith, if◌then◌else◌, unwrap_or}
+use Rattle.server_users.proofs.Vocabulary.{option_map, IfSome, IsTrue, as_nanos, same_user, UserId, same_user-true}
+use Rattle.server_users.proofs.Vocabulary.{IsFirst, end_of}
+use Rattle.std.specs.Prelude.{◌↔◌}
+use Rattle.server_users.specs.Rationed.{MayCause}
 use Rattle.server_users.specs.declared.ration.Ration.{Ration}
 use Rattle.server_users.proofs.Places.{NoneOf, if_true, if_false, other_user, passes}
 

@@ -1,13 +1,9 @@
 -- What a loop has seen of a list of users.
-use Rattle.std.proofs.Common.{◌≡◌, ℕ, ◌+◌, ◌<◌, ◌≤◌, List, [], ◌∷◌, length, get_or, take, map, refl, sym, ◌∙◌, ap}
-use Rattle.std.proofs.Common.{subst, ⊎_elim}
+use Rattle.server_users.proofs.Vocabulary.{◌≡◌, ℕ, ◌+◌, ◌<◌, ◌≤◌, List, [], ◌∷◌, length, get_or, take, map, refl, sym}
+use Rattle.server_users.proofs.Vocabulary.{◌∙◌, ap, subst, ⊎_elim, length-map, name_of, User, names, entries_of}
 use Rattle.std.specs.List.{Contains}
-use Rattle.std.proofs.lemmas.List.{map_more, get_or-map, length-map, take_all}
+use Rattle.std.proofs.lemmas.List.{map_more, get_or-map, take_all}
 use Rattle.std.proofs.lemmas.List.Elements.{Contains-push_cases, Contains-get_or}
-use Rattle.acl.specs.Names.{name_of}
-use Rattle.server_users.specs.declared.user.User.{User}
-use Rattle.server_users.specs.Entries.{names}
-use Rattle.server_users.specs.Stands.{entries_of}
 
 abbrev pub name_at : User → List ℕ
 name_at u = name_of u.id

@@ -12,12 +12,12 @@ ghost use Rattle.session.specs.Words.{muxsim};
 
 use crate::words::path_of;
 use acl::{Edition, UserId};
-use program_words::{SetupLine, speech_in};
+use program_words::{SetupLine, SystemError, speech_in};
 use session_core::{Notes, Session};
 use session_model::{Event, Refusal, Reply};
 use std::alloc::Global;
+use std::fs;
 use std::fs::Files;
-use std::{fs, io};
 use thiserror::Error;
 
 /// Why a setup isn't read.
@@ -25,7 +25,7 @@ use thiserror::Error;
 pub enum SetupUnread<'a> {
     /// The file of this path can't be read, or memory ran out for it.
     #[error("setup {0}: {1} (set --setup)")]
-    File(&'a str, io::Error),
+    File(&'a str, SystemError),
     #[error("out of memory")]
     NoMemory,
 }
@@ -40,7 +40,7 @@ fn read_of<'a, H: Files + AllocGlobal>(
     match path {
         Some(path) => match fs::read(rt, path) {
             Ok(file) => Ok(file),
-            Err(error) => Err(SetupUnread::File(path, error)),
+            Err(error) => Err(SetupUnread::File(path, SystemError(error))),
         },
         None => Ok(Vec::new(rt.alloc())),
     }

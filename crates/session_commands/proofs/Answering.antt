@@ -1,26 +1,17 @@
 -- A deed that found its client and what it looks for answers as the command's row says; one that didn't is
 -- refused so.
-use Rattle.std.proofs.Common.{◌≡◌, ℕ, Bool, true, false, Option, Some, None, Ok, Err, refl, ap, sym, ◌∙◌, inl, inr}
-use Rattle.std.proofs.Common.{is_some}
-use Rattle.std.specs.Prelude.{◌⊎◌, unwrap_or, IfSome}
+use Rattle.session_commands.proofs.Vocabulary.{◌≡◌, ℕ, Bool, Some, sym, ◌∙◌, is_some, ◌⊎◌, IfSome, Refusal, NoMemory}
+use Rattle.session_commands.proofs.Vocabulary.{NoWindow, Tables, window_at, Deed, Answer, caller_client, on_client}
+use Rattle.session_commands.proofs.Vocabulary.{BothOrNone, both_back, none_back, WindowStands, Caller, StepOutput}
+use Rattle.session_commands.proofs.Vocabulary.{State, Stands, AreFit, Answers, HasDone, caller_in}
+use Rattle.std.proofs.Common.{true, false, Option, None, Ok, Err, refl, ap, inl, inr}
+use Rattle.std.specs.Prelude.{unwrap_or}
 use Rattle.regions.specs.declared.layout.RegionFault.{RegionFault}
 use Rattle.regions.specs.declared.layout.RegionFault.TheVariants as fault
-use Rattle.session_model.specs.declared.refusal.Refusal.{Refusal}
-use Rattle.session_model.specs.declared.refusal.Refusal.TheVariants.{NoMemory, NoWindow, Regions}
+use Rattle.session_model.specs.declared.refusal.Refusal.TheVariants.{Regions}
 use Rattle.session_model.specs.Tables as model
-use Rattle.session_model.specs.Tables.{Tables, window_at}
-use Rattle.session_model.specs.Deeds.{Deed, Answer, given, unless, refused_if, selects}
-use Rattle.session_model.specs.Commands.{caller_client, on_client}
-use Rattle.windows_model.specs.Matched.{BothOrNone}
-use Rattle.windows_model.proofs.Matching.{both_back, none_back}
+use Rattle.session_model.specs.Deeds.{given, unless, refused_if, selects}
 use Rattle.windows.specs.declared.window.Window.{Window}
-use Rattle.windows.specs.Standing.{WindowStands}
-use Rattle.session_state.specs.declared.state.Caller.{Caller}
-use Rattle.session_state.specs.declared.state.StepOutput.{StepOutput}
-use Rattle.session_state.specs.declared.state.State.{State}
-use Rattle.session_state.specs.Stands.{Stands}
-use Rattle.session_model.specs.Sound.{AreFit}
-use Rattle.session_state.specs.Doing.{Answers, HasDone, caller_in}
 use Rattle.session_commands.specs.Entering.{Selects}
 use Rattle.session_commands.specs.Giving.{refusal_of}
 use Rattle.session_commands.proofs.Members.{StandsAt, of_some}

@@ -1,16 +1,12 @@
 -- A deed that changes a client's page changes the row of the model's client.
-use Rattle.std.proofs.Common.{◌≡◌, ◌∙◌, ℕ, List, Some, true, ap, refl, sym}
-use Rattle.regions.specs.declared.node.Way.{Way}
-use Rattle.regions.specs.Layouts.{Arrangement, split_focused, split_fault}
-use Rattle.regions.specs.Pages.{has_room}
+use Rattle.session_commands.proofs.Vocabulary.{◌≡◌, ◌∙◌, ℕ, List, Some, true, ap, refl, sym, Way, Arrangement}
+use Rattle.session_commands.proofs.Vocabulary.{split_focused, split_fault, has_room, row_of, with_row, with_layout}
+use Rattle.session_commands.proofs.Vocabulary.{Client, ClientStands, Changes, serial_of}
 use Rattle.session_model.specs.Tables as model
-use Rattle.session_model.specs.Tables.{row_of, with_row, with_layout}
 use Rattle.windows_model.proofs.Matching.{row_there}
 use Rattle.windows_model.proofs.Serials.{with_back}
-use Rattle.session_state.specs.declared.client.Client.{Client}
 use Rattle.session_state.specs.Moves.{moved_to}
-use Rattle.session_state.specs.Clients.{ClientStands, Changes}
-use Rattle.session_state.proofs.Changing.{changed, model_serial, serial_of, serials}
+use Rattle.session_state.proofs.Changing.{changed, model_serial, serials}
 use Rattle.session_state.proofs.Keeping.{keeps_moved, room_alike, fault_alike}
 
 -- the page of a row that was found is another one

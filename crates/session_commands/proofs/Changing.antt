@@ -1,32 +1,22 @@
 -- A command that changes the row of its window, or refuses to, answers as the command's row says.
-use Rattle.std.proofs.Common.{◌≡◌, ℕ, Bool, true, false, List, Some, None, Ok, Err}
-use Rattle.std.proofs.Common.{refl, ap, sym, subst, ◌∙◌, append-nil, ◌⊎◌, inl, inr, not}
-use Rattle.std.specs.Prelude.{Result, if◌then◌else◌}
-use Rattle.command_lang.specs.declared.command.Command.{Command}
+use Rattle.session_commands.proofs.Vocabulary.{◌≡◌, ℕ, Bool, List, Some, None, sym, subst, ◌∙◌, append-nil, ◌⊎◌, inl}
+use Rattle.session_commands.proofs.Vocabulary.{inr, not, Result, if◌then◌else◌, Command, Writing, Windows, refusal_of}
+use Rattle.session_commands.proofs.Vocabulary.{WindowsFault, Tables, Window, with_row, needs, checks, first_fault}
+use Rattle.session_commands.proofs.Vocabulary.{Answer, changing, does, StandFor, Answered, serial, written, written_to}
+use Rattle.session_commands.proofs.Vocabulary.{retitled, with_new_number, row_done, row_refused_as, Caller, StepOutput}
+use Rattle.session_commands.proofs.Vocabulary.{State, Stands, Answers, caller_in, writing_of}
+use Rattle.std.proofs.Common.{true, false, Ok, Err, refl, ap}
 use Rattle.command_lang.specs.declared.command.Command.TheVariants as command
 use Rattle.terminal_model.specs.Writing as terminal
-use Rattle.terminal_model.specs.Writing.{Writing}
-use Rattle.session_model.specs.declared.refusal.Refusal.TheVariants.{Windows}
-use Rattle.session_model.specs.Faults.{refusal_of}
-use Rattle.session_model.specs.rows.WindowsFault.{WindowsFault}
 use Rattle.session_model.specs.rows.WindowsFault.TheVariants.{NumberTaken, BadTitle, NoMemory}
-use Rattle.session_model.specs.Tables.{Tables, Window, with_window, with_row}
+use Rattle.session_model.specs.Tables.{with_window}
 use Rattle.session_model.specs.Naming.{is_title}
 use Rattle.session_model.specs.Lines as model
-use Rattle.command_lang.specs.Needs.{needs}
-use Rattle.session_model.specs.Checks.{checks, first_fault}
-use Rattle.session_model.specs.Deeds.{Answer, changing, refused_if}
-use Rattle.session_model.specs.Commands.{does, coding_of, is_taken}
+use Rattle.session_model.specs.Deeds.{refused_if}
+use Rattle.session_model.specs.Commands.{coding_of, is_taken}
 use Rattle.windows.specs.declared.window.Window.{Window as Row}
-use Rattle.windows.specs.Standing.{StandFor, Change, Answered, changed, serial}
-use Rattle.windows.specs.Standing.{written, written_to, retitled, with_new_number}
-use Rattle.windows.proofs.Callers.{row_done, row_refused_as}
-use Rattle.session_state.specs.declared.state.Caller.{Caller}
-use Rattle.session_state.specs.declared.state.StepOutput.{StepOutput}
-use Rattle.session_state.specs.declared.state.State.{State}
-use Rattle.session_state.specs.Stands.{Stands}
-use Rattle.session_state.specs.Doing.{Answers, caller_in}
-use Rattle.session_commands.specs.Written.{writes, writing_of}
+use Rattle.windows.specs.Standing.{Change, changed}
+use Rattle.session_commands.specs.Written.{writes}
 use Rattle.session_commands.proofs.Passing.{acted_on}
 use Rattle.session_commands.proofs.Doing.{on_row}
 

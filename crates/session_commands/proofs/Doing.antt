@@ -1,17 +1,14 @@
 -- What a row is on the caller's window, and what `stuff` types there.
-use Rattle.std.proofs.Common.{◌≡◌, ℕ, List, [], ◌∷◌, length, true, false, Some, Ok}
-use Rattle.std.proofs.Common.{ap, ◌∙◌, is_ok}
-use Rattle.std.specs.Prelude.{Result, if◌then◌else◌, ◌==◌}
+use Rattle.session_commands.proofs.Vocabulary.{◌≡◌, ℕ, ◌∷◌, length, false, Some, ◌∙◌, if◌then◌else◌, ◌==◌, Tables}
+use Rattle.session_commands.proofs.Vocabulary.{Window, Answer, changing, does, on_window, if_false, Caller, caller_in}
+use Rattle.std.proofs.Common.{List, [], true, Ok, ap, is_ok}
+use Rattle.std.specs.Prelude.{Result}
 use Rattle.command_lang.specs.declared.command.Command.TheVariants as command
 use Rattle.session_model.specs.declared.event.Effect.TheVariants.{Input}
 use Rattle.session_model.specs.declared.refusal.Refusal.TheVariants.{NoWindow}
-use Rattle.session_model.specs.Tables.{Tables, Window}
 use Rattle.session_model.specs.Lines as model
-use Rattle.session_model.specs.Deeds.{Answer, changing, given, input_of}
-use Rattle.session_model.specs.Commands.{does, on_window}
-use Rattle.windows_model.proofs.Serials.{if_true, if_false}
-use Rattle.session_state.specs.declared.state.Caller.{Caller}
-use Rattle.session_state.specs.Doing.{caller_in}
+use Rattle.session_model.specs.Deeds.{given, input_of}
+use Rattle.windows_model.proofs.Serials.{if_true}
 use Rattle.session_commands.proofs.Passing.{IsOn}
 
 -- a command on a caller's window

@@ -1,47 +1,27 @@
 -- Windows that are closed, one or all, leave what the definitions' deeds leave.
-use Rattle.std.proofs.Common.{◌≡◌, ◌∙◌, ℕ, ◌<◌, Bool, true, false, not, List, [], ◌∷◌, ◌++◌, Option, Some, None, Ok}
-use Rattle.std.proofs.Common.{Err, refl, ap, sym, subst, map, filter, arith, append_assoc, reverse}
-use Rattle.std.specs.Prelude.{if◌then◌else◌, ◌==◌}
-use Rattle.std.specs.List.{AllByRecursion}
-use Rattle.std.proofs.lemmas.Bool.Decides.{nat_tests}
-use Rattle.std.proofs.lemmas.List.{map-append}
-use Rattle.acl.specs.declared.user_id.UserId.{UserId}
-use Rattle.acl.specs.declared.leaders.Edition.{Edition}
-use Rattle.acl.specs.declared.act.Act.{Act}
-use Rattle.acl.specs.declared.act.Act.TheVariants.{Closed, Parted, Gone}
-use Rattle.acl.specs.History.{History, followed_by}
-use Rattle.acl.specs.Table.{Table, StandsFor}
+use Rattle.session_commands.proofs.Vocabulary.{◌≡◌, ◌∙◌, ℕ, ◌<◌, Bool, true, false, not, List, [], ◌∷◌, ◌++◌, Option}
+use Rattle.session_commands.proofs.Vocabulary.{Some, None, Ok, Err, refl, ap, sym, subst, map, filter, arith}
+use Rattle.session_commands.proofs.Vocabulary.{append_assoc, reverse, if◌then◌else◌, ◌==◌, AllByRecursion, nat_tests}
+use Rattle.session_commands.proofs.Vocabulary.{map-append, UserId, Edition, Act, Closed, Parted, History, followed_by}
+use Rattle.session_commands.proofs.Vocabulary.{Table, StandsFor, StandsFor-all_aside, followed_by-append, clients_of}
+use Rattle.session_commands.proofs.Vocabulary.{LocksStandFor, Locks, Gone, Reason, WindowsFault, refusal_of, NoWindow}
+use Rattle.session_commands.proofs.Vocabulary.{Tables, window_at, row_of, Rises, Deed, is_of, removes, closes, parts}
+use Rattle.session_commands.proofs.Vocabulary.{serial_is, StandFor, Client, AreClients, Keeps, StepOutput, State}
+use Rattle.session_commands.proofs.Vocabulary.{Stands, AreFit, HasDone, Of, All, TellsLocks, attached_now, goes}
+use Rattle.session_commands.proofs.Vocabulary.{goes_now, gone_now, parted_now, gone_row, closed_acts, closing}
+use Rattle.acl.specs.declared.act.Act.TheVariants.{Gone}
 use Rattle.acl.specs.Deeds.{Does}
-use Rattle.acl.proofs.AsideLemmas.{StandsFor-all_aside}
-use Rattle.acl.proofs.FollowingLemmas.{followed_by-append}
-use Rattle.writelock.specs.Holding.{clients_of}
-use Rattle.writelock.specs.LockTable.{LocksStandFor}
-use Rattle.writelock.specs.declared.locks.Locks.{Locks}
-use Rattle.session_model.specs.declared.event.Effect.TheVariants.{Gone}
 use Rattle.session_model.specs.declared.event.Peer.TheVariants as peer
-use Rattle.session_model.specs.declared.event.Reason.{Reason}
 use Rattle.session_model.specs.declared.event.Reason.TheVariants as reason
-use Rattle.session_model.specs.rows.WindowsFault.{WindowsFault}
 use Rattle.session_model.specs.rows.WindowsFault.TheVariants as fault
-use Rattle.session_model.specs.Faults.{refusal_of}
-use Rattle.session_model.specs.declared.refusal.Refusal.TheVariants.{NoWindow}
 use Rattle.session_model.specs.Tables as model
-use Rattle.session_model.specs.Tables.{Tables, window_at, row_of}
-use Rattle.session_model.specs.Sound.{Rises, window_serials}
-use Rattle.session_model.specs.Deeds.{Deed, is_of, removes, closes, parts, both, without_window, without_windows}
-use Rattle.windows_model.proofs.Serials.{is_equal, serial_is}
+use Rattle.session_model.specs.Sound.{window_serials}
+use Rattle.session_model.specs.Deeds.{both, without_window, without_windows}
+use Rattle.windows_model.proofs.Serials.{is_equal}
 use Rattle.windows.specs.declared.window.Window.{Window}
-use Rattle.windows.specs.Standing.{StandFor, closed, without}
-use Rattle.session_state.specs.declared.client.Client.{Client}
-use Rattle.session_state.specs.Clients.{AreClients, Keeps, ChangesAll}
-use Rattle.session_state.specs.declared.state.StepOutput.{StepOutput}
-use Rattle.session_state.specs.declared.state.State.{State}
-use Rattle.session_state.specs.Stands.{Stands}
-use Rattle.session_model.specs.Sound.{AreFit}
-use Rattle.session_state.specs.Doing.{HasDone}
-use Rattle.session_commands.specs.declared.going.Going.TheVariants.{Of, All}
-use Rattle.session_commands.specs.Going.{TellsLocks, attached_now, goes, goes_now, gone_now, parted_now}
-use Rattle.session_commands.specs.Closing.{gone_row, closed_row, closed_acts, closing}
+use Rattle.windows.specs.Standing.{closed, without}
+use Rattle.session_state.specs.Clients.{ChangesAll}
+use Rattle.session_commands.specs.Closing.{closed_row}
 use Rattle.session_commands.specs.Settling.{Settled}
 use Rattle.session_commands.proofs.Parting.{aside_parted, parted_are, gone_are, locks_told}
 use Rattle.session_commands.proofs.LeavingRows.{given_some, given_none}

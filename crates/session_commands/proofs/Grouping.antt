@@ -1,9 +1,9 @@
 -- `aclgrp` without a leader lists the definitions' text, and does nothing else.
-use Rattle.std.proofs.Common.{◌≡◌, ℕ, Bool, false, List, [], Option, Some, None, Ok, Err}
-use Rattle.std.proofs.Common.{ap, sym, ◌∙◌, append-nil}
-use Rattle.std.specs.Prelude.{if◌then◌else◌}
+use Rattle.session_commands.proofs.Vocabulary.{◌≡◌, ℕ, Bool, false, [], None, sym, ◌∙◌, append-nil, if◌then◌else◌}
+use Rattle.session_commands.proofs.Vocabulary.{Tables, known_users, UserId, AclFault, named_by, same_user}
+use Rattle.session_commands.proofs.Vocabulary.{known_name_fault, State, StepOutput, Stands, Answers}
+use Rattle.std.proofs.Common.{List, Option, Some, Ok, Err, ap}
 use Rattle.std.specs.Option.{option_map_or}
-use Rattle.session_model.specs.Tables.{Tables, known_users}
 use Rattle.session_model.specs.Texts.{group_text}
 use Rattle.session_model.specs.Rights.{leaders_in}
 use Rattle.session_model.specs.Lines.{Caller}
@@ -11,19 +11,10 @@ use Rattle.session_model.specs.Commands.{does, known_fault, leaders_named}
 use Rattle.session_model.specs.Deeds.{Deed, Answer, listing, unless}
 use Rattle.session_model.specs.declared.refusal.Refusal.TheVariants.{Acl}
 use Rattle.command_lang.specs.declared.command.Command.TheVariants as command
-use Rattle.acl.specs.declared.user_id.UserId.{UserId}
-use Rattle.acl.specs.declared.entries.AclFault.{AclFault}
 use Rattle.acl.specs.declared.entries.AclFault.TheVariants.{OwnerKept, UnknownUser}
-use Rattle.acl.specs.Names.{named_by}
-use Rattle.acl.specs.Same.{same_user}
 use Rattle.acl.specs.History.{among}
 use Rattle.acl.specs.Table.{knows}
-use Rattle.acl.specs.Commands.{known_name_fault}
 use Rattle.acl.proofs.FollowingLemmas.{known-among}
-use Rattle.session_state.specs.declared.state.State.{State}
-use Rattle.session_state.specs.declared.state.StepOutput.{StepOutput}
-use Rattle.session_state.specs.Stands.{Stands}
-use Rattle.session_state.specs.Doing.{Answers}
 
 -- nothing is done
 pub lists : (t : Tables) (s : State) (made : StepOutput) (answer : Answer) (text bytes : List ℕ)

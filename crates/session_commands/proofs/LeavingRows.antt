@@ -1,27 +1,20 @@
 -- What the rows of `detach`, `kill`, `quit` and `multiuser` answer.
-use Rattle.std.proofs.Common.{◌≡◌, ◌∙◌, ℕ, List, Option, Some, None, Ok, Err, refl, ap, sym, subst, ◌⊎◌, inl, inr}
-use Rattle.std.specs.Prelude.{◌==◌}
-use Rattle.std.specs.Option.{option_and_then}
-use Rattle.acl.specs.declared.user_id.UserId.{UserId}
-use Rattle.acl.specs.declared.entries.AclFault.{AclFault}
+use Rattle.session_commands.proofs.Vocabulary.{◌≡◌, ◌∙◌, sym, subst, ◌⊎◌, ◌==◌, option_and_then, UserId, AclFault}
+use Rattle.session_commands.proofs.Vocabulary.{Refusal, NoMemory, Tables, window_at, client_at, known_users, Answer}
+use Rattle.session_commands.proofs.Vocabulary.{closes, parts, removes, serial_is, Caller, caller_in, detaching}
+use Rattle.std.proofs.Common.{ℕ, List, Option, Some, None, Ok, Err, refl, ap, inl, inr}
 use Rattle.acl.specs.declared.entries.AclFault.TheVariants as fault
 use Rattle.acl.specs.Names.{named_by}
 use Rattle.acl.specs.Commands.{known_name_fault}
 use Rattle.acl.specs.Commands as acl
 use Rattle.command_lang.specs.declared.command.Command.TheVariants as command
 use Rattle.session_model.specs.declared.event.Reason.TheVariants as reason
-use Rattle.session_model.specs.declared.refusal.Refusal.{Refusal}
-use Rattle.session_model.specs.declared.refusal.Refusal.TheVariants.{NoWindow, NoMemory, Acl}
+use Rattle.session_model.specs.declared.refusal.Refusal.TheVariants.{NoWindow, Acl}
 use Rattle.session_model.specs.Tables as model
-use Rattle.session_model.specs.Tables.{Tables, window_at, client_at, known_users}
 use Rattle.session_model.specs.Lines as model_lines
-use Rattle.session_model.specs.Deeds.{Answer, given, unless, closes, parts, removes}
+use Rattle.session_model.specs.Deeds.{given, unless}
 use Rattle.session_model.specs.Commands.{does}
-use Rattle.windows_model.proofs.Serials.{serial_is}
-use Rattle.session_state.specs.declared.state.Caller.{Caller}
-use Rattle.session_state.specs.Doing.{caller_in}
 use Rattle.session_commands.specs.Closing.{closing}
-use Rattle.session_commands.specs.Settling.{detaching}
 use Rattle.session_commands.specs.Asked.{refusal_of}
 
 -- ---- what is there, or the refusal

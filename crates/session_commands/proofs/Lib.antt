@@ -1,3 +1,4 @@
+pub mod Vocabulary
 pub mod Passing
 pub mod Doing
 pub mod Changing

@@ -1,17 +1,11 @@
 -- After an act that changes locks alone, the state stands for the tables with that act.
-use Rattle.std.proofs.Common.{◌≡◌, ◌∷◌, true, false, refl}
-use Rattle.acl.specs.declared.act.Act.{Act}
+use Rattle.session_commands.proofs.Vocabulary.{◌≡◌, ◌∷◌, true, false, refl, Act, IsAside, Locks, LocksStandFor, Tables}
+use Rattle.session_commands.proofs.Vocabulary.{State, Stands}
 use Rattle.acl.specs.declared.act.LockMode.{LockMode}
 use Rattle.acl.specs.declared.act.LockMode.TheVariants.{Off, Auto, On}
-use Rattle.acl.specs.Commands.{IsAside}
 use Rattle.acl.proofs.AsideLemmas.{StandsFor-aside}
-use Rattle.writelock.specs.declared.locks.Locks.{Locks}
 use Rattle.writelock.specs.Holding.{is_off}
-use Rattle.writelock.specs.LockTable.{LocksStandFor}
-use Rattle.session_model.specs.Tables.{Tables}
 use Rattle.command_lang.specs.Needs.{of_lock}
-use Rattle.session_state.specs.declared.state.State.{State}
-use Rattle.session_state.specs.Stands.{Stands}
 
 -- the locks of a state are others, by an act that leaves the lists
 pub with_locks : (t : Tables) (s : State) (a : Act) (locks : Locks) → IsAside a → Stands t s

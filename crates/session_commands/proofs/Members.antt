@@ -1,16 +1,12 @@
 -- A window that a command finds is one of the table's windows, at its own serial.
-use Rattle.std.proofs.Common.{◌≡◌, ℕ, Bool, true, false, List, [], ◌∷◌, Option, Some, None, refl, ap, sym, subst, ◌∙◌}
-use Rattle.std.proofs.Common.{is_some, filter}
-use Rattle.std.specs.Prelude.{if◌then◌else◌, ◌==◌, find, nat_lt, IfSome}
-use Rattle.std.specs.List.{AllByRecursion}
-use Rattle.std.specs.Option.{option_or, option_and_then}
-use Rattle.session_model.specs.Tables.{Window, Tables, row_of, window_at}
-use Rattle.session_model.specs.Naming.{lower, higher, lowest, highest, with_number, window_named, window_after}
-use Rattle.session_model.specs.Naming.{window_before}
-use Rattle.windows_model.specs.Matched.{BothOrNone}
-use Rattle.windows_model.proofs.Serials.{same_number, serial_is}
+use Rattle.session_commands.proofs.Vocabulary.{◌≡◌, ℕ, Bool, true, false, List, [], ◌∷◌, Option, Some, None, refl, ap}
+use Rattle.session_commands.proofs.Vocabulary.{sym, subst, ◌∙◌, is_some, filter, if◌then◌else◌, ◌==◌, find, nat_lt}
+use Rattle.session_commands.proofs.Vocabulary.{IfSome, AllByRecursion, option_or, option_and_then, Window, Tables}
+use Rattle.session_commands.proofs.Vocabulary.{row_of, window_at, lower, lowest, with_number, window_named}
+use Rattle.session_commands.proofs.Vocabulary.{window_after, window_before, BothOrNone, same_number, serial_is}
+use Rattle.session_commands.proofs.Vocabulary.{WindowStands}
+use Rattle.session_model.specs.Naming.{higher, highest}
 use Rattle.windows.specs.declared.window.Window as code
-use Rattle.windows.specs.Standing.{WindowStands}
 
 -- a fact of each row is one of the row that is found
 module _ (P : Window → Type 0) where

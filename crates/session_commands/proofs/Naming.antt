@@ -1,32 +1,25 @@
 -- The users and objects that words name are those that the definitions find.
-use Rattle.std.proofs.Common.{◌≡◌, ℕ, ◌+◌, ◌<◌, Bool, true, false, List, [], ◌∷◌, ◌++◌, Option, Some, None, length, map}
-use Rattle.std.proofs.Common.{take, drop, get_or, refl, ap, sym, ◌∙◌, inl, inr, append_assoc, append-nil}
-use Rattle.std.specs.Prelude.{if◌then◌else◌, not, cond, filter, nat_eq, slice_get}
-use Rattle.std.specs.List.{list_any}
-use Rattle.std.specs.Option.{option_map, option_or, option_and_then, option_eq}
-use Rattle.std.proofs.lemmas.List.{drop_more, map-append}
+use Rattle.session_commands.proofs.Vocabulary.{◌≡◌, ℕ, ◌+◌, ◌<◌, Bool, true, false, List, [], ◌∷◌, ◌++◌, Option, Some}
+use Rattle.session_commands.proofs.Vocabulary.{None, length, map, take, drop, get_or, refl, ap, sym, ◌∙◌, inl, inr}
+use Rattle.session_commands.proofs.Vocabulary.{append_assoc, append-nil, if◌then◌else◌, not, filter, nat_eq, slice_get}
+use Rattle.session_commands.proofs.Vocabulary.{list_any, option_map, option_or, option_and_then, map-append, UserId}
+use Rattle.session_commands.proofs.Vocabulary.{Object, same_user, named_by, Table, StandsFor, users_in, Refusal, Tables}
+use Rattle.session_commands.proofs.Vocabulary.{is_wide, item_objects, objects_of, every_window, every_command, if_true}
+use Rattle.session_commands.proofs.Vocabulary.{if_false, mapped_match, WindowStands, StandFor, window_object, wide}
+use Rattle.std.specs.Prelude.{cond}
+use Rattle.std.specs.Option.{option_eq}
+use Rattle.std.proofs.lemmas.List.{drop_more}
 use Rattle.std.proofs.lemmas.List.Elements.{filter_more}
 use Rattle.std.proofs.lemmas.Option.{slice_get-get_or, get_or_from_slice_get}
-use Rattle.acl.specs.declared.user_id.UserId.{UserId}
-use Rattle.acl.specs.declared.act.Object.{Object}
 use Rattle.acl.specs.declared.act.Object.TheVariants as object
 use Rattle.acl.specs.declared.entries.MaskScope.TheVariants as scope
-use Rattle.acl.specs.Same.{same_user}
-use Rattle.acl.specs.Names.{named_by}
-use Rattle.acl.specs.Table.{Table, StandsFor, users_in}
 use Rattle.command_lang.specs.declared.command.Users.{Users}
 use Rattle.command_lang.specs.declared.command.Users.TheVariants as users
-use Rattle.session_model.specs.declared.refusal.Refusal.{Refusal}
 use Rattle.session_model.specs.Tables as model
-use Rattle.session_model.specs.Tables.{Tables, others}
-use Rattle.session_model.specs.Naming.{is_wide, item_objects, objects_of, every_window, every_command, scopes_of}
-use Rattle.session_model.specs.Naming.{word_scope}
-use Rattle.windows_model.proofs.Serials.{if_true, if_false}
-use Rattle.windows_model.proofs.Matching.{mapped_match}
-use Rattle.windows.specs.Standing.{WindowStands, StandFor}
+use Rattle.session_model.specs.Tables.{others}
+use Rattle.session_model.specs.Naming.{scopes_of, word_scope}
 use Rattle.windows.specs.declared.window.Window.{Window}
-use Rattle.session_commands.specs.Asked.{other_names, window_object, wide, object_named, NamesNothing, lone_word}
-use Rattle.session_commands.specs.Asked.{names_in}
+use Rattle.session_commands.specs.Asked.{other_names, object_named, NamesNothing, lone_word, names_in}
 
 -- ---- users
 

@@ -1,27 +1,17 @@
 -- A command on the lists leaves what its row says; Ending and Parting prove it of windows and clients.
-use Rattle.std.proofs.Common.{◌≡◌, ℕ, List, Option, Some, None, Ok, Err, refl, ap, sym, subst, ◌∙◌, inl, inr}
-use Rattle.std.proofs.Common.{append-nil}
-use Rattle.std.specs.Prelude.{Result, OnOk, IfOk, ◌⊎◌}
-use Rattle.acl.specs.declared.user_id.UserId.{UserId}
-use Rattle.acl.specs.declared.act.Act.{Act}
+use Rattle.session_commands.proofs.Vocabulary.{◌≡◌, ℕ, refl, sym, subst, ◌∙◌, append-nil, Result, ◌⊎◌, UserId, Act}
+use Rattle.session_commands.proofs.Vocabulary.{Table, Locks, LocksStandFor, Refusal, NoMemory, Acl, Windows}
+use Rattle.session_commands.proofs.Vocabulary.{NoSuchWindow, Tables, known_users, Deed, acting, StepOutput, State}
+use Rattle.session_commands.proofs.Vocabulary.{Stands, Answers}
+use Rattle.std.proofs.Common.{List, Option, Some, None, Ok, Err, ap, inl, inr}
+use Rattle.std.specs.Prelude.{OnOk, IfOk}
 use Rattle.acl.specs.declared.act.Object.{Object}
 use Rattle.acl.specs.declared.entries.AclFault.{AclFault}
 use Rattle.acl.specs.declared.entries.AclFault.TheVariants as faults
 use Rattle.acl.specs.Commands as acl
 use Rattle.acl.specs.Commands.{change_fault}
 use Rattle.acl.specs.Deeds.{IsDone}
-use Rattle.acl.specs.Table.{Table}
-use Rattle.writelock.specs.declared.locks.Locks.{Locks}
-use Rattle.writelock.specs.LockTable.{LocksStandFor}
-use Rattle.session_model.specs.declared.refusal.Refusal.{Refusal}
-use Rattle.session_model.specs.declared.refusal.Refusal.TheVariants.{NoMemory, Acl, Windows}
-use Rattle.session_model.specs.rows.WindowsFault.TheVariants.{NoSuchWindow}
-use Rattle.session_model.specs.Tables.{Tables, known_users}
-use Rattle.session_model.specs.Deeds.{Deed, Answer, acting, changes, unless, given}
-use Rattle.session_state.specs.declared.state.StepOutput.{StepOutput}
-use Rattle.session_state.specs.declared.state.State.{State}
-use Rattle.session_state.specs.Stands.{Stands}
-use Rattle.session_state.specs.Doing.{Answers}
+use Rattle.session_model.specs.Deeds.{Answer, changes, unless, given}
 use Rattle.session_commands.specs.Asked.{answered, NamesNothing}
 
 -- a command on the lists is refused by a fault as its row says, and acts if there is none

@@ -1,22 +1,14 @@
 -- A deed that changes a client's page, and may let its user enter the window in focus, was done.
-use Rattle.std.proofs.Common.{◌≡◌, ◌∙◌, ℕ, List, Option, Some, None, ap, sym, subst, append-nil}
-use Rattle.std.specs.Option.{option_and_then}
-use Rattle.regions.specs.Layouts.{Arrangement}
+use Rattle.session_commands.proofs.Vocabulary.{◌≡◌, ◌∙◌, ℕ, List, Option, Some, None, ap, sym, subst, append-nil}
+use Rattle.session_commands.proofs.Vocabulary.{option_and_then, Arrangement, Tables, row_of, with_row, client_at}
+use Rattle.session_commands.proofs.Vocabulary.{focused, with_layout, arranges, enters, caller_client, BothOrNone}
+use Rattle.session_commands.proofs.Vocabulary.{none_back, serial_is, Client, ClientStands, AreClients, Changes, Caller}
+use Rattle.session_commands.proofs.Vocabulary.{StepOutput, State, Stands, HasDone, caller_in, IsOpenThere}
 use Rattle.session_model.specs.Tables as model
-use Rattle.session_model.specs.Tables.{Tables, row_of, with_row, client_at, focused, with_client, with_layout}
-use Rattle.session_model.specs.Deeds.{arranges, enters}
-use Rattle.session_model.specs.Commands.{caller_client}
-use Rattle.windows_model.specs.Matched.{BothOrNone}
-use Rattle.windows_model.proofs.Matching.{none_back}
-use Rattle.windows_model.proofs.Serials.{serial_is, with_same}
-use Rattle.session_state.specs.declared.client.Client.{Client}
-use Rattle.session_state.specs.Clients.{ClientStands, AreClients, Changes}
-use Rattle.session_state.specs.declared.state.Caller.{Caller}
-use Rattle.session_state.specs.declared.state.StepOutput.{StepOutput}
-use Rattle.session_state.specs.declared.state.State.{State}
-use Rattle.session_state.specs.Stands.{Stands}
-use Rattle.session_state.specs.Doing.{HasDone, GivesBy, caller_in}
-use Rattle.session_commands.specs.Entering.{EntersFocus, IsOpenThere}
+use Rattle.session_model.specs.Tables.{with_client}
+use Rattle.windows_model.proofs.Serials.{with_same}
+use Rattle.session_state.specs.Doing.{GivesBy}
+use Rattle.session_commands.specs.Entering.{EntersFocus}
 
 abbrev pub model_serial : model.Client → ℕ
 model_serial m = m.serial

@@ -1,40 +1,26 @@
 -- Clients that go one after another leave the rows, acts and effects of the definitions' deed.
-use Rattle.std.proofs.Common.{◌≡◌, ◌∙◌, ℕ, ◌+◌, ◌<◌, Bool, true, false, not, List, [], ◌∷◌, ◌++◌}
-use Rattle.std.proofs.Common.{refl, ap, sym, subst, map, filter, length, take, reverse, append-nil}
-use Rattle.std.proofs.Common.{arith, get_or, add-one}
-use Rattle.std.specs.Prelude.{if◌then◌else◌, ◌==◌, ◌||◌}
-use Rattle.std.specs.List.{AllByRecursion, list_any}
-use Rattle.std.proofs.lemmas.Bool.Decides.{nat_tests}
+use Rattle.session_commands.proofs.Vocabulary.{◌≡◌, ◌∙◌, ℕ, ◌+◌, ◌<◌, Bool, true, false, not, List, [], ◌∷◌, ◌++◌, refl}
+use Rattle.session_commands.proofs.Vocabulary.{ap, sym, subst, map, filter, length, take, reverse, append-nil, arith}
+use Rattle.session_commands.proofs.Vocabulary.{get_or, if◌then◌else◌, ◌==◌, AllByRecursion, list_any, nat_tests}
+use Rattle.session_commands.proofs.Vocabulary.{map-append, UserId, Edition, Act, Parted, History, followed_by, IsAside}
+use Rattle.session_commands.proofs.Vocabulary.{StandsFor-all_aside, clients_of, LocksStandFor, Locks, ClientsStandFor}
+use Rattle.session_commands.proofs.Vocabulary.{Gone, Reason, Tables, parts, AreFit, Rises, mapped_match, Client}
+use Rattle.session_commands.proofs.Vocabulary.{ClientStands, AreClients, Keeps, State, Stands, TellsLocks, goes}
+use Rattle.session_commands.proofs.Vocabulary.{goes_now, gone_now, parted_now, attached_now}
+use Rattle.std.proofs.Common.{add-one}
+use Rattle.std.specs.Prelude.{◌||◌}
 use Rattle.std.proofs.Math.Seq.{take-suc}
-use Rattle.std.proofs.lemmas.List.{reverse-append, map-append}
+use Rattle.std.proofs.lemmas.List.{reverse-append}
 use Rattle.std.proofs.lemmas.List.Elements.{filter-append}
 use Rattle.std.proofs.lemmas.List.Folds.{list_any-append}
-use Rattle.acl.specs.declared.user_id.UserId.{UserId}
-use Rattle.acl.specs.declared.leaders.Edition.{Edition}
-use Rattle.acl.specs.declared.act.Act.{Act}
-use Rattle.acl.specs.declared.act.Act.TheVariants.{Parted}
-use Rattle.acl.specs.History.{History, followed_by}
-use Rattle.acl.specs.Commands.{IsAside}
-use Rattle.acl.proofs.AsideLemmas.{StandsFor-all_aside}
-use Rattle.writelock.specs.Holding.{clients_of}
-use Rattle.writelock.specs.LockTable.{LocksStandFor}
-use Rattle.writelock.specs.declared.locks.Locks.{Locks}
-use Rattle.rights.specs.Clients.{ClientsStandFor, Differ}
-use Rattle.session_model.specs.declared.event.Effect.TheVariants.{Gone}
+use Rattle.rights.specs.Clients.{Differ}
 use Rattle.session_model.specs.declared.event.Peer.TheVariants as peer
-use Rattle.session_model.specs.declared.event.Reason.{Reason}
 use Rattle.session_model.specs.Tables as model
-use Rattle.session_model.specs.Tables.{Tables}
-use Rattle.session_model.specs.Deeds.{parts}
-use Rattle.session_model.specs.Sound.{AreFit, Rises, client_serials}
-use Rattle.windows_model.proofs.Matching.{mapped_match, filter_match}
-use Rattle.session_state.specs.declared.client.Client.{Client}
-use Rattle.session_state.specs.Clients.{ClientStands, AreClients, Keeps}
-use Rattle.session_state.specs.declared.state.State.{State}
-use Rattle.session_state.specs.Stands.{Stands}
+use Rattle.session_model.specs.Sound.{client_serials}
+use Rattle.windows_model.proofs.Matching.{filter_match}
 use Rattle.session_state.specs.Doing.{did}
 use Rattle.session_commands.specs.declared.going.Going.{Going}
-use Rattle.session_commands.specs.Going.{TellsLocks, takes, goes, goes_now, gone_now, parting, parted_now, attached_now}
+use Rattle.session_commands.specs.Going.{takes, parting}
 
 -- ---- the code's rows and the definitions'
 

@@ -1,29 +1,20 @@
 -- If a command's checks have passed, its window is there, and its user may write there if the command needs
 -- that.
-use Rattle.std.proofs.Common.{◌≡◌, ℕ, Bool, true, false, List, [], ◌∷◌, ◌++◌, Option, Some, None}
-use Rattle.std.proofs.Common.{refl, ap, sym, subst, ◌∙◌}
-use Rattle.std.specs.Prelude.{if◌then◌else◌}
-use Rattle.std.specs.Option.{option_map, option_and_then, is_some}
-use Rattle.acl.specs.declared.user_id.UserId.{UserId}
+use Rattle.session_commands.proofs.Vocabulary.{◌≡◌, ℕ, Bool, true, false, List, [], ◌∷◌, ◌++◌, Option, Some, None, refl}
+use Rattle.session_commands.proofs.Vocabulary.{ap, sym, subst, ◌∙◌, if◌then◌else◌, option_map, option_and_then, UserId}
+use Rattle.session_commands.proofs.Vocabulary.{Command, Refusal, NoWindow, Tables, Window, window_at, needs}
+use Rattle.session_commands.proofs.Vocabulary.{first_fault, checks, serial_is, Caller, caller_in}
+use Rattle.std.specs.Option.{is_some}
 use Rattle.acl.specs.declared.bits.Bit.TheVariants.{Write, Execute}
 use Rattle.acl.specs.declared.act.Object.TheVariants as object
-use Rattle.command_lang.specs.declared.command.Command.{Command}
 use Rattle.command_lang.specs.Names.{name_of}
 use Rattle.session_model.specs.declared.refusal.Check.{Check}
-use Rattle.session_model.specs.declared.refusal.Check.TheVariants.{Right as right, Must as must}
-use Rattle.session_model.specs.declared.refusal.Check.TheVariants.{Unlocked as unlocked}
+use Rattle.session_model.specs.declared.refusal.Check.TheVariants.{Right as right, Must as must, Unlocked as unlocked}
 use Rattle.command_lang.specs.declared.needs.Needs.{Needs}
-use Rattle.session_model.specs.declared.refusal.Refusal.{Refusal}
-use Rattle.session_model.specs.declared.refusal.Refusal.TheVariants.{NotMultiuser, NoWindow}
-use Rattle.session_model.specs.Tables.{Tables, Window, window_at}
+use Rattle.session_model.specs.declared.refusal.Refusal.TheVariants.{NotMultiuser}
 use Rattle.session_model.specs.Rights.{may_in}
 use Rattle.session_model.specs.Lines as model
-use Rattle.command_lang.specs.Needs.{needs}
-use Rattle.session_model.specs.Checks.{passes, refusal_of, first_fault, checks, checks_by}
-use Rattle.session_model.specs.Checks.{window_checks, where_needed}
-use Rattle.windows_model.proofs.Serials.{serial_is}
-use Rattle.session_state.specs.declared.state.Caller.{Caller}
-use Rattle.session_state.specs.Doing.{caller_in}
+use Rattle.session_model.specs.Checks.{passes, refusal_of, checks_by, window_checks, where_needed}
 
 module _ (t : Tables) where
   pub behind : (cs ds : List Check) → first_fault t (cs ++ ds) ≡ None

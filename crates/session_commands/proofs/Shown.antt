@@ -1,14 +1,12 @@
 -- In fit tables, the window in focus is open after each change of a page.
-use Rattle.std.proofs.Common.{◌≡◌, ℕ, zero, suc, Bool, true, false, List, [], ◌∷◌, ◌++◌, take, drop, Option, Some, None}
-use Rattle.std.proofs.Common.{◌∙◌, subst}
-use Rattle.std.specs.Prelude.{slice_get, slice_set, if◌then◌else◌, ◌==◌}
-use Rattle.std.specs.List.{AllByRecursion, remove}
-use Rattle.std.specs.Option.{option_and_then}
-use Rattle.regions.specs.declared.layout.Shown.{Shown}
-use Rattle.regions.specs.Layouts.{remove_focused}
-use Rattle.session_model.specs.Tables.{Client, Tables, row_of, client_at, focused, with_layout}
-use Rattle.session_model.specs.Sound.{AreFit, IsOpen, ShowsOpen}
-use Rattle.session_commands.specs.Entering.{IsOpenThere}
+use Rattle.session_commands.proofs.Vocabulary.{◌≡◌, ℕ, zero, suc, Bool, true, false, List, [], ◌∷◌, ◌++◌, take, drop}
+use Rattle.session_commands.proofs.Vocabulary.{Option, Some, None, ◌∙◌, subst, slice_get, if◌then◌else◌, ◌==◌}
+use Rattle.session_commands.proofs.Vocabulary.{AllByRecursion, option_and_then, Shown, remove_focused, Tables, row_of}
+use Rattle.session_commands.proofs.Vocabulary.{client_at, focused, with_layout, AreFit, IsOpenThere}
+use Rattle.std.specs.Prelude.{slice_set}
+use Rattle.std.specs.List.{remove}
+use Rattle.session_model.specs.Tables.{Client}
+use Rattle.session_model.specs.Sound.{IsOpen, ShowsOpen}
 
 abbrev pub window_in : Shown → Option ℕ
 window_in s = s.window

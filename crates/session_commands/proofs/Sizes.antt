@@ -1,37 +1,26 @@
 -- The rectangle of the focused region is the definitions', and gives `fit` a window's size or its refusal.
-use Rattle.std.proofs.Common.{◌≡◌, ℕ, zero, suc, ◌-◌, ◌<◌, ◌≤◌, Bool, true, false, List, [], ◌∷◌, ◌++◌, Option, Some}
-use Rattle.std.proofs.Common.{None, Ok, Err, refl, ap, sym, ◌∙◌, subst, arith, inl, inr, append-nil}
-use Rattle.std.specs.Prelude.{◌&&◌, ◌⊎◌, nat_lt, nat_le, slice_get}
-use Rattle.std.specs.List.{AllByRecursion, list_all}
-use Rattle.std.specs.Option.{option_map, option_and_then}
-use Rattle.std.proofs.lemmas.Bool.Decides.{nat_tests}
+use Rattle.session_commands.proofs.Vocabulary.{◌≡◌, ℕ, zero, suc, ◌-◌, ◌<◌, ◌≤◌, Bool, true, false, List, [], ◌∷◌, ◌++◌}
+use Rattle.session_commands.proofs.Vocabulary.{Option, Some, None, Ok, Err, refl, ap, sym, ◌∙◌, subst, arith, inl, inr}
+use Rattle.session_commands.proofs.Vocabulary.{append-nil, ◌⊎◌, nat_lt, slice_get, AllByRecursion, option_map}
+use Rattle.session_commands.proofs.Vocabulary.{option_and_then, nat_tests, has_room, Size, NoMemory, NoWindow, Regions}
+use Rattle.session_commands.proofs.Vocabulary.{refusal_of, WindowsFault, Window, Tables, window_at, with_row, Deed}
+use Rattle.session_commands.proofs.Vocabulary.{Answer, on_client, on_window, if_true, serial_is, StandFor, Answered}
+use Rattle.session_commands.proofs.Vocabulary.{serial, written_to, row_done, row_refused_as, Client, ClientStands}
+use Rattle.session_commands.proofs.Vocabulary.{Caller, StepOutput, State, Stands, Answers, caller_in}
+use Rattle.std.specs.Prelude.{◌&&◌, nat_le}
+use Rattle.std.specs.List.{list_all}
 use Rattle.regions.specs.declared.rect.Rect.{Rect}
 use Rattle.regions.specs.declared.node.Way.TheVariants.{Below, Right}
 use Rattle.regions.specs.declared.layout.RegionFault.TheVariants.{TooSmall}
 use Rattle.regions.specs.Shapes.{Shape, region, split, boxes, upper, lower, left, right}
-use Rattle.regions.specs.Pages.{box_of, is_roomy, has_room}
+use Rattle.regions.specs.Pages.{box_of, is_roomy}
 use Rattle.terminal_model.specs.Writing as terminal
-use Rattle.session_model.specs.declared.event.Effect.TheVariants.{Size}
-use Rattle.session_model.specs.declared.refusal.Refusal.TheVariants.{NoMemory, NoWindow, Regions}
-use Rattle.session_model.specs.Faults.{refusal_of}
-use Rattle.session_model.specs.rows.WindowsFault.{WindowsFault}
 use Rattle.session_model.specs.rows.WindowsFault.TheVariants as fault
 use Rattle.session_model.specs.Tables as model
-use Rattle.session_model.specs.Tables.{Window, Tables, window_at, with_row}
-use Rattle.session_model.specs.Deeds.{Deed, Answer, focused_box, fits, given, writes}
-use Rattle.session_model.specs.Commands.{on_client, on_window}
+use Rattle.session_model.specs.Deeds.{focused_box, fits, given, writes}
 use Rattle.session_model.specs.Comings.{is_client_size, is_window_size}
-use Rattle.windows_model.proofs.Serials.{if_true, serial_is}
 use Rattle.windows.specs.declared.window.Window as code
-use Rattle.windows.specs.Standing.{StandFor, Answered, serial, resized, resized_in, written_to}
-use Rattle.windows.proofs.Callers.{row_done, row_refused_as}
-use Rattle.session_state.specs.declared.client.Client.{Client}
-use Rattle.session_state.specs.Clients.{ClientStands}
-use Rattle.session_state.specs.declared.state.Caller.{Caller}
-use Rattle.session_state.specs.declared.state.StepOutput.{StepOutput}
-use Rattle.session_state.specs.declared.state.State.{State}
-use Rattle.session_state.specs.Stands.{Stands}
-use Rattle.session_state.specs.Doing.{Answers, caller_in}
+use Rattle.windows.specs.Standing.{resized, resized_in}
 use Rattle.session_commands.proofs.Answering.{given_some, refused, not_refused, on_giver}
 use Rattle.session_commands.proofs.Paging.{Gives}
 

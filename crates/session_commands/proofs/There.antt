@@ -1,22 +1,19 @@
 -- The objects that items name are there: open windows, or commands.
-use Rattle.std.proofs.Common.{◌≡◌, ℕ, Bool, true, false, List, [], ◌∷◌, ◌++◌, Option, Some, None, filter, refl, ap}
-use Rattle.std.proofs.Common.{subst, ◌∙◌}
-use Rattle.std.specs.Prelude.{if◌then◌else◌, IfSome, is_some, nat_lt, nat_eq, find, ◌==◌}
-use Rattle.std.specs.List.{All, AllByRecursion, list_any}
+use Rattle.session_commands.proofs.Vocabulary.{◌≡◌, ℕ, Bool, true, false, List, [], ◌∷◌, ◌++◌, Option, Some, None}
+use Rattle.session_commands.proofs.Vocabulary.{filter, refl, ap, subst, ◌∙◌, if◌then◌else◌, IfSome, is_some, nat_lt}
+use Rattle.session_commands.proofs.Vocabulary.{nat_eq, find, ◌==◌, AllByRecursion, list_any, option_map, option_or}
+use Rattle.session_commands.proofs.Vocabulary.{option_and_then, Object, is_open, there, Window, Tables, row_of}
+use Rattle.session_commands.proofs.Vocabulary.{with_number, lower, lowest, window_named, is_wide, item_objects}
+use Rattle.session_commands.proofs.Vocabulary.{objects_of, every_window, every_command, if_true, same_number}
+use Rattle.std.specs.List.{All}
 use Rattle.std.specs.Str.{bytes_eq}
-use Rattle.std.specs.Option.{option_map, option_or, option_and_then}
 use Rattle.std.proofs.lemmas.List.Elements.{All-from_recursion, All-nil, All-cons, All-append, All-map}
-use Rattle.acl.specs.declared.act.Object.{Object}
 use Rattle.acl.specs.declared.act.Object.TheVariants as object
 use Rattle.acl.specs.declared.command_name.CommandName.{CommandName}
-use Rattle.acl.specs.History.{is_open, there}
 use Rattle.command_lang.specs.Names.{all_names, command_named}
-use Rattle.session_model.specs.Naming.{spelled}
-use Rattle.session_model.specs.Tables.{Window, Tables, row_of}
-use Rattle.session_model.specs.Naming.{has_number, with_number, lower, lowest, window_named, is_wide, wide_objects}
-use Rattle.session_model.specs.Naming.{item_objects, objects_of, every_window, every_command}
+use Rattle.session_model.specs.Naming.{spelled, has_number, wide_objects}
 use Rattle.session_model.specs.Sound.{ActsAgree}
-use Rattle.windows_model.proofs.Serials.{if_true, by_if, same_number}
+use Rattle.windows_model.proofs.Serials.{by_if}
 
 -- ---- rows that are there
 

@@ -1,24 +1,12 @@
 -- A draw, by the shared frame or by one of its own, leaves the shared frame as the definitions say.
-use Rattle.std.proofs.Common.{◌≡◌, ℕ, ◌++◌, Bool, List, Some, None, Err, ap, sym, ◌∙◌, subst}
-use Rattle.redraw.specs.Frames.{Made}
-use Rattle.session_model.specs.declared.event.Effect.{Effect}
-use Rattle.session_model.specs.declared.refusal.Refusal.{Refusal}
-use Rattle.session_model.specs.Trace.{Draw, Reply}
-use Rattle.session_model.specs.Tables.{Tables, Client, client_at}
-use Rattle.session_model.specs.Granted.{granted_view}
-use Rattle.session_model.specs.Outcomes.{done}
-use Rattle.session_model.specs.Run.{drawn_on}
-use Rattle.session_state.specs.declared.state.Step.{Step}
-use Rattle.session_state.specs.declared.state.StepOutput.{StepOutput}
-use Rattle.session_state.specs.declared.state.State.{State}
-use Rattle.session_state.specs.Stands.{Stands}
-use Rattle.session_state.specs.Doing.{IsAsBefore}
-use Rattle.session_view.specs.declared.following.Lead.{Lead}
-use Rattle.session_view.specs.Drawn.{HasDrawnSo, IsSomething, IsNothing, IsDrawnBy, DrawsBy, IsRefusedFor}
-use Rattle.session_view.specs.Following.{DrawsLike, Knows}
-use Rattle.session_core.specs.declared.sharing.Sharing.{Sharing}
-use Rattle.session_core.specs.Sharing.{IsLead, IsLeadIfAny, IsShared, is_one_of, Joins, SharesOrForgets}
-use Rattle.session_core.specs.Taking.{TakenAs, StayShared, Takes, DrawsSharing}
+use Rattle.session_core.proofs.Vocabulary.{◌≡◌, ℕ, ◌++◌, Bool, List, Some, None, Err, ap, sym, ◌∙◌, subst, Made, Effect}
+use Rattle.session_core.proofs.Vocabulary.{Refusal, Draw, Reply, Tables, Client, client_at, granted_view, done}
+use Rattle.session_core.proofs.Vocabulary.{drawn_on, Step, StepOutput, State, Stands, IsAsBefore, Lead, DrawsBy, Knows}
+use Rattle.session_core.proofs.Vocabulary.{Sharing, IsLead, IsLeadIfAny, IsShared, is_one_of, Joins, SharesOrForgets}
+use Rattle.session_core.proofs.Vocabulary.{TakenAs, StayShared, DrawsSharing}
+use Rattle.session_view.specs.Drawn.{HasDrawnSo, IsSomething, IsNothing, IsDrawnBy, IsRefusedFor}
+use Rattle.session_view.specs.Following.{DrawsLike}
+use Rattle.session_core.specs.Taking.{Takes}
 use Rattle.session_core.proofs.Drawn.{drawn_taken, undrawn_or}
 use Rattle.session_core.proofs.Shared.{one_knows, none_shared, joined_shared, own_shared}
 

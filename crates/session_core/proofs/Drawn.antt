@@ -1,25 +1,11 @@
 -- A draw that was done or refused is a step; Drawings proves what it leaves of the shared frame.
-use Rattle.std.proofs.Common.{◌≡◌, ℕ, List, [], Option, Some, None, Err, refl, ap, sym, subst}
-use Rattle.std.proofs.Common.{◌∙◌, append-nil, true, false, inl, inr}
-use Rattle.std.specs.Prelude.{MatchOption, ◌⊎◌}
-use Rattle.acl.specs.declared.act.Act.{Act}
-use Rattle.acl.specs.History.{followed_by}
-use Rattle.session_model.specs.declared.event.Effect.{Effect}
-use Rattle.session_model.specs.declared.refusal.Refusal.{Refusal}
-use Rattle.session_model.specs.declared.refusal.Refusal.TheVariants.{NoMemory, NoWindow}
-use Rattle.session_model.specs.Trace.{Entry, Draw, Reply}
-use Rattle.session_model.specs.Tables.{Client, Tables, client_at}
-use Rattle.session_model.specs.Deeds.{changing}
-use Rattle.session_model.specs.Outcomes.{Outcome, finished, refused, done, left_acts}
-use Rattle.session_model.specs.Events.{outcome}
-use Rattle.session_model.specs.Run.{IsDraw, drawn_on}
-use Rattle.session_state.specs.declared.state.Step.{Step}
-use Rattle.session_state.specs.declared.state.StepOutput.{StepOutput}
-use Rattle.session_state.specs.declared.state.State.{State}
-use Rattle.session_state.specs.Stands.{Stands}
-use Rattle.session_state.specs.Doing.{IsAsBefore}
+use Rattle.session_core.proofs.Vocabulary.{◌≡◌, ℕ, List, [], Option, Some, None, Err, refl, ap, sym, subst, ◌∙◌}
+use Rattle.session_core.proofs.Vocabulary.{append-nil, true, false, inl, inr, MatchOption, ◌⊎◌, Act, followed_by}
+use Rattle.session_core.proofs.Vocabulary.{Effect, Refusal, NoMemory, NoWindow, Entry, Draw, Reply, Client, Tables}
+use Rattle.session_core.proofs.Vocabulary.{client_at, changing, Outcome, finished, refused, done, left_acts, outcome}
+use Rattle.session_core.proofs.Vocabulary.{IsDraw, drawn_on, Step, StepOutput, State, Stands, IsAsBefore, TakenAs}
+use Rattle.session_core.proofs.Vocabulary.{wants_memory}
 use Rattle.session_view.specs.Drawn.{HasDrawn}
-use Rattle.session_core.specs.Taking.{TakenAs, wants_memory}
 use Rattle.session_core.proofs.Still.{none_left}
 
 module _ (t : Tables) (client : ℕ) where

@@ -1,19 +1,11 @@
 -- An outcome that has happened is a step of the definitions.
-use Rattle.std.proofs.Common.{◌≡◌, Bool, true, false, List, Ok, Err, refl, ap, sym, subst, inl, inr}
+use Rattle.session_core.proofs.Vocabulary.{◌≡◌, Bool, true, false, List, Ok, Err, refl, ap, sym, subst, inl, inr}
+use Rattle.session_core.proofs.Vocabulary.{Effect, Refusal, EventValue, Draw, Reply, Tables, Outcome, outcome}
+use Rattle.session_core.proofs.Vocabulary.{HasEffects, drawn, Step, State, Stands, HasHappened, Stepped, Sharing}
+use Rattle.session_core.proofs.Vocabulary.{TakenAs, StayShared, wants_memory}
 use Rattle.std.specs.Prelude.{OnErr}
-use Rattle.session_model.specs.declared.event.Effect.{Effect}
-use Rattle.session_model.specs.declared.refusal.Refusal.{Refusal}
-use Rattle.session_model.specs.Trace.{EventValue, Draw, Reply}
-use Rattle.session_model.specs.Tables.{Tables}
-use Rattle.session_model.specs.Outcomes.{Outcome}
-use Rattle.session_model.specs.Events.{outcome}
-use Rattle.session_model.specs.Run.{HasEffects, drawn}
-use Rattle.session_state.specs.declared.state.Step.{Step}
-use Rattle.session_state.specs.declared.state.State.{State}
-use Rattle.session_state.specs.Stands.{Stands}
-use Rattle.session_input.specs.Stepping.{HasHappened, Stepped, Steps}
-use Rattle.session_core.specs.declared.sharing.Sharing.{Sharing}
-use Rattle.session_core.specs.Taking.{TakenAs, StayShared, Takes, wants_memory}
+use Rattle.session_input.specs.Stepping.{Steps}
+use Rattle.session_core.specs.Taking.{Takes}
 
 -- whether an event is a draw
 abbrev pub is_draw : EventValue → Bool

@@ -1,8 +1,5 @@
 -- The tables of a run are fit, as the session's proofs need them.
-use Rattle.session_model.specs.Trace.{Trace}
-use Rattle.session_model.specs.Tables.{fresh}
-use Rattle.session_model.specs.Sound.{AreFit}
-use Rattle.session_model.specs.Run.{tables_of}
+use Rattle.session_core.proofs.Vocabulary.{Trace, fresh, AreFit, tables_of}
 use Rattle.session_laws.proofs.Staying.{fresh_fit, run_fit}
 
 pub run_is_fit : (h : Trace) → AreFit (tables_of h)

@@ -1,10 +1,9 @@
 -- The steps of a call, and of a new session's run, obey the laws of guests.
-use Rattle.std.proofs.Common.{◌≡◌, Bool, List, [], ◌∷◌, refl, ap, sym, subst}
-use Rattle.acl.specs.declared.user_id.UserId.{UserId}
+use Rattle.session_core.proofs.Vocabulary.{◌≡◌, Bool, List, [], ◌∷◌, refl, ap, sym, subst, UserId, Entry, Trace}
+use Rattle.session_core.proofs.Vocabulary.{with_step, begun, Tables, IsStep, IsRun, IsRunFrom, after, tables_of}
+use Rattle.session_core.proofs.Vocabulary.{AllSteps, Keeps, with_steps, Call, SomeRun, AreSteps, StandsFor, Session}
 use Rattle.acl.specs.declared.leaders.Edition.{Edition}
-use Rattle.session_model.specs.Trace.{Entry, Trace, with_step, begun}
-use Rattle.session_model.specs.Tables.{Tables}
-use Rattle.session_model.specs.Run.{IsStep, IsRun, IsRunFrom, after, tables_of, tables_from}
+use Rattle.session_model.specs.Run.{tables_from}
 use Rattle.session_laws.specs.Fit.{RunsAreFit}
 use Rattle.session_laws.specs.Changing.{RightsGate}
 use Rattle.session_laws.specs.Contained as contained
@@ -15,9 +14,7 @@ use Rattle.session_laws.specs.Naming.{WindowsStay}
 use Rattle.session_laws.specs.Opening.{NewWindowsAreMasked}
 use Rattle.session_laws.specs.Watching.{SpectatorsLeaveOthers}
 use Rattle.session_core.specs.Guarded.{IsGuarded, GuestsAreHeld}
-use Rattle.session_core.specs.Headline.{AllSteps, Keeps, with_steps, Call, SomeRun, IsRunOf, AreSteps}
-use Rattle.session_core.specs.Stands.{StandsFor}
-use Rattle.session_core.specs.declared.session.Session.{Session}
+use Rattle.session_core.specs.Headline.{IsRunOf}
 
 pub record Laws : Type 0 where
   pub gate : RightsGate

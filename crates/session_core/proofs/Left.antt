@@ -1,19 +1,11 @@
 -- What the code leaves of the shared frame after a step is what the definitions leave.
-use Rattle.std.proofs.Common.{◌≡◌, ℕ, List, [], Option, Some, None, Ok, Err, refl, ap, sym, ◌∙◌, subst, inl, inr}
-use Rattle.std.specs.Prelude.{is_ok}
-use Rattle.terminal_model.specs.Shows.{View}
-use Rattle.session_model.specs.Trace.{EventValue, Keys, Command, Draw, Output, Entry, Reply}
-use Rattle.session_model.specs.Tables.{Tables}
-use Rattle.session_model.specs.Sound.{Rises, AreSound, client_serials}
-use Rattle.session_model.specs.Events.{outcome}
-use Rattle.session_model.specs.Run.{IsStep, drawn, after}
-use Rattle.session_laws.proofs.Lists.{all_weaken}
-use Rattle.session_laws.proofs.Refusing.{refusals}
-use Rattle.session_view.specs.declared.following.Lead.{Lead}
-use Rattle.session_view.specs.Following.{Knows}
-use Rattle.session_core.specs.declared.sharing.Sharing.{Sharing}
-use Rattle.session_core.specs.Sharing.{AllKnow, IsLead, IsLeadIfAny, IsShared, PassesOn, AreLeft}
-use Rattle.session_core.specs.Taking.{StayShared}
+use Rattle.session_core.proofs.Vocabulary.{◌≡◌, ℕ, List, [], Option, Some, None, Ok, Err, refl, ap, sym, ◌∙◌, subst}
+use Rattle.session_core.proofs.Vocabulary.{inl, inr, is_ok, View, EventValue, Keys, Command, Draw, Output, Entry, Reply}
+use Rattle.session_core.proofs.Vocabulary.{Tables, Rises, client_serials, outcome, IsStep, drawn, after, all_weaken}
+use Rattle.session_core.proofs.Vocabulary.{refusals, Lead, Knows, Sharing, AllKnow, IsLead, IsLeadIfAny, IsShared}
+use Rattle.session_core.proofs.Vocabulary.{AreLeft, StayShared}
+use Rattle.session_model.specs.Sound.{AreSound}
+use Rattle.session_core.specs.Sharing.{PassesOn}
 use Rattle.session_core.proofs.Staying.{StayDrawn, keys_drawn, line_drawn, output_drawn, was_drawn}
 
 -- nothing is known

@@ -1,3 +1,4 @@
+pub mod Vocabulary
 pub mod Crossing
 pub mod Drawings
 pub mod Drawn

@@ -1,23 +1,16 @@
 -- The client that the code finds has the lowest serial that isn't below a number.
-use Rattle.std.proofs.Common.{◌≡◌, ℕ, zero, suc, ◌<◌, ◌≤◌, true, false, List, [], ◌∷◌, length, Some, None, map, get_or}
-use Rattle.std.proofs.Common.{refl, ap, ◌∙◌, arith}
+use Rattle.session_core.proofs.Vocabulary.{◌≡◌, ℕ, zero, suc, ◌<◌, ◌≤◌, true, false, List, [], ◌∷◌, length, Some, None}
+use Rattle.session_core.proofs.Vocabulary.{map, get_or, refl, ap, ◌∙◌, arith, nat_tests, if_true, if_false}
+use Rattle.session_core.proofs.Vocabulary.{ClientStands, Trace, tables_of, client_serials, least_from, Session}
+use Rattle.session_core.proofs.Vocabulary.{StandsFor}
 use Rattle.std.specs.Prelude.{nat_le}
 use Rattle.std.specs.List.{position, position_or_len}
-use Rattle.std.proofs.lemmas.Bool.Decides.{nat_tests}
 use Rattle.std.proofs.lemmas.List.Quantifiers.{position-Some}
 use Rattle.std.proofs.lemmas.List.Sums.{fails_before_first}
 use Rattle.std.proofs.lemmas.Grind.{common_steps}
-use Rattle.windows_model.proofs.Serials.{if_true, if_false}
 use Rattle.windows_model.proofs.Matching.{mapped_match}
 use Rattle.session_state.specs.declared.client.Client.{Client}
-use Rattle.session_state.specs.Clients.{ClientStands}
-use Rattle.session_model.specs.Trace.{Trace}
 use Rattle.session_model.specs.Tables as model
-use Rattle.session_model.specs.Run.{tables_of}
-use Rattle.session_model.specs.Sound.{client_serials}
-use Rattle.session_core.specs.Least.{least_from}
-use Rattle.session_core.specs.declared.session.Session.{Session}
-use Rattle.session_core.specs.Stands.{StandsFor}
 
 module _ {A : Type 0} (f : A → ℕ) where
   least_at : (rows : List A) (s i : ℕ) (d : A) → i < length rows → nat_le s (f (get_or rows i d)) ≡ true

@@ -1,22 +1,17 @@
 -- Whether a user may type into a window, by the tables that a state stands for.
-use Rattle.std.proofs.Common.{◌≡◌, ◌∙◌, ℕ, Bool, true, false, Option, Some, None, refl, ap, sym, Bor}
-use Rattle.std.specs.Prelude.{◌&&◌}
+use Rattle.session_core.proofs.Vocabulary.{◌≡◌, ◌∙◌, ℕ, Bool, true, false, Option, Some, None, refl, ap, sym, ◌&&◌}
+use Rattle.session_core.proofs.Vocabulary.{option_copied, Write, UserId, WindowStands, serial_is, passes, Right}
+use Rattle.session_core.proofs.Vocabulary.{Unlocked, AreFit, Tables, window_at}
+use Rattle.std.proofs.Common.{Bor}
 use Rattle.std.specs.List.{list_all}
-use Rattle.std.specs.Option.{is_some, option_copied}
+use Rattle.std.specs.Option.{is_some}
 use Rattle.std.proofs.lemmas.Bool.{false≢true}
 use Rattle.acl.specs.declared.act.Object.TheVariants as object
-use Rattle.acl.specs.declared.bits.Bit.TheVariants.{Write}
-use Rattle.acl.specs.declared.user_id.UserId.{UserId}
 use Rattle.acl.specs.History.{is_open}
 use Rattle.windows.specs.declared.window.Window.{Window}
-use Rattle.windows.specs.Standing.{WindowStands}
-use Rattle.windows_model.proofs.Serials.{serial_is}
 use Rattle.windows_model.specs.Matched.{BothOrNone}
-use Rattle.session_model.specs.Checks.{passes, typing_checks}
-use Rattle.session_model.specs.declared.refusal.Check.TheVariants.{Right, Unlocked}
-use Rattle.session_model.specs.Sound.{AreFit}
+use Rattle.session_model.specs.Checks.{typing_checks}
 use Rattle.session_model.specs.Tables as model
-use Rattle.session_model.specs.Tables.{Tables, window_at}
 use Rattle.session_core.specs.MayType.{may_type}
 
 and_true : (b : Bool) → (b && true) ≡ b

@@ -1,31 +1,24 @@
 -- A client that the session knows to need no draw is drawn nothing, and knows so after each step.
-use Rattle.std.proofs.Common.{◌≡◌, ◌≢◌, ℕ, ◌++◌, Bool, true, false, List, [], ◌∷◌, Option, Some, None, Ok, Err, map}
-use Rattle.std.proofs.Common.{refl, ap, sym, ◌∙◌, subst, inl, inr, append-nil}
-use Rattle.std.specs.Prelude.{if◌then◌else◌, ◌==◌, ◌||◌, MatchOption, codes, nat_eq, is_ok}
-use Rattle.std.specs.List.{list_any}
-use Rattle.acl.specs.History.{followed_by}
-use Rattle.keys.specs.Grammar.{items}
-use Rattle.terminal_model.specs.Shows.{View, ShowsFromAny, LooksLike, NeedsNoDraw}
+use Rattle.session_core.proofs.Vocabulary.{◌≡◌, ◌≢◌, ℕ, ◌++◌, Bool, true, false, List, [], ◌∷◌, Option, Some, None, Ok}
+use Rattle.session_core.proofs.Vocabulary.{Err, map, refl, ap, sym, ◌∙◌, subst, inl, inr, append-nil, if◌then◌else◌}
+use Rattle.session_core.proofs.Vocabulary.{◌==◌, ◌||◌, MatchOption, is_ok, list_any, followed_by, items, View, Effect}
+use Rattle.session_core.proofs.Vocabulary.{NoWindow, EventValue, Draw, Entry, Reply, Tables, Client, client_at}
+use Rattle.session_core.proofs.Vocabulary.{with_client, row_of, granted_view, changing, Outcome, finished, refused}
+use Rattle.session_core.proofs.Vocabulary.{done, outcome, IsDraw, IsStep, HasEffects, drawn, drawn_on, after}
+use Rattle.session_core.proofs.Vocabulary.{deliveries, serial_is, with_same, with_other, is_equal, same_number}
+use Rattle.session_core.proofs.Vocabulary.{none_left, all_append, all_weaken, refusals, AreDrawn, AreNoted}
+use Rattle.std.specs.Prelude.{codes, nat_eq}
+use Rattle.terminal_model.specs.Shows.{ShowsFromAny, LooksLike, NeedsNoDraw}
 use Rattle.view.specs.Granted.{view_in}
-use Rattle.session_model.specs.declared.event.Effect.{Effect}
 use Rattle.session_model.specs.declared.event.StatusMessage.{StatusMessage}
 use Rattle.session_model.specs.declared.event.StatusMessage.TheVariants as message
-use Rattle.session_model.specs.declared.refusal.Refusal.TheVariants.{NoWindow}
-use Rattle.session_model.specs.Trace.{EventValue, Draw, Entry, Reply}
-use Rattle.session_model.specs.Tables.{Tables, Client, client_at, with_client, row_of, with_row}
+use Rattle.session_model.specs.Tables.{with_row}
 use Rattle.session_model.specs.Texts.{separated, client_item}
 use Rattle.session_model.specs.Keying.{open_line}
-use Rattle.session_model.specs.Granted.{granted_view, part_shown, layout_of, message_text, status_text}
-use Rattle.session_model.specs.Deeds.{changing}
-use Rattle.session_model.specs.Outcomes.{Outcome, finished, refused, done}
-use Rattle.session_model.specs.Events.{outcome}
-use Rattle.session_model.specs.Run.{IsDraw, IsStep, HasEffects, drawn, drawn_on, after, deliveries}
-use Rattle.windows_model.proofs.Serials.{serial_is, with_back, with_same, with_other, is_equal, same_number}
-use Rattle.session_laws.proofs.Leaving.{none_left}
-use Rattle.session_laws.proofs.Lists.{all_append, all_weaken}
+use Rattle.session_model.specs.Granted.{part_shown, layout_of, message_text, status_text}
+use Rattle.windows_model.proofs.Serials.{with_back}
 use Rattle.session_laws.proofs.Outcomes as outcomes
-use Rattle.session_laws.proofs.Refusing.{refusals}
-use Rattle.session_core.specs.Drawn.{IsDrawn, AreDrawn, AreNoted}
+use Rattle.session_core.specs.Drawn.{IsDrawn}
 
 abbrev pub serial_of : Client → ℕ
 serial_of c = c.serial

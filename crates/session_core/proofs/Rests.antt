@@ -1,14 +1,11 @@
 -- Keys read in steps, each with the rest that the step before left, are all the keys that were read.
-use Rattle.std.proofs.Common.{◌≡◌, ℕ, ◌+◌, ◌-◌, ◌<◌, ◌≤◌, List, [], ◌∷◌, length, take, drop, refl, ap, sym, ◌∙◌, arith}
-use Rattle.std.proofs.Common.{length-drop, drop-drop, ◌⊎◌}
+use Rattle.session_core.proofs.Vocabulary.{◌≡◌, ℕ, ◌+◌, ◌-◌, ◌<◌, ◌≤◌, List, [], ◌∷◌, length, take, drop, refl, ap, sym}
+use Rattle.session_core.proofs.Vocabulary.{◌∙◌, arith, ◌⊎◌, Effect, Keys, Reply, Noted, Session, Takes, read_by}
+use Rattle.session_core.proofs.Vocabulary.{SomeSteps}
+use Rattle.std.proofs.Common.{length-drop, drop-drop}
 use Rattle.std.proofs.lemmas.List.{take_all}
-use Rattle.session_model.specs.declared.event.Effect.{Effect}
-use Rattle.session_model.specs.Trace.{Keys, Reply}
-use Rattle.session_state.specs.Noted.{Noted}
-use Rattle.session_core.specs.declared.session.Session.{Session}
 use Rattle.session_core.specs.declared.session.Taken.TheVariants.{Whole}
-use Rattle.session_core.specs.Stands.{Takes}
-use Rattle.session_core.specs.Headline.{read_by, SomeSteps, take_call}
+use Rattle.session_core.specs.Headline.{take_call}
 use Rattle.session_core.proofs.RunReading.{last_read, some_left}
 use Rattle.session_core.proofs.Runs.{one_step, then_steps}
 

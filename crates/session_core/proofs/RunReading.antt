@@ -1,23 +1,15 @@
 -- A step of keys reads at least one key, if there is one.
-use Rattle.std.proofs.Common.{◌≡◌, ℕ, zero, suc, ◌+◌, ◌<◌, ◌≤◌, Bool, true, false, List, [], ◌∷◌, length, Option, Some}
-use Rattle.std.proofs.Common.{None, Ok, Err, take, drop, refl, ap, sym, subst, ◌∙◌, arith, add-one, ◌⊎◌, inl, inr}
-use Rattle.std.proofs.lemmas.List.{append-nil}
+use Rattle.session_core.proofs.Vocabulary.{◌≡◌, ℕ, zero, suc, ◌+◌, ◌<◌, ◌≤◌, Bool, true, false, List, [], ◌∷◌, length}
+use Rattle.session_core.proofs.Vocabulary.{Option, Some, None, Ok, Err, take, drop, refl, ap, sym, subst, ◌∙◌, arith}
+use Rattle.session_core.proofs.Vocabulary.{◌⊎◌, inl, inr, append-nil, if◌then◌else◌, list_any, nat_tests, items}
+use Rattle.session_core.proofs.Vocabulary.{Refusal, NoWindow, Keys, Reply, Tables, Client, client_at, taken, outcome}
+use Rattle.session_core.proofs.Vocabulary.{keys_outcome, reply_of, if_true, if_false, untaken_keys, read_by}
+use Rattle.std.proofs.Common.{add-one}
 use Rattle.std.proofs.Math.Seq.{drop-length}
-use Rattle.std.specs.Prelude.{if◌then◌else◌, find, unwrap_or, nat_lt}
-use Rattle.std.specs.List.{range_with_len, list_any}
-use Rattle.std.proofs.lemmas.Bool.Decides.{nat_tests}
-use Rattle.keys.specs.Grammar.{items}
-use Rattle.session_model.specs.declared.refusal.Refusal.{Refusal}
-use Rattle.session_model.specs.declared.refusal.Refusal.TheVariants.{NoWindow}
-use Rattle.session_model.specs.Trace.{Keys, Reply}
-use Rattle.session_model.specs.Tables.{Tables, Client, client_at}
-use Rattle.session_model.specs.Keying.{is_command, completes, taken}
-use Rattle.session_model.specs.Events.{outcome}
-use Rattle.session_model.specs.Answering.{keys_outcome}
-use Rattle.session_model.specs.Outcomes.{reply_of}
+use Rattle.std.specs.Prelude.{find, unwrap_or, nat_lt}
+use Rattle.std.specs.List.{range_with_len}
+use Rattle.session_model.specs.Keying.{is_command, completes}
 use Rattle.session_laws.proofs.Outcomes.{found}
-use Rattle.windows_model.proofs.Serials.{if_true, if_false}
-use Rattle.session_core.specs.Headline.{untaken_keys, read_by}
 
 -- no keys complete nothing
 none_complete : (past keys : List ℕ) → completes past keys 0 ≡ false

@@ -1,37 +1,24 @@
 -- Steps taken one after another are a run of the session, and each keeps the promise.
-use Rattle.std.proofs.Common.{◌≡◌, ℕ, ◌<◌, ◌+◌, true, List, [], ◌∷◌, ◌++◌, length, zero, suc, get_or, drop, map, refl}
-use Rattle.std.proofs.Common.{ap, sym, ◌∙◌, subst, arith, append_assoc, lt-ltb}
+use Rattle.session_core.proofs.Vocabulary.{◌≡◌, ℕ, ◌<◌, ◌+◌, true, List, [], ◌∷◌, ◌++◌, length, zero, suc, get_or, drop}
+use Rattle.session_core.proofs.Vocabulary.{map, refl, ap, sym, ◌∙◌, subst, arith, append-nil, Act, Effect, EventValue}
+use Rattle.session_core.proofs.Vocabulary.{Keys, Draw, happening, Reply, Entry, Trace, with_step, Tables, fresh}
+use Rattle.session_core.proofs.Vocabulary.{outcome, done, IsRun, IsStep, tables_of, Step, State, Stands, Sharing}
+use Rattle.session_core.proofs.Vocabulary.{IsShared, AreLeft, TakenAs, StayShared, Noted, AreDrawn, AreNoted}
+use Rattle.session_core.proofs.Vocabulary.{draws_one_of, Session, StandsFor, Takes, with_steps, AllSteps, Keeps}
+use Rattle.session_core.proofs.Vocabulary.{untaken_keys, Call, AreSteps, SomeRun, SomeSteps}
+use Rattle.std.proofs.Common.{append_assoc, lt-ltb}
 use Rattle.std.specs.Borrow.{Bor}
-use Rattle.std.proofs.lemmas.List.{append-nil}
-use Rattle.acl.specs.declared.act.Act.{Act}
-use Rattle.session_model.specs.declared.event.Effect.{Effect}
 use Rattle.session_model.specs.declared.event.Event.{Event}
 use Rattle.session_model.specs.declared.event.Event.TheVariants as told
 use Rattle.session_model.specs.declared.refusal.Verdict.{Verdict}
-use Rattle.session_model.specs.Trace.{EventValue, Keys, Draw}
-use Rattle.session_model.specs.Trace.{happening, Reply, Entry, Trace, with_step}
-use Rattle.session_model.specs.Tables.{Tables, fresh}
-use Rattle.session_model.specs.Events.{outcome}
-use Rattle.session_model.specs.Outcomes.{done}
 use Rattle.session_model.specs.Run as run
-use Rattle.session_model.specs.Run.{IsRun, IsStep, tables_of}
 use Rattle.session_laws.proofs.Promising.{step_keeps}
-use Rattle.session_state.specs.declared.state.Step.{Step}
-use Rattle.session_state.specs.declared.state.State.{State}
-use Rattle.session_state.specs.Stands.{Stands}
-use Rattle.session_core.specs.declared.sharing.Sharing.{Sharing}
-use Rattle.session_core.specs.Sharing.{IsShared, AreLeft}
-use Rattle.session_core.specs.Taking.{TakenAs, StayShared}
 use Rattle.session_laws.proofs.Sounding.{run_sound, fresh_sound}
 use Rattle.session_core.proofs.Left.{stay_shared}
-use Rattle.session_state.specs.Noted.{Noted, nothing}
-use Rattle.session_core.specs.Drawn.{AreDrawn, AreNoted, draws_one_of}
+use Rattle.session_state.specs.Noted.{nothing}
 use Rattle.session_core.proofs.Needless.{needs_none, one_drawn, stay_drawn}
-use Rattle.session_core.specs.declared.session.Session.{Session}
-use Rattle.session_core.specs.Stands.{StandsFor, Takes, entry_of}
-use Rattle.session_core.specs.Headline.{HasCome, with_steps, AllSteps, Keeps, untaken_keys, Serves, last_reply}
-use Rattle.session_core.specs.Headline.{replies_of, effects_of, without_keys, IsPart, Call, AreSteps, SomeRun}
-use Rattle.session_core.specs.Headline.{SomeSteps}
+use Rattle.session_core.specs.Stands.{entry_of}
+use Rattle.session_core.specs.Headline.{HasCome, Serves, last_reply, replies_of, effects_of, without_keys, IsPart}
 
 -- ---- lists of steps
 

@@ -1,12 +1,7 @@
 -- The view that a session gives of a client is its granted view, or no client has the serial.
-use Rattle.std.proofs.Common.{◌≡◌, ℕ, Option, Some, None, Ok, Err, sym, subst, inl, inr}
-use Rattle.std.specs.Prelude.{Result, MatchOption}
-use Rattle.terminal_model.specs.Shows.{View}
-use Rattle.session_model.specs.declared.refusal.Refusal.{Refusal}
-use Rattle.session_model.specs.Trace.{Trace}
-use Rattle.session_model.specs.Tables.{Client, client_at}
-use Rattle.session_model.specs.Granted.{granted_view}
-use Rattle.session_model.specs.Run.{tables_of}
+use Rattle.session_core.proofs.Vocabulary.{◌≡◌, ℕ, Option, Some, None, Ok, Err, sym, subst, inl, inr, MatchOption, View}
+use Rattle.session_core.proofs.Vocabulary.{Refusal, Trace, Client, client_at, granted_view, tables_of}
+use Rattle.std.specs.Prelude.{Result}
 use Rattle.session_view.specs.Viewed.{ViewOf}
 use Rattle.session_core.specs.Headline.{IsViewOf}
 

@@ -1,20 +1,14 @@
 -- An event on a client or window that is there was done as its deed; on one that isn't, it was refused.
-use Rattle.std.proofs.Common.{◌≡◌, List, [], Option, Some, None, Ok, Err, refl, ap, sym, append-nil, inl, inr}
-use Rattle.std.specs.Prelude.{◌⊎◌}
-use Rattle.session_model.specs.declared.refusal.Refusal.{Refusal}
-use Rattle.session_model.specs.declared.refusal.Refusal.TheVariants.{NoMemory, NoWindow}
-use Rattle.session_model.specs.Trace.{Reply}
-use Rattle.session_model.specs.Tables.{Tables}
-use Rattle.session_model.specs.Deeds.{Deed, given}
-use Rattle.session_model.specs.Outcomes.{Outcome, finished, refused, done}
-use Rattle.session_state.specs.declared.state.Step.{Step}
-use Rattle.session_state.specs.declared.state.StepOutput.{StepOutput}
-use Rattle.session_state.specs.declared.state.State.{State}
-use Rattle.session_state.specs.Stands.{Stands}
-use Rattle.session_state.specs.Doing.{HasDone, IsAsBefore}
+use Rattle.session_core.proofs.Vocabulary.{◌≡◌, List, [], Option, Some, Ok, Err, refl, ap, sym, append-nil, inl, inr}
+use Rattle.session_core.proofs.Vocabulary.{◌⊎◌, Refusal, NoMemory, Reply, Tables, Deed, Outcome, finished, refused}
+use Rattle.session_core.proofs.Vocabulary.{done, Step, StepOutput, State, Stands, IsAsBefore, HasHappened, Stepped}
+use Rattle.session_core.proofs.Vocabulary.{was_done}
+use Rattle.std.proofs.Common.{None}
+use Rattle.session_model.specs.declared.refusal.Refusal.TheVariants.{NoWindow}
+use Rattle.session_model.specs.Deeds.{given}
+use Rattle.session_state.specs.Doing.{HasDone}
 use Rattle.session_events.specs.Leaving.{HasLeft}
-use Rattle.session_input.specs.Stepping.{HasHappened, Stepped}
-use Rattle.session_input.proofs.Outcomes.{was_refused, was_done}
+use Rattle.session_input.proofs.Outcomes.{was_refused}
 
 -- what is done of it
 abbrev pub of_row : {X : Type 0} → Tables → (X → Deed) → Option X → Outcome

@@ -1,23 +1,15 @@
 -- The shared frame stays right for its followers when a client forgets, joins or begins one.
-use Rattle.std.proofs.Common.{◌≡◌, ◌≢◌, ℕ, Bool, true, false, not, List, [], ◌∷◌, Option, Some, None, refl, ap, sym}
-use Rattle.std.proofs.Common.{◌∙◌, subst, inl, inr}
-use Rattle.std.specs.Prelude.{if◌then◌else◌, ◌==◌, ◌||◌}
-use Rattle.terminal_model.specs.Shows.{View}
+use Rattle.session_core.proofs.Vocabulary.{◌≡◌, ◌≢◌, ℕ, Bool, true, false, not, List, [], ◌∷◌, Option, Some, None, refl}
+use Rattle.session_core.proofs.Vocabulary.{ap, sym, ◌∙◌, subst, inl, inr, if◌then◌else◌, ◌==◌, ◌||◌, View, Made, Effect}
+use Rattle.session_core.proofs.Vocabulary.{Tables, Client, client_at, granted_view, drawn_on, deliveries, serial_is}
+use Rattle.session_core.proofs.Vocabulary.{with_same, with_other, is_equal, same_number, all_append, Lead, Knows}
+use Rattle.session_core.proofs.Vocabulary.{Sharing, AllKnow, IsLead, IsLeadIfAny, IsShared, without, is_one_of, Joins}
+use Rattle.session_core.proofs.Vocabulary.{SharesOrForgets}
 use Rattle.redraw.specs.Shadow.{Knowledge}
-use Rattle.redraw.specs.Frames.{Made}
-use Rattle.session_model.specs.declared.event.Effect.{Effect}
-use Rattle.session_model.specs.Tables.{Tables, Client, client_at}
-use Rattle.session_model.specs.Granted.{granted_view}
-use Rattle.session_model.specs.Run.{drawn_on, deliveries}
-use Rattle.windows_model.proofs.Serials.{serial_is, with_same, with_other, is_equal, same_number}
-use Rattle.session_laws.proofs.Lists.{all_append}
-use Rattle.session_view.specs.declared.following.Lead.{Lead}
 use Rattle.session_view.specs.Viewed.{IsGranted}
 use Rattle.session_view.specs.Drawn.{LeadsOn}
-use Rattle.session_view.specs.Following.{Leads, IsLed, Knows}
-use Rattle.session_core.specs.declared.sharing.Sharing.{Sharing}
-use Rattle.session_core.specs.Sharing.{AllKnow, IsLead, IsLeadIfAny, IsShared, without, is_one_of, Forgets, Joins}
-use Rattle.session_core.specs.Sharing.{Begins, SharesOrForgets}
+use Rattle.session_view.specs.Following.{Leads, IsLed}
+use Rattle.session_core.specs.Sharing.{Forgets, Begins}
 use Rattle.session_core.proofs.Needless.{serial_of, shown, now, view_same, back}
 
 -- one of some clients that were drawn one thing

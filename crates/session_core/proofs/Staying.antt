@@ -1,26 +1,22 @@
 -- What was drawn for clients stays after keys, commands and output.
-use Rattle.std.proofs.Common.{◌≡◌, ℕ, ◌<◌, Bool, true, false, List, [], ◌∷◌, Option, Some, Ok, Err, ap, sym, ◌∙◌, subst}
-use Rattle.std.proofs.Common.{⊎_elim, take, arith}
-use Rattle.std.specs.Prelude.{if◌then◌else◌, ◌==◌}
+use Rattle.session_core.proofs.Vocabulary.{◌≡◌, ℕ, ◌<◌, Bool, true, false, List, [], ◌∷◌, Option, Some, Ok, Err, ap}
+use Rattle.session_core.proofs.Vocabulary.{sym, ◌∙◌, subst, take, arith, if◌then◌else◌, ◌==◌, nat_tests, UserId, Keys}
+use Rattle.session_core.proofs.Vocabulary.{Command, Output, Tables, Client, row_of, window_at, client_at, with_client}
+use Rattle.session_core.proofs.Vocabulary.{Deed, outputs, keys_outcome, taken, Outcome, finished, done, outcome, Rises}
+use Rattle.session_core.proofs.Vocabulary.{client_serials, all_weaken}
+use Rattle.std.proofs.Common.{⊎_elim}
 use Rattle.std.specs.List.{AllByRecursion}
-use Rattle.std.proofs.lemmas.Bool.Decides.{nat_tests}
-use Rattle.acl.specs.declared.user_id.UserId.{UserId}
 use Rattle.keys.specs.Grammar.{Item}
-use Rattle.session_model.specs.Trace.{Keys, Command, Output}
-use Rattle.session_model.specs.Tables.{Tables, Client, row_of, window_at, client_at, with_client, is_known}
+use Rattle.session_model.specs.Tables.{is_known}
 use Rattle.session_model.specs.Lines.{line_caller, read_line}
-use Rattle.session_model.specs.Deeds.{Deed, Answer}
+use Rattle.session_model.specs.Deeds.{Answer}
 use Rattle.session_model.specs.Commands.{does}
-use Rattle.session_model.specs.Comings.{outputs}
-use Rattle.session_model.specs.Answering.{reading, keys_outcome}
-use Rattle.session_model.specs.Keying.{taken, items_behind, typed_bytes, command_item}
-use Rattle.session_model.specs.Outcomes.{Outcome, finished, done}
-use Rattle.session_model.specs.Events.{outcome}
+use Rattle.session_model.specs.Answering.{reading}
+use Rattle.session_model.specs.Keying.{items_behind, typed_bytes, command_item}
 use Rattle.session_model.specs.Promises.{SomeOf}
-use Rattle.session_model.specs.Sound.{Rises, client_serials}
 use Rattle.session_laws.proofs.Doing.{Either}
 use Rattle.session_laws.proofs.Keeping.{core, Keeps, keeps}
-use Rattle.session_laws.proofs.Lists.{all_weaken, some_weaken, some_row, row_serial, itself, members}
+use Rattle.session_laws.proofs.Lists.{some_weaken, some_row, row_serial, itself, members}
 use Rattle.session_laws.proofs.Past.{keys_keep}
 use Rattle.session_laws.proofs.Showing.{some_has, all_row}
 use Rattle.session_laws.proofs.Outcomes as outcomes

@@ -1,14 +1,11 @@
 -- Nobody leaves a window in a step that changes no focus.
-use Rattle.std.proofs.Common.{◌≡◌, ℕ, Bool, true, false, List, [], ◌∷◌, Option, Some, None, refl}
-use Rattle.std.proofs.Common.{ap, ◌∙◌, ◌++◌, append-nil}
-use Rattle.std.specs.Prelude.{◌&&◌, ◌||◌}
-use Rattle.acl.specs.declared.user_id.UserId.{UserId}
-use Rattle.acl.specs.declared.act.Act.{Act}
+use Rattle.session_core.proofs.Vocabulary.{◌≡◌, ℕ, Bool, true, false, List, [], ◌∷◌, Option, Some, None, refl, ap, ◌∙◌}
+use Rattle.session_core.proofs.Vocabulary.{◌++◌, append-nil, ◌&&◌, ◌||◌, UserId, Act, Client, left_acts, if_true}
+use Rattle.session_core.proofs.Vocabulary.{same_number}
 use Rattle.acl.specs.declared.act.Act.TheVariants.{Left}
 use Rattle.acl.proofs.StandsForLemmas.{same_user-refl}
-use Rattle.session_model.specs.Tables.{Client, focused, is_window, is_in_focus, shows}
-use Rattle.session_model.specs.Outcomes.{left_acts_of, left_acts}
-use Rattle.windows_model.proofs.Serials.{if_true, same_number}
+use Rattle.session_model.specs.Tables.{focused, is_window, is_in_focus, shows}
+use Rattle.session_model.specs.Outcomes.{left_acts_of}
 
 or_true : (a b : Bool) → b ≡ true → (a || b) ≡ true
 or_true true b is = refl

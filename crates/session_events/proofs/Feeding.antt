@@ -1,27 +1,18 @@
 -- If the program of a window writes, the state stands for the tables with that output and its answers.
-use Rattle.std.proofs.Common.{◌≡◌, ℕ, true, false, List, [], ◌∷◌, ◌++◌, length, Some, Ok, Err}
-use Rattle.std.proofs.Common.{ap, sym, subst, ◌∙◌, append-nil, ◌⊎◌, inl, inr}
-use Rattle.std.proofs.Common.{is_ok}
-use Rattle.std.specs.Prelude.{◌==◌, if◌then◌else◌, Result}
+use Rattle.session_events.proofs.Vocabulary.{◌≡◌, ℕ, true, false, List, [], ◌∷◌, ◌++◌, length, Some, Ok, Err, ap, sym}
+use Rattle.session_events.proofs.Vocabulary.{subst, ◌∙◌, append-nil, ◌⊎◌, inl, inr, is_ok, ◌==◌, if◌then◌else◌, Result}
+use Rattle.session_events.proofs.Vocabulary.{reads, Input, WindowsFault, refusal_of, NoMemory, Tables, Window, with_row}
+use Rattle.session_events.proofs.Vocabulary.{terminal_of, StandFor, AnsweredIfRoom, if_true, if_false, StepOutput}
+use Rattle.session_events.proofs.Vocabulary.{State, Stands, HasDone}
 use Rattle.terminal_model.specs.Writing.{Output}
-use Rattle.terminal_model.specs.Reading.{reads}
-use Rattle.session_model.specs.declared.event.Effect.TheVariants.{Input}
-use Rattle.session_model.specs.rows.WindowsFault.{WindowsFault}
 use Rattle.session_model.specs.rows.WindowsFault.TheVariants as fault
-use Rattle.session_model.specs.Faults.{refusal_of}
-use Rattle.session_model.specs.declared.refusal.Refusal.TheVariants.{NoMemory}
-use Rattle.session_model.specs.Tables.{Tables, Window, window_at, with_row}
-use Rattle.session_model.specs.Terminals.{terminal_of}
+use Rattle.session_model.specs.Tables.{window_at}
 use Rattle.session_model.specs.Deeds.{input_of}
 use Rattle.session_model.specs.Comings.{outputs}
 use Rattle.windows.specs.declared.window.Window.{Window as Row}
-use Rattle.windows.specs.Standing.{StandFor, AnsweredIfRoom, serial, written, written_to, fed_in}
+use Rattle.windows.specs.Standing.{serial, written, written_to, fed_in}
 use Rattle.windows.proofs.Callers.{row_done, row_refused_as}
-use Rattle.windows_model.proofs.Serials.{serial_is, if_true, if_false}
-use Rattle.session_state.specs.declared.state.StepOutput.{StepOutput}
-use Rattle.session_state.specs.declared.state.State.{State}
-use Rattle.session_state.specs.Stands.{Stands}
-use Rattle.session_state.specs.Doing.{HasDone}
+use Rattle.windows_model.proofs.Serials.{serial_is}
 
 -- bytes for a window's program
 pub no_input : (w : ℕ) (bytes : List ℕ) → (length bytes == 0) ≡ true → input_of w bytes ≡ []

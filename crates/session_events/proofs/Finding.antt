@@ -1,15 +1,12 @@
 -- The window with the lowest number is open, and no window has the next serial.
-use Rattle.std.proofs.Common.{◌≡◌, ◌≢◌, ℕ, ◌<◌, Bool, true, false, List, [], ◌∷◌, Option, Some, None}
-use Rattle.std.proofs.Common.{refl, ap, subst, ◌∙◌, arith, is_some}
-use Rattle.std.specs.Prelude.{if◌then◌else◌, ◌==◌, nat_lt}
-use Rattle.std.specs.Option.{option_map}
-use Rattle.acl.specs.History.{is_open}
-use Rattle.session_model.specs.Tables.{Tables, Window, row_of}
-use Rattle.session_model.specs.Naming.{lower, lowest}
-use Rattle.session_model.specs.Sound.{Rises, window_serials}
-use Rattle.windows_model.proofs.Serials.{if_true, if_false, same_number, other_number}
-use Rattle.session_model.specs.Sound.{AreFit}
-use Rattle.session_events.specs.Events.{IsOpenIn}
+use Rattle.session_events.proofs.Vocabulary.{◌≡◌, ℕ, ◌<◌, Bool, true, false, List, [], ◌∷◌, Option, Some, None, refl}
+use Rattle.session_events.proofs.Vocabulary.{ap, subst, ◌∙◌, arith, is_some, if◌then◌else◌, ◌==◌, nat_lt, option_map}
+use Rattle.session_events.proofs.Vocabulary.{is_open, Tables, Window, lowest, Rises, window_serials, if_true, if_false}
+use Rattle.session_events.proofs.Vocabulary.{AreFit, IsOpenIn}
+use Rattle.std.proofs.Common.{◌≢◌}
+use Rattle.session_model.specs.Tables.{row_of}
+use Rattle.session_model.specs.Naming.{lower}
+use Rattle.windows_model.proofs.Serials.{same_number, other_number}
 
 abbrev serial : Window → ℕ
 serial w = w.serial

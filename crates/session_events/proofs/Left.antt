@@ -1,38 +1,31 @@
 -- The users who left windows by the code's rows are those by the definitions' tables.
-use Rattle.std.proofs.Common.{◌≡◌, ◌∙◌, ℕ, ◌+◌, Bool, true, false, List, [], ◌∷◌, ◌++◌, Option, Some, None, refl, ap}
-use Rattle.std.proofs.Common.{sym, subst, length, take, drop, append_assoc, arith, ◌≤◌, ◌-◌, length-drop}
-use Rattle.std.specs.Prelude.{Result, Ok, Err, IsOk, is_ok, if◌then◌else◌, ◌&&◌, ◌||◌, slice_get, map}
+use Rattle.session_events.proofs.Vocabulary.{◌≡◌, ◌∙◌, ℕ, ◌+◌, Bool, true, false, List, [], ◌∷◌, ◌++◌, Option, Some}
+use Rattle.session_events.proofs.Vocabulary.{None, refl, ap, sym, subst, length, take, drop, append_assoc, arith, ◌≤◌}
+use Rattle.session_events.proofs.Vocabulary.{Result, Ok, Err, is_ok, if◌then◌else◌, ◌&&◌, map, UserId, Edition, Act}
+use Rattle.session_events.proofs.Vocabulary.{Left, History, followed_by, followed_by-append, LocksStandFor, Locks}
+use Rattle.session_events.proofs.Vocabulary.{Tables, left_acts, AreClients, State, Stands, Focus, focus_now, focuses_of}
+use Rattle.session_events.proofs.Vocabulary.{left_window, leaving, all_left}
+use Rattle.std.proofs.Common.{◌-◌, length-drop}
+use Rattle.std.specs.Prelude.{IsOk, ◌||◌, slice_get}
 use Rattle.std.specs.List.{AllByRecursion, list_any}
 use Rattle.std.proofs.lemmas.List.{take_all}
 use Rattle.std.specs.Option.{option_and_then}
 use Rattle.regions.specs.declared.layout.Shown.{Shown}
 use Rattle.regions.specs.Layouts.{Arrangement}
-use Rattle.acl.specs.declared.user_id.UserId.{UserId}
-use Rattle.acl.specs.declared.leaders.Edition.{Edition}
-use Rattle.acl.specs.declared.act.Act.{Act}
-use Rattle.acl.specs.declared.act.Act.TheVariants.{Left}
 use Rattle.acl.specs.Commands.{IsAside}
-use Rattle.acl.specs.History.{History, followed_by}
 use Rattle.acl.specs.Table.{StandsFor}
 use Rattle.acl.proofs.AsideLemmas.{StandsFor-all_aside}
-use Rattle.acl.proofs.FollowingLemmas.{followed_by-append}
-use Rattle.writelock.specs.LockTable.{LocksStandFor}
-use Rattle.writelock.specs.declared.locks.Locks.{Locks}
 use Rattle.acl.specs.Same.{same_user}
 use Rattle.session_model.specs.Tables as model
-use Rattle.session_model.specs.Tables.{Tables, focused, is_window, shows, is_in_focus}
+use Rattle.session_model.specs.Tables.{focused, is_window, shows, is_in_focus}
 use Rattle.session_model.specs.Deeds.{Deed}
-use Rattle.session_model.specs.Outcomes.{left_acts_of, left_acts}
+use Rattle.session_model.specs.Outcomes.{left_acts_of}
 use Rattle.windows_model.proofs.Matching.{length_match}
 use Rattle.session_state.specs.declared.client.Client.{Client}
 use Rattle.session_state.specs.Moves.{in_focus}
-use Rattle.session_state.specs.Clients.{ClientStands, AreClients}
-use Rattle.session_state.specs.declared.state.State.{State}
-use Rattle.session_state.specs.Stands.{Stands}
+use Rattle.session_state.specs.Clients.{ClientStands}
 use Rattle.session_state.specs.Doing.{did}
-use Rattle.session_events.specs.declared.focuses.Focus.{Focus}
-use Rattle.session_events.specs.Leaving.{focus_by, focus_in, focus_now, focuses_of, ended, looks_at, shows_now}
-use Rattle.session_events.specs.Leaving.{left_window, leaving, all_left}
+use Rattle.session_events.specs.Leaving.{focus_by, focus_in, ended, looks_at, shows_now}
 
 -- ---- what is in focus
 

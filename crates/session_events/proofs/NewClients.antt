@@ -1,28 +1,17 @@
 -- A client that attaches is the definitions' one, and its user enters the window that it shows.
-use Rattle.std.proofs.Common.{◌≡◌, ℕ, ◌+◌, List, [], ◌∷◌, ◌++◌, Option, Some, None}
-use Rattle.std.proofs.Common.{ap, sym, subst, ◌∙◌, append_assoc, append-nil}
-use Rattle.std.specs.Option.{option_map}
-use Rattle.acl.specs.declared.user_id.UserId.{UserId}
-use Rattle.acl.specs.declared.act.Act.{Act}
+use Rattle.session_events.proofs.Vocabulary.{◌≡◌, ℕ, ◌+◌, List, [], ◌∷◌, ◌++◌, Option, Some, None, ap, sym, subst, ◌∙◌}
+use Rattle.session_events.proofs.Vocabulary.{append_assoc, append-nil, option_map, UserId, Act, Effect, Tables, Window}
+use Rattle.session_events.proofs.Vocabulary.{with_row, lowest, AreClients, StepOutput, State, Stands, AreFit, HasDone}
+use Rattle.session_events.proofs.Vocabulary.{IsOpenIn}
 use Rattle.acl.specs.declared.act.Act.TheVariants as act
 use Rattle.acl.proofs.AsideLemmas.{StandsFor-aside}
 use Rattle.writelock.proofs.LockLemmas.{LocksStandFor-Attached}
-use Rattle.session_model.specs.declared.event.Effect.{Effect}
-use Rattle.session_model.specs.Tables.{Tables, Window, Client, with_client, with_row}
-use Rattle.session_model.specs.Tables.{client_at}
-use Rattle.session_model.specs.Naming.{lowest}
+use Rattle.session_model.specs.Tables.{Client, with_client, client_at}
 use Rattle.session_model.specs.Deeds.{acting, changing, entering}
 use Rattle.session_model.specs.Comings.{attached, new_client, attaches, resized}
 use Rattle.session_state.specs.declared.client.Client.{Client as Row}
 use Rattle.session_state.specs.Clients as clients
-use Rattle.session_state.specs.Clients.{AreClients}
 use Rattle.windows_model.proofs.Serials.{serial_is as serial_at}
-use Rattle.session_state.specs.declared.state.StepOutput.{StepOutput}
-use Rattle.session_state.specs.declared.state.State.{State}
-use Rattle.session_state.specs.Stands.{Stands}
-use Rattle.session_model.specs.Sound.{AreFit}
-use Rattle.session_state.specs.Doing.{HasDone}
-use Rattle.session_events.specs.Events.{IsOpenIn}
 use Rattle.session_events.proofs.Finding.{lowest_open}
 
 -- the window that a new client shows

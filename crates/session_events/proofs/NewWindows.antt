@@ -1,31 +1,21 @@
 -- A window that opens is the definitions' one, with the next serial and the lowest free number.
-use Rattle.std.proofs.Common.{◌≡◌, ℕ, ◌+◌, ◌<◌, true, List, [], ◌∷◌, ◌++◌, length, ap, sym, subst, refl}
-use Rattle.std.proofs.Common.{Option, Some, None, Ok, Err, ◌∙◌, append-nil, arith, ◌⊎◌, inl, inr}
-use Rattle.std.proofs.Common.{is_some}
-use Rattle.std.specs.Prelude.{nat_lt, ◌&&◌, ◌^◌, unwrap_or}
+use Rattle.session_events.proofs.Vocabulary.{◌≡◌, ℕ, ◌+◌, ◌<◌, true, List, [], ◌∷◌, ◌++◌, length, ap, sym, subst, refl}
+use Rattle.session_events.proofs.Vocabulary.{Option, Some, None, Ok, Err, ◌∙◌, append-nil, arith, ◌⊎◌, inl, inr}
+use Rattle.session_events.proofs.Vocabulary.{is_some, nat_lt, ◌&&◌, ◌^◌, unwrap_or, UserId, Locks, LocksStandFor}
+use Rattle.session_events.proofs.Vocabulary.{WindowsFault, refusal_of, NoMemory, Tables, Window, free_number, AreFit}
+use Rattle.session_events.proofs.Vocabulary.{Rises, window_serials, StandFor, AnsweredIfRoom, if_true, StepOutput}
+use Rattle.session_events.proofs.Vocabulary.{State, Stands, HasDone}
 use Rattle.std.proofs.lemmas.Bool.{and_from}
 use Rattle.std.proofs.lemmas.Bool.Decides.{nat_tests}
-use Rattle.acl.specs.declared.user_id.UserId.{UserId}
 use Rattle.acl.specs.declared.act.Act.TheVariants as act
 use Rattle.acl.specs.Table as acl
-use Rattle.writelock.specs.declared.locks.Locks.{Locks}
-use Rattle.writelock.specs.LockTable.{LocksStandFor}
-use Rattle.session_model.specs.rows.WindowsFault.{WindowsFault}
 use Rattle.session_model.specs.rows.WindowsFault.TheVariants as fault
-use Rattle.session_model.specs.Faults.{refusal_of}
-use Rattle.session_model.specs.declared.refusal.Refusal.TheVariants.{NoMemory}
-use Rattle.session_model.specs.Tables.{Tables, Window, is_known}
-use Rattle.session_model.specs.Naming.{free_number, is_title}
+use Rattle.session_model.specs.Tables.{is_known}
+use Rattle.session_model.specs.Naming.{is_title}
 use Rattle.session_model.specs.Checks.{first_fault}
 use Rattle.session_model.specs.Comings.{is_window_size, has_place, open_checks, new_window, opens}
-use Rattle.session_model.specs.Sound.{AreFit, Rises, window_serials}
 use Rattle.windows.specs.declared.window.Window.{Window as Row}
-use Rattle.windows.specs.Standing.{StandFor, AnsweredIfRoom, is_above, opened, new_row, numbered}
-use Rattle.windows_model.proofs.Serials.{if_true}
-use Rattle.session_state.specs.declared.state.StepOutput.{StepOutput}
-use Rattle.session_state.specs.declared.state.State.{State}
-use Rattle.session_state.specs.Stands.{Stands}
-use Rattle.session_state.specs.Doing.{HasDone}
+use Rattle.windows.specs.Standing.{is_above, opened, new_row, numbered}
 use Rattle.session_events.proofs.Passing.{both_passed, both_true}
 
 -- what the checks say of a window that may open

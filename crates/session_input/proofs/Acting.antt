@@ -1,25 +1,19 @@
 -- A command that needs a client or a window is refused if there is none.
-use Rattle.std.proofs.Common.{◌≡◌, Bool, true, false, not, refl, ℕ, List, Option, Some, None, Ok, Err}
-use Rattle.std.proofs.Common.{ap, sym, subst, ◌∙◌, inr}
-use Rattle.std.specs.Prelude.{Result, IfOk}
-use Rattle.std.specs.Option.{is_some}
+use Rattle.session_input.proofs.Vocabulary.{◌≡◌, Bool, List, Some, Ok, ap, sym, ◌∙◌, inr, Result, IfOk, is_some, UserId}
+use Rattle.session_input.proofs.Vocabulary.{Refusal, Tables, window_at, Caller, StepOutput, State, Does, IsAsBefore}
+use Rattle.session_input.proofs.Vocabulary.{caller_in}
+use Rattle.std.proofs.Common.{true, false, not, refl, ℕ, Option, None, Err, subst}
 use Rattle.std.specs.Option.{option_and_then}
 use Rattle.acl.specs.declared.act.LockMode.{LockMode}
 use Rattle.acl.specs.declared.act.LockMode.TheVariants.{Off, Auto, On}
-use Rattle.acl.specs.declared.user_id.UserId.{UserId}
 use Rattle.command_lang.specs.declared.command.Command.{Command}
 use Rattle.command_lang.specs.declared.command.Command.TheVariants as command
 use Rattle.command_lang.specs.Needs.{needs, of_lock}
-use Rattle.session_model.specs.declared.refusal.Refusal.{Refusal}
 use Rattle.session_model.specs.declared.refusal.Refusal.TheVariants.{NoWindow}
-use Rattle.session_model.specs.Tables.{Tables, window_at}
 use Rattle.session_model.specs.Lines as model
 use Rattle.session_model.specs.Deeds.{given}
 use Rattle.session_model.specs.Commands.{does, caller_client}
-use Rattle.session_state.specs.declared.state.Caller.{Caller}
-use Rattle.session_state.specs.declared.state.StepOutput.{StepOutput}
-use Rattle.session_state.specs.declared.state.State.{State}
-use Rattle.session_state.specs.Doing.{Does, IsAsBefore, IsSilent, caller_in}
+use Rattle.session_state.specs.Doing.{IsSilent}
 use Rattle.session_commands.specs.Giving.{NobodyGives}
 
 -- a fact of what is needed

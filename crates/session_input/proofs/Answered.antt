@@ -1,37 +1,20 @@
 -- What a line or keys answered is the outcome of their event.
-use Rattle.std.proofs.Common.{◌≡◌, ℕ, true, List, [], Option, Some, None}
-use Rattle.std.proofs.Common.{Result, Ok, Err, refl, ap, sym, ◌∙◌, append-nil, inl, inr}
-use Rattle.std.specs.Prelude.{◌⊎◌}
-use Rattle.command_lang.specs.declared.command.Command.{Command}
-use Rattle.command_lang.specs.declared.fault.ParseFault.{ParseFault}
+use Rattle.session_input.proofs.Vocabulary.{◌≡◌, ℕ, true, List, [], Option, Some, None, Result, Ok, Err, refl, ap, sym}
+use Rattle.session_input.proofs.Vocabulary.{◌∙◌, append-nil, inl, inr, ◌⊎◌, Command, ParseFault, Relates, Refuses}
+use Rattle.session_input.proofs.Vocabulary.{read_line, no_memory, relates-reads, refuses-reads, UserId, Refusal}
+use Rattle.session_input.proofs.Vocabulary.{NoMemory, NoWindow, Line, Reply, Tables, Client, Ruling, ruling, Deed}
+use Rattle.session_input.proofs.Vocabulary.{Outcome, refused, reply_of, if_true, Step, StepOutput, State, Stands}
+use Rattle.session_input.proofs.Vocabulary.{IsAsBefore, did, HasLeft, Ruled, ReadFor, read_of, Parses, HasHappened}
 use Rattle.command_lang.specs.declared.fault.FaultKind.{FaultKind}
 use Rattle.command_lang.specs.declared.fault.FaultKind.TheVariants as fault
-use Rattle.command_lang.specs.Relation.{Relates, Refuses, read_line}
-use Rattle.command_lang.specs.LineFaults.{no_memory}
-use Rattle.command_lang.proofs.OneReading.{relates-reads, refuses-reads}
-use Rattle.acl.specs.declared.user_id.UserId.{UserId}
-use Rattle.session_model.specs.declared.refusal.Refusal.{Refusal}
-use Rattle.session_model.specs.declared.refusal.Refusal.TheVariants.{NoMemory, NoWindow}
-use Rattle.session_model.specs.declared.refusal.Refusal.TheVariants.{Line}
-use Rattle.session_model.specs.Trace.{Reply, Command as Given}
-use Rattle.session_model.specs.Tables.{Tables, Client, is_known}
+use Rattle.session_model.specs.Trace.{Command as Given}
+use Rattle.session_model.specs.Tables.{is_known}
 use Rattle.session_model.specs.Lines.{Caller, line_caller}
-use Rattle.session_model.specs.Commands.{Ruling, ruling}
-use Rattle.session_model.specs.Deeds.{Deed, Answer}
-use Rattle.session_model.specs.Outcomes.{Outcome, refused, reply_of}
+use Rattle.session_model.specs.Deeds.{Answer}
 use Rattle.session_model.specs.Events.{outcome}
 use Rattle.session_model.specs.Answering.{answered, commanded, line_ruling, keys_outcome}
-use Rattle.windows_model.proofs.Serials.{if_true}
-use Rattle.session_state.specs.declared.state.Step.{Step}
-use Rattle.session_state.specs.declared.state.StepOutput.{StepOutput}
-use Rattle.session_state.specs.declared.state.State.{State}
-use Rattle.session_state.specs.Stands.{Stands}
-use Rattle.session_state.specs.Doing.{IsAsBefore, did}
-use Rattle.session_events.specs.Leaving.{HasLeft}
-use Rattle.session_input.specs.Reads.{Ruled}
-use Rattle.session_input.specs.Reads.{ReadFor, read_of}
-use Rattle.session_input.specs.Lines.{Parses, line_refusal, refusal_by}
-use Rattle.session_input.specs.Stepping.{HasHappened, Stepped}
+use Rattle.session_input.specs.Lines.{line_refusal, refusal_by}
+use Rattle.session_input.specs.Stepping.{Stepped}
 use Rattle.session_input.proofs.Outcomes.{was_refused, was_done}
 
 -- ---- lines

@@ -1,26 +1,12 @@
 -- Bytes that are typed go to the window in focus, or their client is told why not.
-use Rattle.std.proofs.Common.{◌≡◌, ℕ, true, false, List, [], ◌∷◌, ◌++◌, Option, Some, None, refl}
-use Rattle.std.proofs.Common.{ap, sym, ◌∙◌, length, inl, inr}
-use Rattle.std.specs.Prelude.{◌⊎◌, ◌==◌}
-use Rattle.std.specs.Option.{option_and_then}
-use Rattle.acl.specs.declared.user_id.UserId.{UserId}
-use Rattle.session_model.specs.declared.event.Effect.{Effect}
-use Rattle.session_model.specs.declared.event.Effect.TheVariants.{Input, Say}
-use Rattle.session_model.specs.declared.event.StatusMessage.{StatusMessage}
-use Rattle.session_model.specs.declared.event.StatusMessage.TheVariants.{Silence, Text}
-use Rattle.session_model.specs.declared.refusal.Refusal.{Refusal}
-use Rattle.session_model.specs.declared.refusal.Refusal.TheVariants.{NoMemory}
-use Rattle.session_model.specs.Tables.{Window, Client, Tables, window_at, client_at, focused}
-use Rattle.session_model.specs.Tables.{focused_window}
-use Rattle.session_model.specs.Checks.{first_fault, typing_checks}
-use Rattle.session_model.specs.Deeds.{Deed, changing}
-use Rattle.session_model.specs.Answering.{input_in, says_why}
-use Rattle.session_model.specs.Texts.{text_of}
-use Rattle.windows_model.proofs.Serials.{serial_is}
-use Rattle.session_state.specs.declared.state.Step.{Step}
-use Rattle.session_checks.specs.Checked.{Passed, Failed}
-use Rattle.session_input.specs.Said.{wants_memory}
-use Rattle.session_input.specs.Typing.{Typed, input_to}
+use Rattle.session_input.proofs.Vocabulary.{◌≡◌, ℕ, true, false, List, [], ◌∷◌, ◌++◌, Option, Some, None, refl, ap, sym}
+use Rattle.session_input.proofs.Vocabulary.{◌∙◌, length, inl, inr, ◌⊎◌, ◌==◌, option_and_then, UserId, Effect, Say}
+use Rattle.session_input.proofs.Vocabulary.{StatusMessage, Silence, Text, Refusal, NoMemory, Window, Client, Tables}
+use Rattle.session_input.proofs.Vocabulary.{window_at, client_at, focused_window, first_fault, typing_checks, Deed}
+use Rattle.session_input.proofs.Vocabulary.{changing, input_in, says_why, text_of, serial_is, Step, Passed, Failed}
+use Rattle.session_input.proofs.Vocabulary.{wants_memory, Typed, input_to}
+use Rattle.session_model.specs.declared.event.Effect.TheVariants.{Input}
+use Rattle.session_model.specs.Tables.{focused}
 
 -- if the checks passed, there is a window in focus
 focus_there : (t : Tables) (user : UserId) (o : Option Window)

@@ -1,13 +1,8 @@
 -- What the code's reader has read of keys is what a step of the definitions reads.
-use Rattle.std.proofs.Common.{◌≡◌, ℕ, true, false, List, [], ◌∷◌, Option, Some, Result, Ok, Err, refl, ap, sym, ◌∙◌}
-use Rattle.std.proofs.Common.{length, inl, inr}
-use Rattle.std.specs.Prelude.{◌⊎◌, ◌==◌, IfOk}
+use Rattle.session_input.proofs.Vocabulary.{◌≡◌, ℕ, true, false, List, [], ◌∷◌, Option, Some, Result, Ok, Err, refl, ap}
+use Rattle.session_input.proofs.Vocabulary.{sym, ◌∙◌, length, inl, inr, ◌⊎◌, ◌==◌, IfOk, Command, ParseFault, Relates}
+use Rattle.session_input.proofs.Vocabulary.{Refuses, read_line, no_memory, relates-reads, refuses-reads}
 use Rattle.std.specs.declared.alloc.AllocError.{AllocError}
-use Rattle.command_lang.specs.declared.command.Command.{Command}
-use Rattle.command_lang.specs.declared.fault.ParseFault.{ParseFault}
-use Rattle.command_lang.specs.Relation.{Relates, Refuses, read_line}
-use Rattle.command_lang.specs.LineFaults.{no_memory}
-use Rattle.command_lang.proofs.OneReading.{relates-reads, refuses-reads}
 use Rattle.session_input.specs.Given.{given_line, is_want}
 
 given_there : (line : List ℕ) → (length line == 0) ≡ false → given_line line ≡ Some (read_line line)

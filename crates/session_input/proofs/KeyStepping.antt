@@ -1,51 +1,28 @@
 -- A step of keys does what they type, and then what their command does, as the definitions' step.
-use Rattle.std.proofs.Common.{◌≡◌, ℕ, zero, suc, ◌+◌, ◌<◌, ◌≤◌, Bool, true, false, List, [], ◌∷◌, ◌++◌, Option, Some}
-use Rattle.std.proofs.Common.{None}
-use Rattle.std.proofs.Common.{Result, Ok, Err, refl, ap, sym, subst, ◌∙◌, arith, length, append-nil, append_assoc}
+use Rattle.session_input.proofs.Vocabulary.{◌≡◌, ℕ, suc, ◌+◌, ◌<◌, ◌≤◌, Bool, true, false, List, [], ◌∷◌, ◌++◌, Option}
+use Rattle.session_input.proofs.Vocabulary.{Some, None, Result, Ok, Err, refl, ap, sym, subst, ◌∙◌, arith, length}
+use Rattle.session_input.proofs.Vocabulary.{append-nil, append_assoc, if◌then◌else◌, option_and_then, Shown}
+use Rattle.session_input.proofs.Vocabulary.{Arrangement, Command, ParseFault, Keeping, UserId, Act, followed_by, Effect}
+use Rattle.session_input.proofs.Vocabulary.{StatusMessage, Silence, Text, Refusal, Verdict, Tables, Client, Window}
+use Rattle.session_input.proofs.Vocabulary.{client_at, with_client, focused_window, row_of, first_fault, typing_checks}
+use Rattle.session_input.proofs.Vocabulary.{Deed, changing, hearing, reading, input_in, says_why, left_acts, text_of}
+use Rattle.session_input.proofs.Vocabulary.{HasLeft, serial_is, with_same, ClientStands, Caller, Step, StepOutput}
+use Rattle.session_input.proofs.Vocabulary.{State, Stands, did, Obeyed, read_of, ReadFor, read_by, Typed, caller_by}
+use Rattle.std.proofs.Common.{zero}
 use Rattle.std.proofs.lemmas.List.{length-take-le}
-use Rattle.std.specs.Prelude.{if◌then◌else◌, find, unwrap_or, OnErr}
-use Rattle.std.specs.Prelude.{slice_get}
-use Rattle.std.specs.Option.{option_and_then}
+use Rattle.std.specs.Prelude.{find, unwrap_or, OnErr, slice_get}
 use Rattle.std.specs.List.{range_with_len}
-use Rattle.regions.specs.declared.layout.Shown.{Shown}
-use Rattle.regions.specs.Layouts.{Arrangement}
-use Rattle.command_lang.specs.declared.command.Command.{Command}
-use Rattle.command_lang.specs.declared.fault.ParseFault.{ParseFault}
 use Rattle.keys.specs.Grammar.{Item, typed as typed_item, bound as bound_item, line as line_item}
-use Rattle.keys.specs.Kept.{Keeping}
-use Rattle.acl.specs.declared.user_id.UserId.{UserId}
-use Rattle.acl.specs.declared.act.Act.{Act}
-use Rattle.acl.specs.History.{followed_by}
-use Rattle.session_model.specs.declared.event.Effect.{Effect}
-use Rattle.session_model.specs.declared.event.StatusMessage.{StatusMessage}
-use Rattle.session_model.specs.declared.event.StatusMessage.TheVariants.{Silence, Text}
-use Rattle.session_model.specs.declared.refusal.Refusal.{Refusal}
-use Rattle.session_model.specs.declared.refusal.Verdict.{Verdict}
-use Rattle.session_model.specs.Tables.{Tables, Client, Window, client_at, with_client, focused_window, row_of}
-use Rattle.session_model.specs.Checks.{first_fault, typing_checks}
-use Rattle.session_model.specs.Deeds.{Deed, changing, hearing}
 use Rattle.session_model.specs.Keying.{items_behind, taken, typed_bytes, command_item, completes}
-use Rattle.session_model.specs.Answering.{Ordered, ordered, types, typing_verdicts, reading, input_in, says_why}
-use Rattle.session_model.specs.Answering.{unsaid}
-use Rattle.session_model.specs.Outcomes.{left_acts}
-use Rattle.session_model.specs.Texts.{text_of}
+use Rattle.session_model.specs.Answering.{Ordered, ordered, types, typing_verdicts, unsaid}
 use Rattle.session_laws.proofs.Unread.{client_read, nobody_left}
-use Rattle.session_events.specs.Leaving.{HasLeft}
-use Rattle.windows_model.proofs.Serials.{serial_is, with_same, with_twice}
+use Rattle.windows_model.proofs.Serials.{with_twice}
 use Rattle.session_state.specs.declared.client.Client.{Client as Row}
-use Rattle.session_state.specs.Clients.{ClientStands}
-use Rattle.session_state.specs.declared.state.Caller.{Caller}
-use Rattle.session_state.specs.declared.state.Step.{Step}
-use Rattle.session_state.specs.declared.state.StepOutput.{StepOutput}
-use Rattle.session_state.specs.declared.state.State.{State}
-use Rattle.session_state.specs.Stands.{Stands}
-use Rattle.session_state.specs.Doing.{did}
 use Rattle.session_events.specs.Dropping.{DropsSaid}
 use Rattle.session_input.specs.Given.{given, ordered_by}
-use Rattle.session_input.specs.Obeying.{Obeyed}
-use Rattle.session_input.specs.Reads.{typing, order, keys_deed, read_of, HasEnded, ReadFor}
-use Rattle.session_input.specs.KeyStepping.{caller_now, read_by, AreRead, AreGiven, HaveEnded}
-use Rattle.session_input.specs.Typing.{Typed, caller_by, message_after}
+use Rattle.session_input.specs.Reads.{typing, order, keys_deed, HasEnded}
+use Rattle.session_input.specs.KeyStepping.{caller_now, AreRead, AreGiven, HaveEnded}
+use Rattle.session_input.specs.Typing.{message_after}
 use Rattle.session_input.proofs.Putting.{serial}
 use Rattle.session_input.proofs.Telling.{told_there}
 

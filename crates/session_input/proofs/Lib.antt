@@ -1,3 +1,4 @@
+pub mod Vocabulary
 pub mod Acting
 pub mod Answered
 pub mod Inputs

@@ -1,20 +1,14 @@
 -- The window that a number names is found again by its serial.
-use Rattle.std.proofs.Common.{◌≡◌, ◌<◌, ℕ, Bool, true, false, List, [], ◌∷◌, Option, Some, None}
-use Rattle.std.proofs.Common.{ap, sym, subst, ◌∙◌, arith}
-use Rattle.std.specs.Prelude.{◌==◌, if◌then◌else◌}
-use Rattle.std.specs.List.{AllByRecursion}
+use Rattle.session_input.proofs.Vocabulary.{◌≡◌, ◌<◌, ℕ, Bool, true, false, List, [], ◌∷◌, Option, Some, None, ap, sym}
+use Rattle.session_input.proofs.Vocabulary.{subst, ◌∙◌, arith, ◌==◌, if◌then◌else◌, AllByRecursion, Tables, row_of}
+use Rattle.session_input.proofs.Vocabulary.{window_at, with_number, Rises, both_back, if_true, State, Stands, AreFit}
 use Rattle.std.proofs.lemmas.Bool.Decides.{nat_tests}
 use Rattle.session_model.specs.Tables as model
-use Rattle.session_model.specs.Tables.{Tables, row_of, window_at}
-use Rattle.session_model.specs.Naming.{with_number}
-use Rattle.session_model.specs.Sound.{Rises, window_serials}
-use Rattle.windows_model.proofs.Matching.{both_back, none_back}
-use Rattle.windows_model.proofs.Serials.{if_true, if_false, same_number}
+use Rattle.session_model.specs.Sound.{window_serials}
+use Rattle.windows_model.proofs.Matching.{none_back}
+use Rattle.windows_model.proofs.Serials.{if_false, same_number}
 use Rattle.windows.specs.Standing.{WindowStands, Finds}
 use Rattle.windows.specs.declared.window.Window.{Window}
-use Rattle.session_state.specs.declared.state.State.{State}
-use Rattle.session_state.specs.Stands.{Stands}
-use Rattle.session_model.specs.Sound.{AreFit}
 
 abbrev serial : model.Window → ℕ
 serial w = w.serial

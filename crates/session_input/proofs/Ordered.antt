@@ -1,30 +1,13 @@
 -- A command by keys that was done or refused, and told of, is the definitions' deed.
-use Rattle.std.proofs.Common.{◌≡◌, ℕ, true, false, List, ◌++◌, Option, Some, Result, Ok, Err, ap}
-use Rattle.std.proofs.Common.{sym, subst, ◌∙◌, append-nil, append_assoc, inl, inr}
-use Rattle.std.specs.Prelude.{OnOk}
-use Rattle.command_lang.specs.declared.command.Command.{Command}
-use Rattle.session_model.specs.declared.event.Effect.{Effect}
-use Rattle.session_model.specs.declared.event.StatusMessage.TheVariants.{Text}
-use Rattle.session_model.specs.declared.refusal.Refusal.{Refusal}
-use Rattle.session_model.specs.Tables.{Client, Tables, client_at}
+use Rattle.session_input.proofs.Vocabulary.{◌≡◌, ℕ, true, false, List, ◌++◌, Option, Some, Result, Ok, Err, ap, sym}
+use Rattle.session_input.proofs.Vocabulary.{subst, ◌∙◌, append-nil, append_assoc, inl, inr, OnOk, Command, Effect, Text}
+use Rattle.session_input.proofs.Vocabulary.{Refusal, Client, Tables, client_at, Deed, Ruling, ruling, says, text_of}
+use Rattle.session_input.proofs.Vocabulary.{ClientStands, both_back, serials, Step, StepOutput, State, Stands, HasDone}
+use Rattle.session_input.proofs.Vocabulary.{caller_in, did, caller_by, Ruled, Says, wants_memory, Obeyed}
 use Rattle.session_model.specs.Lines as model
-use Rattle.session_model.specs.Deeds.{Deed}
-use Rattle.session_model.specs.Commands.{Ruling, ruling}
-use Rattle.session_model.specs.Answering.{says, keyed, with_listed, message_of}
-use Rattle.session_model.specs.Texts.{text_of}
-use Rattle.session_state.specs.Clients.{ClientStands}
-use Rattle.windows_model.proofs.Matching.{rows_match, both_there, both_back}
-use Rattle.session_state.proofs.Changing.{serials}
+use Rattle.session_model.specs.Answering.{keyed, with_listed, message_of}
+use Rattle.windows_model.proofs.Matching.{rows_match, both_there}
 use Rattle.session_state.specs.declared.client.Client.{Client as Row}
-use Rattle.session_state.specs.declared.state.Step.{Step}
-use Rattle.session_state.specs.declared.state.StepOutput.{StepOutput}
-use Rattle.session_state.specs.declared.state.State.{State}
-use Rattle.session_state.specs.Stands.{Stands}
-use Rattle.session_state.specs.Doing.{HasDone, caller_in, did}
-use Rattle.session_input.specs.Typing.{caller_by}
-use Rattle.session_input.specs.Ruled.{Ruled}
-use Rattle.session_input.specs.Said.{Says, wants_memory}
-use Rattle.session_input.specs.Obeying.{Obeyed}
 use Rattle.session_input.proofs.Telling.{told_there}
 
 -- the caller is the client

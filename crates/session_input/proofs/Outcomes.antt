@@ -1,24 +1,11 @@
 -- A deed that was done, or a refusal, is the outcome of its event.
-use Rattle.std.proofs.Common.{◌≡◌, ◌++◌, List, [], Option, Some, None, Err}
-use Rattle.std.proofs.Common.{refl, ap, sym, subst, ◌∙◌, append-nil, append_assoc}
-use Rattle.acl.specs.History.{followed_by}
-use Rattle.acl.specs.declared.act.Act.{Act}
+use Rattle.session_input.proofs.Vocabulary.{◌≡◌, ◌++◌, List, [], Option, Some, None, Err, refl, ap, sym, subst, ◌∙◌}
+use Rattle.session_input.proofs.Vocabulary.{append-nil, append_assoc, followed_by, Act, Refusal, NoWindow, Verdict}
+use Rattle.session_input.proofs.Vocabulary.{Reply, Tables, first_fault, Deed, Outcome, refused, left_acts, Step}
+use Rattle.session_input.proofs.Vocabulary.{StepOutput, State, Stands, HasDone, IsAsBefore, did, HasLeft, HasHappened}
 use Rattle.session_model.specs.declared.refusal.Check.{Check}
-use Rattle.session_model.specs.declared.refusal.Refusal.{Refusal}
-use Rattle.session_model.specs.declared.refusal.Refusal.TheVariants.{NoWindow}
-use Rattle.session_model.specs.declared.refusal.Verdict.{Verdict}
-use Rattle.session_model.specs.Trace.{Reply}
-use Rattle.session_model.specs.Tables.{Tables}
-use Rattle.session_model.specs.Checks.{verdicts, first_fault}
-use Rattle.session_model.specs.Deeds.{Deed}
-use Rattle.session_model.specs.Outcomes.{Outcome, finished, refused, where_passed, left_acts}
-use Rattle.session_state.specs.declared.state.Step.{Step}
-use Rattle.session_state.specs.declared.state.StepOutput.{StepOutput}
-use Rattle.session_state.specs.declared.state.State.{State}
-use Rattle.session_state.specs.Stands.{Stands}
-use Rattle.session_state.specs.Doing.{HasDone, IsAsBefore, did}
-use Rattle.session_events.specs.Leaving.{HasLeft}
-use Rattle.session_input.specs.Stepping.{HasHappened}
+use Rattle.session_model.specs.Checks.{verdicts}
+use Rattle.session_model.specs.Outcomes.{finished, where_passed}
 
 -- it was refused, and nothing was done
 pub was_refused : (t : Tables) (vs : List Verdict) (r : Refusal) (o : Outcome) (old new : State)

@@ -1,25 +1,15 @@
 -- If a client's row is replaced by one of the same client and page, the state stands for the new row.
-use Rattle.std.proofs.Common.{◌≡◌, ℕ, suc, ◌≤◌, Bool, true, false, List, [], ◌∷◌, ◌++◌, Some, map, length, refl, ap}
-use Rattle.std.proofs.Common.{sym, subst, ◌∙◌}
-use Rattle.std.specs.Prelude.{if◌then◌else◌, ◌==◌, reverse}
-use Rattle.std.specs.List.{AllByRecursion}
-use Rattle.acl.specs.declared.user_id.UserId.{UserId}
-use Rattle.regions.specs.declared.layout.Shown.{Shown}
-use Rattle.regions.specs.Layouts.{Arrangement}
-use Rattle.keys.specs.Kept.{Keeping, StandsFor}
-use Rattle.session_model.specs.declared.event.StatusMessage.{StatusMessage}
-use Rattle.session_model.specs.Tables.{Tables, Client, client_at, row_of, with_row, with_client}
-use Rattle.session_model.specs.Sound.{Rises}
-use Rattle.windows_model.proofs.Serials.{serial_is}
+use Rattle.session_input.proofs.Vocabulary.{◌≡◌, ℕ, suc, ◌≤◌, Bool, true, false, List, [], ◌∷◌, ◌++◌, Some, length}
+use Rattle.session_input.proofs.Vocabulary.{refl, ap, sym, subst, ◌∙◌, if◌then◌else◌, ◌==◌, AllByRecursion, UserId}
+use Rattle.session_input.proofs.Vocabulary.{Shown, Arrangement, Keeping, StandsFor, StatusMessage, Tables, Client}
+use Rattle.session_input.proofs.Vocabulary.{client_at, row_of, with_row, with_client, Rises, serial_is, ClientStands}
+use Rattle.session_input.proofs.Vocabulary.{AreClients, serials, State, Stands, AreFit, read_by}
+use Rattle.std.proofs.Common.{map}
+use Rattle.std.specs.Prelude.{reverse}
 use Rattle.windows_model.proofs.Matching.{with_match, row_there}
 use Rattle.session_state.specs.declared.client.Client.{Client as Row}
-use Rattle.session_state.specs.Clients.{ClientStands, AreClients}
 use Rattle.session_state.specs.Exchanges.{Exchanged}
-use Rattle.session_state.proofs.Changing.{serials}
-use Rattle.session_state.specs.declared.state.State.{State}
-use Rattle.session_state.specs.Stands.{Stands}
-use Rattle.session_model.specs.Sound.{AreFit, ShowsOpen, IsOpen}
-use Rattle.session_input.specs.KeyStepping.{read_by}
+use Rattle.session_model.specs.Sound.{ShowsOpen, IsOpen}
 use Rattle.session_input.proofs.Telling.{stands_client}
 
 abbrev pub serial : Client → ℕ

@@ -1,19 +1,12 @@
 -- A client that was told a text has its message, and the state stands for that.
-use Rattle.std.proofs.Common.{◌≡◌, ℕ, List, [], ◌∷◌, ◌++◌, Option, Some, None, ap, sym, subst}
-use Rattle.std.proofs.Common.{◌∙◌, append-nil}
-use Rattle.session_model.specs.declared.event.Effect.TheVariants.{Say}
-use Rattle.session_model.specs.declared.event.StatusMessage.{StatusMessage}
+use Rattle.session_input.proofs.Vocabulary.{◌≡◌, ℕ, List, [], ◌∷◌, ◌++◌, Option, Some, None, ap, sym, subst, ◌∙◌}
+use Rattle.session_input.proofs.Vocabulary.{append-nil, Say, StatusMessage, Tables, client_at, with_client, row_of}
+use Rattle.session_input.proofs.Vocabulary.{with_row, Deed, changing, hearing, says, serial_is, AreClients, StepOutput}
+use Rattle.session_input.proofs.Vocabulary.{State, Stands, HasDone}
 use Rattle.session_model.specs.Tables as model
-use Rattle.session_model.specs.Tables.{Tables, client_at, with_client, row_of, with_row}
-use Rattle.session_model.specs.Deeds.{Deed, changing, hearing}
-use Rattle.session_model.specs.Answering.{told, says}
-use Rattle.windows_model.proofs.Serials.{serial_is}
+use Rattle.session_model.specs.Answering.{told}
 use Rattle.session_state.specs.declared.client.Client.{Client}
-use Rattle.session_state.specs.Clients.{AreClients, Changes}
-use Rattle.session_state.specs.declared.state.StepOutput.{StepOutput}
-use Rattle.session_state.specs.declared.state.State.{State}
-use Rattle.session_state.specs.Stands.{Stands}
-use Rattle.session_state.specs.Doing.{HasDone}
+use Rattle.session_state.specs.Clients.{Changes}
 
 abbrev serial : model.Client → ℕ
 serial c = c.serial

@@ -1,16 +1,15 @@
 -- If rows change as their model's rows do, the table still stands for the model's.
-use Rattle.std.proofs.Common.{◌≡◌, ℕ, List, Some, None, sym, subst, ◌∙◌, ap, Option, MutBor, Bool, filter, map}
-use Rattle.std.proofs.Common.{◌≤◌, ◌++◌, length, take, drop, append-nil}
-use Rattle.std.proofs.lemmas.List.{take_all, drop_all}
+use Rattle.session_state.proofs.Vocabulary.{◌≡◌, ℕ, List, Some, None, sym, subst, ◌∙◌, ap, Option, MutBor, Bool, map}
+use Rattle.session_state.proofs.Vocabulary.{◌≤◌, ◌++◌, length, take, drop, append-nil, take_all, OnSome}
+use Rattle.session_state.proofs.Vocabulary.{option_copied_mut, row_of, with_row, with_back, Client, ClientStands}
+use Rattle.session_state.proofs.Vocabulary.{AreClients, Finds}
+use Rattle.std.proofs.Common.{filter}
+use Rattle.std.proofs.lemmas.List.{drop_all}
 use Rattle.windows_model.proofs.Lending.{over_same}
 use Rattle.windows_model.specs.Lending.{written_over}
-use Rattle.std.specs.Option.{OnSome, option_copied_mut}
 use Rattle.session_model.specs.Tables as model
-use Rattle.session_model.specs.Tables.{row_of, with_row}
 use Rattle.windows_model.proofs.Matching.{row_there, with_match, filter_match, map_match}
-use Rattle.windows_model.proofs.Serials.{with_back}
-use Rattle.session_state.specs.declared.client.Client.{Client}
-use Rattle.session_state.specs.Clients.{ClientStands, AreClients, Changes, ChangesAll, Keeps, Finds}
+use Rattle.session_state.specs.Clients.{Changes, ChangesAll, Keeps}
 
 pub serials : (m : model.Client) (c : Client) → ClientStands m c → c.serial ≡ m.serial
 serials m c st = st.serial_is

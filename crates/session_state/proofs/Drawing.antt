@@ -1,25 +1,22 @@
 -- A frame that a client's terminal reads draws its view, and no frame is needed if the view is shown.
-use Rattle.std.proofs.Common.{◌≡◌, ℕ, List, [], ◌++◌, length, Option, Some, None, refl, ap, sym, ◌∙◌, subst, MutBor}
-use Rattle.std.specs.Option.{OnSome, IfNone, option_copied_mut}
-use Rattle.std.proofs.lemmas.List.{append-nil}
+use Rattle.session_state.proofs.Vocabulary.{◌≡◌, ℕ, List, [], ◌++◌, length, Option, Some, None, refl, ap, sym, ◌∙◌}
+use Rattle.session_state.proofs.Vocabulary.{subst, MutBor, OnSome, option_copied_mut, append-nil, Terminal, Knowledge}
+use Rattle.session_state.proofs.Vocabulary.{row_of, with_row, Client, AreClients, ClientStands, Finds, BothOrNone}
+use Rattle.std.specs.Option.{IfNone}
 use Rattle.cells.specs.Page.{IsPage, IsGrid}
 use Rattle.terminal_model.specs.Screen.{Screen}
-use Rattle.terminal_model.specs.Reading.{Terminal, reads, joined}
-use Rattle.terminal_model.specs.Shows.{View, Shows, ShowsCursor, IsOfSize, ShowsFromAny}
-use Rattle.terminal_model.specs.Shows.{LooksLike, NeedsDraw, NeedsNoDraw}
+use Rattle.terminal_model.specs.Reading.{reads, joined}
+use Rattle.terminal_model.specs.Shows.{View, Shows, ShowsCursor, IsOfSize, ShowsFromAny, LooksLike, NeedsDraw}
+use Rattle.terminal_model.specs.Shows.{NeedsNoDraw}
 use Rattle.terminal_model.specs.Drawing.{Agrees}
 use Rattle.terminal_model.proofs.Readings.{reads-append}
 use Rattle.view.specs.View.{HasSize}
 use Rattle.view.specs.Drawable.{IsDrawable}
-use Rattle.redraw.specs.Shadow.{Knowledge}
 use Rattle.redraw.specs.Frames.{Redraws, CanBeShown, DrawsFrame}
 use Rattle.session_model.specs.Framed.{IsFrame}
 use Rattle.session_model.specs.Tables as model
-use Rattle.session_model.specs.Tables.{row_of, with_row}
-use Rattle.session_state.specs.declared.client.Client.{Client}
-use Rattle.session_state.specs.Clients.{AreClients, ClientStands, IsScreen, Finds}
+use Rattle.session_state.specs.Clients.{IsScreen}
 use Rattle.session_state.specs.Draws.{ShowsAlready, Draws, LeadsFrom}
-use Rattle.windows_model.specs.Matched.{BothOrNone}
 use Rattle.session_state.proofs.Changing.{model_serial, serial_of, lent_at, found, found_none, changed}
 use Rattle.session_state.proofs.Frames.{frame_behind, then_delivered}
 

@@ -1,14 +1,9 @@
 -- A reader and a message that are exchanged twice leave the row as it was.
-use Rattle.std.proofs.Common.{◌≡◌, ℕ, List, ◌++◌, Some, sym, subst, ◌∙◌, ap}
-use Rattle.keys.specs.Kept.{Keeping, StandsFor}
-use Rattle.session_model.specs.declared.event.StatusMessage.{StatusMessage}
-use Rattle.session_model.specs.declared.event.StatusMessage.TheVariants.{Silence}
+use Rattle.session_state.proofs.Vocabulary.{◌≡◌, ℕ, List, ◌++◌, Some, sym, subst, ◌∙◌, ap, StandsFor, StatusMessage}
+use Rattle.session_state.proofs.Vocabulary.{Silence, row_of, with_row, reading, with_back, Client, ClientStands}
+use Rattle.keys.specs.Kept.{Keeping}
 use Rattle.session_model.specs.Tables as model
-use Rattle.session_model.specs.Tables.{row_of, with_row}
-use Rattle.session_model.specs.Answering.{reading}
-use Rattle.windows_model.proofs.Serials.{serial_is, with_same, with_twice, with_back}
-use Rattle.session_state.specs.declared.client.Client.{Client}
-use Rattle.session_state.specs.Clients.{ClientStands}
+use Rattle.windows_model.proofs.Serials.{serial_is, with_same, with_twice}
 use Rattle.session_state.proofs.Changing.{serial_of}
 
 pub keeps_read : (bytes : List ℕ) (reader : Keeping) (message : StatusMessage) (m : model.Client)

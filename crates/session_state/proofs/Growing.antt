@@ -1,11 +1,8 @@
 -- A list that grew by an item has the text of one more item.
-use Rattle.std.proofs.Common.{◌≡◌, ℕ, Bool, true, false, List, [], ◌∷◌, ◌++◌, refl, ap, sym, ◌∙◌}
-use Rattle.std.proofs.Common.{append_assoc, subst, length, ◌<◌, ◌+◌, ◌≤◌, get_or, map, take}
-use Rattle.std.specs.Prelude.{codes}
-use Rattle.std.proofs.lemmas.List.{map_more, take_all}
-use Rattle.session_model.specs.Texts.{separated}
-use Rattle.session_state.specs.Items.{separator, has_none, separated_more}
-use Rattle.session_state.specs.Growing.{IsList}
+use Rattle.session_state.proofs.Vocabulary.{◌≡◌, ℕ, Bool, true, false, List, [], ◌∷◌, ◌++◌, refl, ap, sym, ◌∙◌}
+use Rattle.session_state.proofs.Vocabulary.{append_assoc, subst, length, ◌<◌, ◌+◌, ◌≤◌, get_or, map, take, codes}
+use Rattle.session_state.proofs.Vocabulary.{map_more, take_all, separated, separator, IsList}
+use Rattle.session_state.specs.Items.{has_none, separated_more}
 
 has_more : (items : List (List ℕ)) (item : List ℕ) → has_none (items ++ item ∷ []) ≡ false
 has_more [] item = refl

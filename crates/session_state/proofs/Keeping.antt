@@ -1,29 +1,24 @@
 -- A row that stands for the model's still does once both have changed alike, and has room for its page.
-use Rattle.std.proofs.Common.{◌≡◌, ℕ, ◌<◌, ◌≤◌, ◌-◌, Bool, true, false, refl, sym, subst, ◌∙◌, ap, Option, Some, None}
-use Rattle.std.proofs.Common.{[], map, arith}
-use Rattle.std.specs.Prelude.{◌&&◌, nat_lt, nat_le}
+use Rattle.session_state.proofs.Vocabulary.{◌≡◌, ℕ, ◌<◌, ◌≤◌, ◌-◌, Bool, true, false, sym, ◌∙◌, Some, map, arith}
+use Rattle.session_state.proofs.Vocabulary.{nat_lt, nat_tests, if◌then◌else◌, Arrangement, Terminal, StatusMessage}
+use Rattle.session_state.proofs.Vocabulary.{Silence, focused, Knowledge, hearing, without_window, Client, attached}
+use Rattle.session_state.proofs.Vocabulary.{moved_to, without, ClientStands}
+use Rattle.std.proofs.Common.{refl, subst, ap, Option, None, []}
+use Rattle.std.specs.Prelude.{◌&&◌, nat_le}
 use Rattle.std.proofs.lemmas.Bool.{leb-true}
-use Rattle.std.proofs.lemmas.Bool.Decides.{nat_tests}
-use Rattle.std.specs.Prelude.{if◌then◌else◌}
-use Rattle.regions.specs.Layouts.{Arrangement, kept_alone, emptied}
+use Rattle.regions.specs.Layouts.{kept_alone, emptied}
 use Rattle.regions.specs.Shapes.{region}
 use Rattle.regions.specs.Pages.{has_room}
-use Rattle.terminal_model.specs.Reading.{Terminal, Read, nothing_read, reads}
-use Rattle.session_model.specs.declared.event.StatusMessage.{StatusMessage}
-use Rattle.session_model.specs.declared.event.StatusMessage.TheVariants.{Silence}
+use Rattle.terminal_model.specs.Reading.{Read, nothing_read, reads}
 use Rattle.session_model.specs.Tables as model
-use Rattle.session_model.specs.Tables.{with_layout, focused, last_after, former_after}
+use Rattle.session_model.specs.Tables.{with_layout, last_after, former_after}
 use Rattle.terminal_model.specs.Shows.{IsOfSize}
-use Rattle.redraw.specs.Shadow.{Knowledge}
 use Rattle.keys.specs.Kept as keys
 use Rattle.regions.specs.Layouts.{one_region, split_fault, remove_focused}
 use Rattle.regions.specs.declared.node.Way.{Way}
-use Rattle.session_model.specs.Deeds.{hearing, without_window}
 use Rattle.session_model.specs.Comings.{resized, is_client_size}
-use Rattle.session_state.specs.declared.client.Client.{Client}
-use Rattle.session_model.specs.Comings.{attached}
-use Rattle.session_state.specs.Moves.{moved_to, without, fitted}
-use Rattle.session_state.specs.Clients.{ClientStands, IsScreen}
+use Rattle.session_state.specs.Moves.{fitted}
+use Rattle.session_state.specs.Clients.{IsScreen}
 
 pub keeps_heard : (message : StatusMessage) (m : model.Client) (c d : Client)
     → d ≡ record c { message = message } → ClientStands m c → ClientStands (hearing message m) d

@@ -1,25 +1,18 @@
 -- The list of clients that is made is the definitions' list.
-use Rattle.std.proofs.Common.{◌≡◌, ℕ, List, Option, Some, None}
-use Rattle.std.proofs.Common.{refl, ap, ◌∙◌, map}
-use Rattle.std.specs.Prelude.{codes, slice_get}
+use Rattle.session_state.proofs.Vocabulary.{◌≡◌, ℕ, List, Option, Some, None, refl, ap, ◌∙◌, map, codes, Arrangement}
+use Rattle.session_state.proofs.Vocabulary.{Tables, row_of, window_at, focused, separated, BothOrNone, rows_match}
+use Rattle.session_state.proofs.Vocabulary.{mapped_match, client_line, Window, WindowStands, StandFor, Client}
+use Rattle.session_state.proofs.Vocabulary.{ClientStands, Stands, client_item}
+use Rattle.std.specs.Prelude.{slice_get}
 use Rattle.std.specs.Option.{option_map, option_and_then}
-use Rattle.regions.specs.Layouts.{Arrangement}
 use Rattle.regions.specs.declared.layout.Shown.{Shown}
 use Rattle.session_model.specs.Tables as model
-use Rattle.session_model.specs.Tables.{Tables, row_of, window_at, focused}
 use Rattle.session_model.specs.Texts as model_texts
-use Rattle.session_model.specs.Texts.{separated, focus_text, clients_text}
-use Rattle.windows_model.specs.Matched.{BothOrNone}
-use Rattle.windows_model.proofs.Matching.{rows_match, mapped_match}
-use Rattle.session_state.specs.Items.{number_or_dash, number_of_window, client_line, client_line_is}
-use Rattle.windows.specs.declared.window.Window.{Window}
-use Rattle.windows.specs.Standing.{WindowStands, StandFor}
-use Rattle.session_state.specs.declared.client.Client.{Client}
+use Rattle.session_model.specs.Texts.{focus_text, clients_text}
+use Rattle.session_state.specs.Items.{number_or_dash, number_of_window, client_line_is}
 use Rattle.session_state.specs.Moves.{in_focus}
-use Rattle.session_state.specs.Clients.{ClientStands}
 use Rattle.session_state.specs.declared.state.State.{State}
-use Rattle.session_state.specs.Stands.{Stands}
-use Rattle.session_state.specs.Listing.{number_shown, client_item}
+use Rattle.session_state.specs.Listing.{number_shown}
 
 number_alike : (o : Option model.Window) (p : Option Window) → BothOrNone WindowStands o p
     → option_map (λ (w : Window). w.number) p ≡ option_map (λ (w : model.Window). w.number) o

@@ -1,20 +1,14 @@
 -- The items of windows that are found number by number make the definitions' list; Numbers proves their order.
-use Rattle.std.proofs.Common.{◌≡◌, ℕ, zero, suc, ◌+◌, Bool, true, false, List, [], ◌∷◌, ◌++◌}
-use Rattle.std.proofs.Common.{Option, Some, None, option_to_list, refl, ap, sym, ◌∙◌, subst, map}
-use Rattle.std.proofs.Common.{append_assoc, append-nil, add-zero, add-one, arith, is_some}
-use Rattle.std.specs.Prelude.{codes, if◌then◌else◌, ◌==◌}
+use Rattle.session_state.proofs.Vocabulary.{◌≡◌, ℕ, zero, suc, ◌+◌, Bool, true, false, List, [], ◌∷◌, ◌++◌, Option}
+use Rattle.session_state.proofs.Vocabulary.{Some, None, option_to_list, refl, ap, sym, ◌∙◌, subst, map, append_assoc}
+use Rattle.session_state.proofs.Vocabulary.{append-nil, arith, codes, if◌then◌else◌, ◌==◌, nat_tests, UserId, Tables}
+use Rattle.session_state.proofs.Vocabulary.{row_of, window_at, with_number, window_item, separated, separator, numbered}
+use Rattle.session_state.proofs.Vocabulary.{AreFit, IsList}
+use Rattle.std.proofs.Common.{add-zero, add-one, is_some}
 use Rattle.std.proofs.lemmas.List.{map-append}
-use Rattle.std.proofs.lemmas.Bool.Decides.{nat_tests}
-use Rattle.acl.specs.declared.user_id.UserId.{UserId}
 use Rattle.session_model.specs.Tables as model
-use Rattle.session_model.specs.Tables.{Tables, row_of, window_at}
-use Rattle.session_model.specs.Naming.{with_number}
-use Rattle.session_model.specs.Texts.{window_item, windows_text, separated}
-use Rattle.session_state.specs.Items.{separator}
-use Rattle.session_state.specs.Orders.{numbered}
+use Rattle.session_model.specs.Texts.{windows_text}
 use Rattle.session_state.proofs.Numbers.{order_by_numbers}
-use Rattle.session_model.specs.Sound.{AreFit}
-use Rattle.session_state.specs.Growing.{IsList}
 use Rattle.session_state.proofs.Growing.{list_more}
 
 -- the windows of one number more

@@ -1,15 +1,11 @@
 -- Windows found number by number are the windows by rising numbers, so that Numbered can list them.
-use Rattle.std.specs.Prelude.{◌≡◌, ℕ, zero, suc, ◌+◌, ◌<◌, ◌≤◌, ◌==◌, Bool, true, false, List, []}
-use Rattle.std.specs.Prelude.{◌∷◌, ◌++◌, Option, Some, None, option_to_list, nat_lt}
-use Rattle.std.specs.Prelude.{if◌then◌else◌}
+use Rattle.session_state.proofs.Vocabulary.{◌≡◌, ℕ, zero, suc, ◌+◌, ◌<◌, ◌≤◌, ◌==◌, Bool, true, false, List, [], ◌∷◌}
+use Rattle.session_state.proofs.Vocabulary.{◌++◌, Option, Some, None, option_to_list, nat_lt, if◌then◌else◌, refl, ap}
+use Rattle.session_state.proofs.Vocabulary.{◌∙◌, sym, arith, nat_tests, with_number, numbered}
 use Rattle.std.specs.List.{AllByRecursion}
-use Rattle.std.proofs.Common.{refl, ap, ◌∙◌, sym, arith}
-use Rattle.std.proofs.lemmas.Bool.Decides.{nat_tests}
 use Rattle.session_model.specs.Tables.{Window}
-use Rattle.session_model.specs.Naming.{with_number}
 use Rattle.session_model.specs.Sound.{NumbersDiffer}
 use Rattle.session_model.specs.Texts.{by_number, in_order}
-use Rattle.session_state.specs.Orders.{numbered}
 
 -- ---- tests
 

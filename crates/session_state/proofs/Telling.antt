@@ -1,14 +1,10 @@
 -- The effects made client by client are those of the model's table.
-use Rattle.std.proofs.Common.{◌≡◌, ℕ, ◌+◌, ◌<◌, ◌≤◌, List, [], ◌∷◌, ◌++◌, length, map, take}
-use Rattle.std.proofs.Common.{get_or, ap, sym, ◌∙◌}
-use Rattle.std.proofs.lemmas.List.{map_more, take_all}
+use Rattle.session_state.proofs.Vocabulary.{◌≡◌, ℕ, ◌+◌, ◌<◌, ◌≤◌, List, [], ◌∷◌, ◌++◌, length, map, take, get_or, ap}
+use Rattle.session_state.proofs.Vocabulary.{sym, ◌∙◌, map_more, take_all, mapped_match, Client, said, ClientStands}
+use Rattle.session_state.proofs.Vocabulary.{AreClients}
 use Rattle.session_model.specs.declared.event.Effect.{Effect}
 use Rattle.session_model.specs.declared.event.Effect.TheVariants.{Say}
 use Rattle.session_model.specs.Tables as model
-use Rattle.windows_model.proofs.Matching.{mapped_match}
-use Rattle.session_state.specs.declared.client.Client.{Client}
-use Rattle.session_state.specs.Moves.{said}
-use Rattle.session_state.specs.Clients.{ClientStands, AreClients}
 
 pub said_more : (text bytes : List ℕ) (cs : List Client) (i : ℕ) (c : Client)
     (made new : List Effect) → i < length cs → c ≡ get_or cs i c → bytes ≡ text

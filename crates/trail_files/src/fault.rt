@@ -1,6 +1,7 @@
 //! Why a file isn't read to its end, as the program tells it.
 
-use client_words::{SystemError, put_visible};
+use client_words::put_visible;
+use program_words::SystemError;
 use std::alloc::Global;
 use std::io::{self, ErrorKind, Write};
 use std::str;

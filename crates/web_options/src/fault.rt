@@ -1,5 +1,6 @@
 //! Why `mux-web` doesn't serve.
 
+use program_words::SystemError;
 use server_system::ServeFault;
 use std::alloc::{AllocError, AllocFailed};
 use std::io;
@@ -11,10 +12,10 @@ use thiserror::Error;
 pub enum WebFault {
     /// The file at this path.
     #[error("can't read the page's file {0}: {1} (set --page)")]
-    NoPage(String, io::Error),
+    NoPage(String, SystemError),
     /// The file at this path.
     #[error("can't read token file {0}: {1} (set --watch-token)")]
-    NoFile(String, io::Error),
+    NoFile(String, SystemError),
     /// The file at this path.
     #[error("no token in {0}: it needs 64 digits, 0 to 9 and a to f")]
     NoToken(String),
@@ -38,14 +39,14 @@ pub enum WebFault {
     NoOrigin,
     /// The value of `--listen`.
     #[error("can't listen on {0}: {1}: choose another port")]
-    NotMade(String, io::Error),
+    NotMade(String, SystemError),
     /// The address of this machine at which browsers look for `localhost`, too.
     #[error("can't listen on {0}: {1}: browsers may look there for localhost, so choose another port")]
-    Shared(SocketAddr, io::Error),
+    Shared(SocketAddr, SystemError),
     #[error("{0}")]
     Socket(ServeFault),
     #[error("the system refused to wait: {0}")]
-    Other(io::Error),
+    Other(SystemError),
     #[error("out of memory")]
     NoMemory,
 }
@@ -79,6 +80,6 @@ impl<T: Drop> From<AllocFailed<T>> for WebFault {
 
 impl From<io::Error> for WebFault {
     fn from(error: io::Error) -> WebFault {
-        WebFault::Other(error)
+        WebFault::Other(SystemError(error))
     }
 }

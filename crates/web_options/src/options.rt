@@ -4,6 +4,7 @@ use crate::fault::WebFault;
 use acl::UserId;
 use attach_proto::Token;
 use clap::ArgMatches;
+use program_words::SystemError;
 use server_system::Host;
 use std::alloc::{AllocError, Global};
 use std::fs::{File, Files};
@@ -141,7 +142,10 @@ fn token_in<R: Files<File = File> + AllocGlobal>(rt: &R, path: &str) -> Result<T
     let alloc = rt.alloc();
     let file = match fs::read(rt, path) {
         Ok(file) => file,
-        Err(error) => return Err(WebFault::NoFile(String::from_str(alloc, path)?, error)),
+        Err(error) => return Err(WebFault::NoFile(
+            String::from_str(alloc, path)?,
+            SystemError(error),
+        )),
     };
     let digits = file.as_slice();
     let digits = digits.strip_suffix(b"\n".as_slice()).unwrap_or(digits);
@@ -198,7 +202,10 @@ fn folder_of<R: Files<File = File> + AllocGlobal>(
     }
     match env::current_exe(rt) {
         Ok(program) => Ok(folder_beside(alloc, program.to_str().unwrap_or(""))?),
-        Err(error) => Err(WebFault::NoPage(String::from_str(alloc, "/proc/self/exe")?, error)),
+        Err(error) => Err(WebFault::NoPage(
+            String::from_str(alloc, "/proc/self/exe")?,
+            SystemError(error),
+        )),
     }
 }
 
@@ -213,7 +220,7 @@ fn read_file<R: Files<File = File> + AllocGlobal>(
     let path = format!(in alloc; "{folder}/{name}")?;
     match fs::read(rt, path.as_str()) {
         Ok(content) => Ok(site.add(format!(in alloc; "/{name}")?, content)?),
-        Err(error) => Err(WebFault::NoPage(path, error)),
+        Err(error) => Err(WebFault::NoPage(path, SystemError(error))),
     }
 }
 

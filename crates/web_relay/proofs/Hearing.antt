@@ -1,19 +1,17 @@
 -- What clients hear of one read.
-use Rattle.std.proofs.Common.{◌≡◌, ℕ, zero, suc, List, Option, refl, sym, ap, subst, inl, inr}
-use Rattle.std.proofs.Common.{Result, Ok, Err, IfErr, OnErr, OnOk, ◌≢◌, ◌∙◌}
+use Rattle.web_relay.proofs.Vocabulary.{◌≡◌, ℕ, zero, suc, List, Option, refl, sym, ap, subst, inl, inr, Result, Ok}
+use Rattle.web_relay.proofs.Vocabulary.{Err, OnErr, ◌≢◌, ◌∙◌, SharedClient, Visitor, End, More, Nothing, outcome}
+use Rattle.std.proofs.Common.{IfErr, OnOk}
 use Rattle.std.specs.IoError.{error_kind}
 use Rattle.std.specs.declared.io.Error.{Error}
 use Rattle.std.specs.declared.io.ErrorKind.{ErrorKind}
 use Rattle.std.specs.declared.io.ErrorKind.TheVariants.{InvalidData}
-use Rattle.web_client.specs.declared.client.SharedClient.{SharedClient}
-use Rattle.web_client.specs.declared.visitor.Visitor.{Visitor}
 use Rattle.web_client.specs.declared.identity.Identity.{Identity}
 use Rattle.web_client.specs.declared.identity.Identity.TheVariants.{Nobody, Own, Watching, Link, Unknown, Left}
 use Rattle.web_client.specs.Asking.{IfOwn, IsOwn, Keeps}
 use Rattle.web_client.specs.Sending.{HearsNext}
-use Rattle.web_relay.specs.declared.streams.ReadOutcome.TheVariants.{End, More, Nothing}
 use Rattle.web_relay.specs.Hearing.{MayHear, HearsOnly}
-use Rattle.web_relay.specs.Tokens.{failed, outcome}
+use Rattle.web_relay.specs.Tokens.{failed}
 
 pub only_self : (s : Identity) → HearsOnly s s
 only_self Nobody = refl

@@ -1,9 +1,5 @@
 -- The oldest of those who haven't said who they are, place by place.
-use Rattle.std.proofs.Common.{◌≡◌, ℕ, ◌<◌, false, Option, Some, None}
-use Rattle.std.specs.Prelude.{IsSomeAnd}
-use Rattle.std.specs.declared.time.Duration.{Duration}
-use Rattle.slab.specs.Slab.{Slab, get}
-use Rattle.web_relay.specs.declared.relay.Relay.{Relay}
+use Rattle.web_relay.proofs.Vocabulary.{◌≡◌, ℕ, ◌<◌, false, Option, Some, None, IsSomeAnd, Duration, Slab, get, Relay}
 use Rattle.web_relay.specs.Places.{IsNoOlder, IsSilent}
 
 -- of the places below one, the oldest is at this place; or nobody is silent there

@@ -1,8 +1,7 @@
 -- Whether there is room for one more page.
-use Rattle.std.proofs.Common.{◌≡◌, ◌≢◌, ◌-◌, ◌/◌, ◌≤◌, ◌<◌, ℕ, [], Some, subst, sym, ◌∙◌, inl, inr, count_by, arith}
-use Rattle.slab.specs.Slab.{Slab, get, entries}
-use Rattle.web_relay.specs.declared.relay.Relay.{Relay}
-use Rattle.web_relay.specs.Places.{is_other, is_neighbour, IsTooMany}
+use Rattle.web_relay.proofs.Vocabulary.{◌≡◌, ◌≢◌, ◌-◌, ◌/◌, ◌≤◌, ◌<◌, ℕ, [], Some, subst, sym, ◌∙◌, inl, inr, count_by}
+use Rattle.web_relay.proofs.Vocabulary.{arith, Slab, get, entries, Relay, is_neighbour}
+use Rattle.web_relay.specs.Places.{is_other, IsTooMany}
 
 same-one : (s : Slab Relay) (place : ℕ) (there relay : Relay) → get s place ≡ Some there → get s place ≡ Some relay
     → there ≡ relay

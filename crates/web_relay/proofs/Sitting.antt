@@ -1,12 +1,10 @@
 -- A browser's seat in a hall, and what it is told after it was shown the page.
-use Rattle.std.proofs.Common.{◌≡◌, Bool, true, false, Option, Some, None, ap, sym, subst, ◌∙◌}
+use Rattle.web_relay.proofs.Vocabulary.{◌≡◌, Bool, true, false, Option, Some, None, ap, sym, subst, ◌∙◌, Hall}
+use Rattle.web_relay.proofs.Vocabulary.{HallNumber, Relay, Watches}
 use Rattle.std.specs.Prelude.{MatchBool}
-use Rattle.web_relay.specs.declared.hall.Hall.{Hall}
-use Rattle.web_relay.specs.declared.halls.HallNumber.{HallNumber}
-use Rattle.web_relay.specs.declared.relay.Relay.{Relay}
 use Rattle.web_relay.specs.declared.upstream.TheConstants.{ENDED}
 use Rattle.web_relay.specs.Relaying.{LosesPage}
-use Rattle.web_relay.specs.Seeing.{MissesHall, ShowsHall, Watches}
+use Rattle.web_relay.specs.Seeing.{MissesHall, ShowsHall}
 
 module _ (hall after : Hall) (old mid new : Relay) (shows : ShowsHall hall after old mid) where
   watches : (b : Bool) → after.is_lost ≡ b → MatchBool b (LosesPage ENDED.now mid new) (new ≡ mid)

@@ -1,9 +1,7 @@
 -- The best hall for a page, place by place.
-use Rattle.std.proofs.Common.{◌≡◌, ◌⊎◌, ℕ, ◌+◌, ◌<◌, Option, Some, None, IfSome, inl, inr, sym, subst, arith}
-use Rattle.std.proofs.lemmas.Bool.{cases_lt}
-use Rattle.std.specs.Prelude.{IsSomeAnd}
-use Rattle.slab.specs.Slab.{Slab, get}
-use Rattle.web_relay.specs.declared.hall.Hall.{Hall}
+use Rattle.web_relay.proofs.Vocabulary.{◌≡◌, ℕ, ◌+◌, ◌<◌, Option, Some, None, IfSome, inl, inr, sym, subst, arith}
+use Rattle.web_relay.proofs.Vocabulary.{cases_lt, IsSomeAnd, Slab, get, Hall}
+use Rattle.std.proofs.Common.{◌⊎◌}
 use Rattle.web_relay.specs.Halls.{FitsIn, IsBetterOf}
 
 -- of the places below one, the best is this place; or no hall is there

@@ -1,6 +1,5 @@
 -- What is done again and again, step by step.
-use Rattle.std.proofs.Common.{◌≡◌, ◌<◌, ◌≤◌, ◌+◌, ◌-◌, ℕ, zero, suc, refl, subst, arith, inl, inr}
-use Rattle.web_relay.specs.Walking.{Repeats}
+use Rattle.web_relay.proofs.Vocabulary.{◌≡◌, ◌<◌, ◌≤◌, ◌+◌, ◌-◌, ℕ, zero, suc, refl, subst, arith, inl, inr, Repeats}
 
 module _ {T : Type 0} (IsTime : T → Type 0) (steps : T → T → Type 0) (end counter : ℕ) where
   pub stepped : (old mid new : T) → counter < end → IsTime old → steps old mid

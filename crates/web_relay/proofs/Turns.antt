@@ -1,15 +1,13 @@
 -- Halls, place by place.
-use Rattle.std.proofs.Common.{◌≡◌, ◌≢◌, ℕ, suc, ◌+◌, ◌≤◌, ◌<◌, List, [], ◌∷◌, refl, sym, subst, ◌∙◌, inl, inr}
-use Rattle.std.proofs.Common.{◌==◌, Bool, true, false, if◌then◌else◌, Option, Some, None, ap, length, get_or, arith}
-use Rattle.std.proofs.Common.{Result, Ok, Err, OnErr, count_by}
-use Rattle.std.specs.Prelude.{IfOk, IfSome, OnSome, is_some}
-use Rattle.std.proofs.lemmas.Bool.{cases_lt}
+use Rattle.web_relay.proofs.Vocabulary.{◌≡◌, ◌≢◌, ℕ, suc, ◌+◌, ◌≤◌, ◌<◌, List, [], refl, sym, subst, ◌∙◌, inl, inr}
+use Rattle.web_relay.proofs.Vocabulary.{Bool, true, false, Option, Some, None, ap, length, arith, Result, Ok, Err}
+use Rattle.web_relay.proofs.Vocabulary.{OnErr, count_by, IfSome, cases_lt, Slab, get, Hall, Renews, HallNumber}
+use Rattle.web_relay.proofs.Vocabulary.{Duration}
+use Rattle.std.proofs.Common.{◌∷◌, ◌==◌, if◌then◌else◌, get_or}
+use Rattle.std.specs.Prelude.{IfOk, OnSome, is_some}
 use Rattle.std.proofs.lemmas.List.{get_or_past}
-use Rattle.slab.specs.Slab.{Slab, get, Updates}
-use Rattle.web_relay.specs.declared.hall.Hall.{Hall}
-use Rattle.web_relay.specs.Halls.{IsNewer, Renews, hall_of, with_serial}
-use Rattle.web_relay.specs.declared.halls.HallNumber.{HallNumber}
-use Rattle.std.specs.declared.time.Duration.{Duration}
+use Rattle.slab.specs.Slab.{Updates}
+use Rattle.web_relay.specs.Halls.{IsNewer, hall_of, with_serial}
 use Rattle.web_requests.specs.declared.site.Watcher.{Watcher}
 
 -- ---- each place in its turn

@@ -1,8 +1,5 @@
-use Rattle.std.proofs.Common.{◌≡◌, List, ap, sym, ◌∙◌, subst}
-use Rattle.acl.specs.declared.user_id.UserId.{UserId}
-use Rattle.session_model.specs.Trace.{Entry, Trace}
-use Rattle.session_model.specs.Tables.{Tables, fresh}
-use Rattle.session_model.specs.Run.{IsRunFrom}
+use Rattle.session_core.proofs.Vocabulary.{◌≡◌, List, ap, sym, ◌∙◌, subst, UserId, Entry, Trace, Tables, fresh}
+use Rattle.session_core.proofs.Vocabulary.{IsRunFrom}
 use Rattle.session_laws.specs.Hidden.{unhidden}
 use Rattle.session_laws.specs.Observed.{observations}
 use Rattle.session_laws.specs.Unseen.{HiddenOutputIsUnseen}

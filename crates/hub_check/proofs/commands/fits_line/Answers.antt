@@ -1,9 +1,5 @@
-use Rattle.std.proofs.Common.{◌≡◌, ℕ, Bool, List, true, sym, subst}
-use Rattle.std.specs.Prelude.{◌↔◌}
-use Rattle.std.proofs.lemmas.Result.{IfOk-weaker}
-use Rattle.hub_trail.specs.declared.kept.Kept.{Kept}
+use Rattle.hub_check.proofs.Vocabulary.{◌≡◌, ℕ, Bool, List, true, sym, subst, ◌↔◌, IfOk-weaker, Kept, FitsLine}
 use Rattle.hub_trail.specs.declared.kept.Kept.TheVariants as kept
-use Rattle.hub_check.specs.Parts.{FitsLine}
 use Rattle.hub_check.proofs.commands.fits_line.Goals as goal
 
 pub returns-in-Command : goal.returns-in-Command

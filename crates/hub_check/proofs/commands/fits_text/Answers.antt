@@ -1,7 +1,5 @@
-use Rattle.std.proofs.Common.{◌≡◌, Bool, true, subst, sym}
-use Rattle.std.specs.Prelude.{◌↔◌}
+use Rattle.hub_check.proofs.Vocabulary.{◌≡◌, Bool, true, subst, sym, ◌↔◌, IsReading, FitsLine}
 use Rattle.hub_trail.specs.declared.kept.Kept.TheVariants as kept
-use Rattle.hub_check.specs.Parts.{IsReading, FitsLine}
 use Rattle.hub_check.proofs.Judged.{no_command, one_fits}
 use Rattle.hub_check.proofs.commands.fits_text.Goals as goal
 

@@ -1,9 +1,5 @@
-use Rattle.std.proofs.Common.{◌∙◌, sym, arith, ap}
-use Rattle.std.specs.List.{list_all}
-use Rattle.acl.proofs.InPlace.{drop-next, drop-past}
-use Rattle.acl.specs.declared.act.Act.{Act}
-use Rattle.hub_trail.specs.Fitting.{detaches}
-use Rattle.hub_trail.specs.Legal.{is_client_of}
+use Rattle.hub_check.proofs.Vocabulary.{◌∙◌, sym, arith, ap, list_all, drop-next, drop-past, Act, detaches}
+use Rattle.hub_check.proofs.Vocabulary.{is_client_of}
 use Rattle.hub_check.proofs.Folding.{all_next, all_fails}
 use Rattle.hub_check.proofs.fits.all_detach.Goals as goal
 

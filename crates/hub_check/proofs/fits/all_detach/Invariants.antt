@@ -1,11 +1,5 @@
-use Rattle.std.proofs.Common.{◌≡◌, drop}
-use Rattle.std.specs.List.{list_all}
-use Rattle.acl.specs.declared.leaders.Edition.{Edition}
-use Rattle.acl.specs.declared.user_id.UserId.{UserId}
-use Rattle.acl.specs.History.{History}
-use Rattle.hub_trail.specs.Fitting.{detaches}
-use Rattle.hub_trail.specs.Legal.{is_client_of}
-use Rattle.rights.specs.Following.{StandsAfter}
+use Rattle.hub_check.proofs.Vocabulary.{◌≡◌, drop, list_all, Edition, UserId, History, detaches, is_client_of}
+use Rattle.hub_check.proofs.Vocabulary.{StandsAfter}
 use Rattle.hub_check.proofs.fits.all_detach.Given as goal
 
 -- what is left decides

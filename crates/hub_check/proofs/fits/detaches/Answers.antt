@@ -1,6 +1,4 @@
-use Rattle.std.proofs.Common.{◌∙◌, ap, sym}
-use Rattle.hub_trail.specs.Fitting.{detaches}
-use Rattle.hub_trail.specs.Legal.{is_client_of}
+use Rattle.hub_check.proofs.Vocabulary.{◌∙◌, ap, sym, detaches, is_client_of}
 use Rattle.hub_check.proofs.fits.detaches.Goals as goal
 
 pub returns-in-Left : goal.returns-in-Left

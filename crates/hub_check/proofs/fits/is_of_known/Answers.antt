@@ -1,8 +1,4 @@
-use Rattle.std.proofs.Common.{◌≡◌, ◌∙◌, true, sym, subst}
-use Rattle.std.specs.Prelude.{◌↔◌}
-use Rattle.hub_trail.specs.Trails.{Ending}
-use Rattle.hub_trail.specs.Legal.{IsOfKnown}
-use Rattle.hub_trail.specs.declared.kept.Kept.{Kept}
+use Rattle.hub_check.proofs.Vocabulary.{◌≡◌, ◌∙◌, true, sym, subst, ◌↔◌, Ending, IsOfKnown, Kept}
 use Rattle.hub_trail.specs.declared.kept.Kept.TheVariants as kept
 use Rattle.hub_check.proofs.fits.is_of_known.Goals as goal
 

@@ -1,8 +1,5 @@
-use Rattle.std.proofs.Common.{◌≡◌, true, sym, subst}
-use Rattle.std.specs.Prelude.{◌↔◌}
-use Rattle.session.specs.refusal.Verdict.{Verdict}
-use Rattle.hub_trail.specs.declared.kept.Kept.{Kept}
-use Rattle.hub_trail.specs.Legal.{AreOfUser, is_client_of, is_of_user, user_of}
+use Rattle.hub_check.proofs.Vocabulary.{◌≡◌, true, sym, subst, ◌↔◌, Verdict, Kept, AreOfUser, is_client_of, user_of}
+use Rattle.hub_trail.specs.Legal.{is_of_user}
 use Rattle.hub_check.proofs.Folding.{all_tells}
 use Rattle.hub_check.proofs.judge.are_of_user.Goals as goal
 

@@ -1,10 +1,5 @@
-use Rattle.std.proofs.Common.{◌≡◌, Bool, List, sym, subst}
-use Rattle.std.proofs.lemmas.Result.{IfOk-weaker}
-use Rattle.acl.specs.declared.act.Act.{Act}
-use Rattle.session.specs.refusal.Verdict.{Verdict}
-use Rattle.hub_trail.specs.Trails.{Ending}
-use Rattle.hub_trail.specs.Legal.{AreOfUser, AreLet, IsOfKnown}
-use Rattle.hub_check.specs.Parts.{AreTrue, FitsLine}
+use Rattle.hub_check.proofs.Vocabulary.{◌≡◌, Bool, List, sym, subst, IfOk-weaker, Act, Verdict, Ending, AreOfUser}
+use Rattle.hub_check.proofs.Vocabulary.{AreLet, IsOfKnown, AreTrue, FitsLine}
 use Rattle.hub_check.proofs.Judged.{judged}
 use Rattle.hub_check.proofs.judge.is_legal.Goals as goal
 

@@ -1,13 +1,7 @@
-use Rattle.std.proofs.Common.{◌≡◌, ◌∙◌, true, not, Some, map, filter, ap, sym, subst}
-use Rattle.std.specs.Prelude.{◌↔◌}
-use Rattle.std.specs.List.{list_all}
-use Rattle.acl.specs.History.{users_of}
-use Rattle.acl.specs.Names.{named_by}
-use Rattle.acl.specs.Same.{same_user}
+use Rattle.hub_check.proofs.Vocabulary.{◌≡◌, ◌∙◌, true, not, Some, map, filter, ap, sym, subst, ◌↔◌, list_all, users_of}
+use Rattle.hub_check.proofs.Vocabulary.{named_by, same_user, has_act_of, HaveActs}
 use Rattle.command_lang.specs.declared.command.Command.TheVariants as command
 use Rattle.command_lang.specs.declared.command.Users.{Users}
-use Rattle.hub_trail.specs.Legal.{has_act_of}
-use Rattle.hub_check.specs.Parts.{HaveActs}
 use Rattle.hub_check.proofs.Folding.{all_tells, all_mapped, others_have}
 use Rattle.hub_check.proofs.names.have_added.Goals as goal
 

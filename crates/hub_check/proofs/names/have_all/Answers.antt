@@ -1,10 +1,6 @@
-use Rattle.std.proofs.Common.{◌∙◌, ◌≤◌, ◌&&◌, ◌||◌, ℕ, suc, Some, sym, subst, drop, length, ap, add-one}
-use Rattle.std.specs.List.{list_all}
-use Rattle.acl.proofs.InPlace.{drop-past}
-use Rattle.acl.specs.declared.user_id.UserId.{UserId}
-use Rattle.acl.specs.History.{users_of}
-use Rattle.acl.specs.Same.{same_user}
-use Rattle.hub_trail.specs.Legal.{has_act_of}
+use Rattle.hub_check.proofs.Vocabulary.{◌∙◌, ◌&&◌, ◌||◌, ℕ, suc, Some, sym, subst, drop, length, ap, list_all}
+use Rattle.hub_check.proofs.Vocabulary.{drop-past, UserId, users_of, same_user, has_act_of}
+use Rattle.std.proofs.Common.{◌≤◌, add-one}
 use Rattle.hub_check.proofs.Folding.{at_place}
 use Rattle.hub_check.proofs.names.have_all.Goals as goal
 

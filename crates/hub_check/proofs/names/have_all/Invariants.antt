@@ -1,10 +1,5 @@
-use Rattle.std.proofs.Common.{◌≡◌, ◌||◌, Some, drop}
-use Rattle.std.specs.List.{list_all}
-use Rattle.acl.specs.declared.leaders.Edition.{Edition}
-use Rattle.acl.specs.History.{History, users_of}
-use Rattle.acl.specs.Same.{same_user}
-use Rattle.hub_trail.specs.Legal.{has_act_of}
-use Rattle.rights.specs.Following.{StandsAfter}
+use Rattle.hub_check.proofs.Vocabulary.{◌≡◌, ◌||◌, Some, drop, list_all, Edition, History, users_of, same_user}
+use Rattle.hub_check.proofs.Vocabulary.{has_act_of, StandsAfter}
 use Rattle.hub_check.proofs.names.have_all.Given as goal
 
 -- what is left decides

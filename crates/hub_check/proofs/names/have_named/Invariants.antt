@@ -1,7 +1,4 @@
-use Rattle.std.proofs.Common.{◌≡◌, drop}
-use Rattle.std.specs.List.{list_all}
-use Rattle.acl.specs.Names.{named_by}
-use Rattle.hub_trail.specs.Legal.{has_act_of}
+use Rattle.hub_check.proofs.Vocabulary.{◌≡◌, drop, list_all, named_by, has_act_of}
 use Rattle.hub_check.proofs.names.have_named.Given as goal
 
 -- what is left decides

@@ -1,7 +1,4 @@
-use Rattle.std.proofs.Common.{◌∙◌, refl, sym, subst, arith}
-use Rattle.std.proofs.lemmas.Bool.{false≢true}
-use Rattle.acl.proofs.InPlace.{drop-next, drop-past}
-use Rattle.hub_check.specs.Parts.{AreSaid}
+use Rattle.hub_check.proofs.Vocabulary.{◌∙◌, refl, sym, subst, arith, false≢true, drop-next, drop-past, AreSaid}
 use Rattle.hub_check.proofs.says.all_said.Goals as goal
 
 pub returns-then-not-says : goal.returns-then-not-says

@@ -1,10 +1,6 @@
-use Rattle.std.proofs.Common.{◌≡◌, true, drop}
-use Rattle.std.specs.Prelude.{◌↔◌, IfSome}
-use Rattle.acl.specs.declared.leaders.Edition.{Edition}
-use Rattle.acl.specs.History.{History}
+use Rattle.hub_check.proofs.Vocabulary.{◌≡◌, true, drop, ◌↔◌, Edition, History, StandsAfter, AreSaid}
+use Rattle.std.specs.Prelude.{IfSome}
 use Rattle.hub_trail.specs.Saying.{concerns}
-use Rattle.rights.specs.Following.{StandsAfter}
-use Rattle.hub_check.specs.Parts.{AreSaid}
 use Rattle.hub_check.proofs.says.all_said.Given as goal
 
 -- what is left decides, and the command names the user

@@ -1,8 +1,5 @@
-use Rattle.std.proofs.Common.{◌∙◌, sym, arith, ap}
-use Rattle.std.specs.List.{list_all}
-use Rattle.acl.proofs.InPlace.{drop-next, drop-past}
-use Rattle.session.specs.refusal.Verdict.{Verdict}
-use Rattle.hub_trail.specs.Legal.{is_client_of, user_of}
+use Rattle.hub_check.proofs.Vocabulary.{◌∙◌, sym, arith, ap, list_all, drop-next, drop-past, Verdict, is_client_of}
+use Rattle.hub_check.proofs.Vocabulary.{user_of}
 use Rattle.hub_check.proofs.Folding.{all_next, all_fails}
 use Rattle.hub_check.proofs.verdicts.are_of_client.Goals as goal
 

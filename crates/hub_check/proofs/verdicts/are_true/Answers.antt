@@ -1,6 +1,4 @@
-use Rattle.std.proofs.Common.{subst, sym, arith}
-use Rattle.acl.proofs.InPlace.{drop-next}
-use Rattle.hub_check.specs.Parts.{AreTrue}
+use Rattle.hub_check.proofs.Vocabulary.{subst, sym, arith, drop-next, AreTrue}
 use Rattle.hub_check.proofs.verdicts.are_true.Goals as goal
 
 pub loop-verdict-preserved : goal.loop-verdict-preserved

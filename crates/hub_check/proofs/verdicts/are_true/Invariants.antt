@@ -1,10 +1,4 @@
-use Rattle.std.proofs.Common.{drop}
-use Rattle.std.specs.Prelude.{◌↔◌}
-use Rattle.acl.specs.declared.leaders.Edition.{Edition}
-use Rattle.acl.specs.declared.user_id.UserId.{UserId}
-use Rattle.acl.specs.History.{History}
-use Rattle.rights.specs.Following.{StandsAfter}
-use Rattle.hub_check.specs.Parts.{AreTrue}
+use Rattle.hub_check.proofs.Vocabulary.{drop, ◌↔◌, Edition, UserId, History, StandsAfter, AreTrue}
 use Rattle.hub_check.proofs.verdicts.are_true.Given as goal
 
 -- what is left decides

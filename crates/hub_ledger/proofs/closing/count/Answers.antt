@@ -1,5 +1,4 @@
-use Rattle.std.proofs.Common.{◌≡◌, length, ap, arith}
-use Rattle.hub_ledger.specs.Seats.{Sitting}
+use Rattle.hub_ledger.proofs.Vocabulary.{◌≡◌, length, ap, arith, Sitting}
 use Rattle.hub_ledger.proofs.Tellings.{pushed}
 use Rattle.hub_ledger.proofs.closing.count.Goals as goal
 

@@ -1,5 +1,4 @@
-use Rattle.std.specs.Prelude.{◌≡◌, ◌+◌, length, vec_len}
-use Rattle.hub_ledger.specs.Closing.{receipts_of}
+use Rattle.hub_ledger.proofs.Vocabulary.{◌≡◌, ◌+◌, length, vec_len, receipts_of}
 use Rattle.hub_ledger.proofs.closing.count.Given as goal
 
 abbrev pub invariant-merging : goal.invariant-merging

@@ -1,6 +1,5 @@
-use Rattle.std.proofs.Common.{◌≡◌, ◌<◌, ◌+◌, ◌-◌, length, subst, sym, refl, arith}
-use Rattle.std.specs.Prelude.{None, Some, slice_get}
-use Rattle.hub_ledger.specs.Closing.{IsTold, before, receipts_of}
+use Rattle.hub_ledger.proofs.Vocabulary.{◌≡◌, ◌<◌, ◌+◌, ◌-◌, length, subst, sym, refl, arith, None, Some, slice_get}
+use Rattle.hub_ledger.proofs.Vocabulary.{IsTold, before, receipts_of}
 use Rattle.hub_ledger.proofs.Stripping.{IsWrongFrom, first_is, none_past, right_here, same_below, told_same, wrong_here}
 use Rattle.hub_ledger.proofs.closing.first_wrong.Goals as goal
 

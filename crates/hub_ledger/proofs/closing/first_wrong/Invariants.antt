@@ -1,5 +1,4 @@
-use Rattle.std.proofs.Common.{◌≡◌, ◌≤◌, ◌+◌, length}
-use Rattle.hub_ledger.specs.Closing.{before, receipts_of}
+use Rattle.hub_ledger.proofs.Vocabulary.{◌≡◌, ◌≤◌, ◌+◌, length, before, receipts_of}
 use Rattle.hub_ledger.proofs.Stripping.{IsWrongFrom}
 use Rattle.hub_ledger.proofs.closing.first_wrong.Given as goal
 

@@ -1,7 +1,5 @@
-use Rattle.std.proofs.Common.{◌≡◌, ◌∙◌, ◌<◌, ◌+◌, Bool, length, get_or, take, subst, sym, arith, true}
-use Rattle.std.specs.Prelude.{◌↔◌, ◌&&◌, slice_get, Some}
-use Rattle.std.proofs.lemmas.Option.{slice_get-get_or}
-use Rattle.hub_ledger.specs.Closing.{AreOf, receipts_of}
+use Rattle.hub_ledger.proofs.Vocabulary.{◌≡◌, ◌∙◌, ◌<◌, ◌+◌, Bool, length, get_or, take, subst, sym, arith, true, ◌↔◌}
+use Rattle.hub_ledger.proofs.Vocabulary.{◌&&◌, slice_get, Some, slice_get-get_or, AreOf, receipts_of}
 use Rattle.hub_ledger.proofs.Stripping.{all_stripped, both_right, done_more, left_more, not_right, not_told}
 use Rattle.hub_ledger.proofs.Stripping.{receipts_set, right_more, times_more, told_by_one}
 use Rattle.hub_ledger.proofs.closing.strip_all.Goals as goal

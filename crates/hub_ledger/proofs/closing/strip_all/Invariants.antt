@@ -1,6 +1,5 @@
-use Rattle.std.proofs.Common.{◌≡◌, ◌≤◌, ◌+◌, ℕ, length, take, true}
-use Rattle.std.specs.Prelude.{◌↔◌, slice_get}
-use Rattle.hub_ledger.specs.Closing.{AreOf, before, receipts_of, times}
+use Rattle.hub_ledger.proofs.Vocabulary.{◌≡◌, ◌≤◌, ◌+◌, ℕ, length, take, true, ◌↔◌, slice_get, AreOf, before}
+use Rattle.hub_ledger.proofs.Vocabulary.{receipts_of, times}
 use Rattle.hub_ledger.proofs.closing.strip_all.Given as goal
 
 abbrev pub invariant-seats : goal.invariant-seats

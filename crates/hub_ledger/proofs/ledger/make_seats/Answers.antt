@@ -1,5 +1,4 @@
-use Rattle.std.proofs.Common.{◌∙◌, ap, sym, arith}
-use Rattle.hub_ledger.specs.Seats.{Sitting}
+use Rattle.hub_ledger.proofs.Vocabulary.{◌∙◌, ap, sym, arith, Sitting}
 use Rattle.hub_ledger.proofs.Tellings.{none_asks, none_told, numbered, pushed}
 use Rattle.hub_ledger.proofs.ledger.make_seats.Goals as goal
 

@@ -1,6 +1,4 @@
-use Rattle.std.specs.Prelude.{◌≡◌, ◌+◌, length, []}
-use Rattle.hub_ledger.specs.Seats.{AreNumbered, NoneAsks}
-use Rattle.hub_ledger.specs.Closing.{receipts_of}
+use Rattle.hub_ledger.proofs.Vocabulary.{◌≡◌, ◌+◌, length, [], AreNumbered, NoneAsks, receipts_of}
 use Rattle.hub_ledger.proofs.ledger.make_seats.Given as goal
 
 abbrev pub invariant-seats : goal.invariant-seats

@@ -1,6 +1,5 @@
-use Rattle.std.proofs.Common.{◌≡◌, ◌∙◌, ◌-◌, Some, ap, sym, subst, length, true}
-use Rattle.std.specs.Prelude.{◌↔◌, nat_lt, slice_get}
-use Rattle.hub_ledger.specs.Rising.{AllBelow}
+use Rattle.hub_ledger.proofs.Vocabulary.{◌≡◌, ◌∙◌, ◌-◌, Some, ap, sym, subst, length, true, ◌↔◌, nat_lt, slice_get}
+use Rattle.hub_ledger.proofs.Vocabulary.{AllBelow}
 use Rattle.hub_ledger.proofs.Rising.{last_tells}
 use Rattle.hub_ledger.proofs.seat.are_below.Goals as goal
 

@@ -1,5 +1,4 @@
-use Rattle.std.proofs.Common.{◌∙◌, sym}
-use Rattle.hub_ledger.specs.Rising.{AllBelow}
+use Rattle.hub_ledger.proofs.Vocabulary.{◌∙◌, sym, AllBelow}
 use Rattle.hub_ledger.proofs.Rising.{before_all, cut_end, not_below, smaller, some_there}
 use Rattle.hub_ledger.proofs.seat.cut.Goals as goal
 

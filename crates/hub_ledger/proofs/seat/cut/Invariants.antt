@@ -1,5 +1,4 @@
-use Rattle.std.proofs.Common.{◌≡◌, length}
-use Rattle.hub_ledger.specs.Rising.{Rise, before}
+use Rattle.hub_ledger.proofs.Vocabulary.{◌≡◌, length, Rise, before}
 use Rattle.hub_ledger.proofs.seat.cut.Given as goal
 
 abbrev pub invariant-above : goal.invariant-above

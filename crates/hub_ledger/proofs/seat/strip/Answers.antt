@@ -1,6 +1,5 @@
-use Rattle.std.proofs.Common.{◌≡◌, ◌∙◌, ◌-◌, ◌∷◌, ◌++◌, [], Some, ap, sym, refl, arith, length}
-use Rattle.std.specs.Prelude.{slice_get}
-use Rattle.hub_record.specs.Receipts.{Receipt}
+use Rattle.hub_ledger.proofs.Vocabulary.{◌≡◌, ◌∙◌, ◌-◌, ◌∷◌, ◌++◌, [], Some, ap, sym, refl, arith, length, slice_get}
+use Rattle.hub_ledger.proofs.Vocabulary.{Receipt}
 use Rattle.hub_ledger.proofs.Rising.{last_one, not_below, some_there, strip_none, strip_one}
 use Rattle.hub_ledger.proofs.seat.strip.Goals as goal
 

@@ -1,9 +1,5 @@
-use Rattle.std.proofs.Common.{◌≡◌, ◌<◌, length, ap, ◌∙◌, arith, inl, inr, get_or}
-use Rattle.std.specs.Prelude.{vec_len, vec_capacity}
-use Rattle.std.specs.declared.vec.Vec.{Vec}
-use Rattle.std.specs.declared.alloc.Global.{Global}
-use Rattle.std.proofs.lemmas.Option.{slice_get_within}
-use Rattle.hub_ledger.specs.Routing.{Sent}
+use Rattle.hub_ledger.proofs.Vocabulary.{◌≡◌, ◌<◌, length, ap, ◌∙◌, arith, inl, inr, get_or, vec_len, vec_capacity, Vec}
+use Rattle.hub_ledger.proofs.Vocabulary.{Global, slice_get_within, Sent}
 use Rattle.hub_ledger.proofs.Places.{slice_get-get_or, slice_get-set, map-set_same}
 use Rattle.hub_ledger.proofs.waiting.make_room.Goals as goal
 

@@ -1,8 +1,5 @@
-use Rattle.std.proofs.Common.{◌≡◌, ◌≤◌, ◌<◌, ◌+◌, ℕ, Some}
-use Rattle.std.specs.Prelude.{slice_get, vec_len, vec_capacity}
-use Rattle.std.specs.declared.vec.Vec.{Vec}
-use Rattle.std.specs.declared.alloc.Global.{Global}
-use Rattle.hub_ledger.specs.Routing.{Sent, views}
+use Rattle.hub_ledger.proofs.Vocabulary.{◌≡◌, ◌≤◌, ◌<◌, ◌+◌, ℕ, Some, slice_get, vec_len, vec_capacity, Vec, Global}
+use Rattle.hub_ledger.proofs.Vocabulary.{Sent, views}
 use Rattle.hub_ledger.proofs.waiting.make_room.Given as goal
 
 abbrev pub invariant-loop-i : goal.invariant-loop-i

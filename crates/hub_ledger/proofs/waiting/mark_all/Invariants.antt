@@ -1,5 +1,4 @@
-use Rattle.std.proofs.Common.{◌≡◌, ◌<◌, true, ℕ, Some}
-use Rattle.std.specs.Prelude.{slice_get}
+use Rattle.hub_ledger.proofs.Vocabulary.{◌≡◌, ◌<◌, true, ℕ, Some, slice_get}
 use Rattle.hub_ledger.proofs.waiting.mark_all.Given as goal
 
 abbrev pub invariant-loop-i : goal.invariant-loop-i

@@ -1,17 +1,7 @@
-use Rattle.std.proofs.Common.{◌≡◌, ◌<◌, ◌++◌, ◌∷◌, [], length, refl, sym, ap, ◌∙◌, arith, get_or, subst, List}
-use Rattle.std.proofs.Common.{length-append}
-use Rattle.std.proofs.lemmas.List.{append-nil}
-use Rattle.std.specs.Prelude.{Some, IsSome}
-use Rattle.std.specs.List.{AllByRecursion}
-use Rattle.std.specs.declared.vec.Vec.{Vec}
-use Rattle.std.specs.declared.alloc.Global.{Global}
-use Rattle.std.specs.Vec.Iter.{into_iter_items}
-use Rattle.std.proofs.lemmas.List.{length-map}
-use Rattle.std.proofs.lemmas.Option.{slice_get-get_or}
-use Rattle.session.proofs.Lists.{all_weaken}
-use Rattle.session.specs.event.Effect.{Effect}
-use Rattle.hub_peers.specs.Peers.{HasPeer, owners_of, seat_of}
-use Rattle.hub_ledger.specs.Routing.{Sent, views}
+use Rattle.hub_ledger.proofs.Vocabulary.{◌≡◌, ◌<◌, ◌++◌, ◌∷◌, [], length, refl, sym, ap, ◌∙◌, arith, get_or, subst}
+use Rattle.hub_ledger.proofs.Vocabulary.{List, length-append, append-nil, Some, IsSome, AllByRecursion, Vec, Global}
+use Rattle.hub_ledger.proofs.Vocabulary.{into_iter_items, length-map, slice_get-get_or, all_weaken, Effect, HasPeer}
+use Rattle.hub_ledger.proofs.Vocabulary.{owners_of, seat_of, Sent, views}
 use Rattle.hub_ledger.proofs.Queues.{Waits, seat_there, seat_within, more_waits, room_left, append_turned}
 use Rattle.hub_ledger.proofs.waiting.route.Goals as goal
 

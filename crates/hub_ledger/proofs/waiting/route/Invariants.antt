@@ -1,11 +1,5 @@
-use Rattle.std.proofs.Common.{◌≡◌, ◌≤◌, ◌+◌, ◌++◌, length, ℕ, Some}
-use Rattle.std.specs.Prelude.{slice_get, vec_len, vec_capacity}
-use Rattle.std.specs.List.{AllByRecursion}
-use Rattle.std.specs.Vec.Iter.{into_iter_items}
-use Rattle.std.specs.declared.vec.Vec.{Vec}
-use Rattle.std.specs.declared.alloc.Global.{Global}
-use Rattle.hub_peers.specs.Peers.{HasPeer, owners_of}
-use Rattle.hub_ledger.specs.Routing.{Sent, views}
+use Rattle.hub_ledger.proofs.Vocabulary.{◌≡◌, ◌≤◌, ◌+◌, ◌++◌, length, ℕ, Some, slice_get, vec_len, vec_capacity}
+use Rattle.hub_ledger.proofs.Vocabulary.{AllByRecursion, into_iter_items, Vec, Global, HasPeer, owners_of, Sent, views}
 use Rattle.hub_ledger.proofs.Queues.{Waits}
 use Rattle.hub_ledger.proofs.waiting.route.Given as goal
 

@@ -1,7 +1,6 @@
-use Rattle.std.proofs.Common.{ℕ, not, rules}
-use Rattle.std.specs.Prelude.{◌==◌}
+use Rattle.rights.proofs.Vocabulary.{ℕ, not, ◌==◌, UserId}
+use Rattle.std.proofs.Common.{rules}
 use Rattle.std.proofs.lemmas.Fn.{filter_same}
-use Rattle.acl.specs.declared.user_id.UserId.{UserId}
 use Rattle.rights.proofs.clients.drop_client.Goals as goal
 
 pub returns : goal.returns

@@ -1,8 +1,5 @@
-use Rattle.std.proofs.Common.{◌≡◌, ◌∙◌, not, ◌&&◌, List, Option, false, ap, sym, subst}
-use Rattle.std.specs.Option.{option_map_or}
-use Rattle.acl.specs.declared.user_id.UserId.{UserId}
-use Rattle.acl.specs.Same.{same_user}
-use Rattle.rights.specs.Clients.{Differ, last_in}
+use Rattle.rights.proofs.Vocabulary.{◌≡◌, ◌∙◌, not, ◌&&◌, List, Option, false, ap, sym, subst, option_map_or, UserId}
+use Rattle.rights.proofs.Vocabulary.{same_user, Differ, last_in}
 use Rattle.rights.proofs.Rows.{Row, others, is_users, last_is, differ_on}
 use Rattle.rights.proofs.clients.part_client.Goals as goal
 

@@ -1,7 +1,4 @@
-use Rattle.std.proofs.Common.{◌∙◌, ◌++◌, ap, sym, subst}
-use Rattle.std.specs.List.{AllByRecursion}
-use Rattle.acl.specs.Commands.{sets}
-use Rattle.rights.specs.Runs.{IsUnlocked}
+use Rattle.rights.proofs.Vocabulary.{◌∙◌, ◌++◌, ap, sym, subst, AllByRecursion, sets, IsUnlocked}
 use Rattle.rights.proofs.lists.follow_run.Goals as goal
 
 pub returns-clause-some : goal.returns-clause-some

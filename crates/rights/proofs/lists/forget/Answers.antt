@@ -1,7 +1,5 @@
-use Rattle.std.proofs.Common.{Some, refl}
+use Rattle.rights.proofs.Vocabulary.{Some, refl, known_name_fault, users_of}
 use Rattle.acl.specs.declared.act.Act.TheVariants.{Gone}
-use Rattle.acl.specs.Commands.{known_name_fault}
-use Rattle.acl.specs.History.{users_of}
 use Rattle.rights.proofs.Standing.{stands_on}
 use Rattle.rights.proofs.Redoing.{redo, on_ok}
 use Rattle.rights.proofs.lists.forget.Goals as goal

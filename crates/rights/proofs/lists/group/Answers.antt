@@ -1,11 +1,8 @@
-use Rattle.std.proofs.Common.{◌≡◌, ◌∙◌, ◌∷◌, Some, refl, ap, subst}
+use Rattle.rights.proofs.Vocabulary.{◌≡◌, ◌∙◌, ◌∷◌, Some, refl, ap, subst, Answers, chosen_leader, followed_by}
+use Rattle.rights.proofs.Vocabulary.{users_of, leaders_of, StandsFor, LocksStandFor, leader_in}
 use Rattle.acl.specs.declared.act.Act.TheVariants.{Grouped}
 use Rattle.acl.specs.declared.entries.NewLeader.{NewLeader}
-use Rattle.acl.specs.Commands.{Answers, group_fault, group_acts, chosen_leader}
-use Rattle.acl.specs.History.{followed_by, users_of, leaders_of}
-use Rattle.acl.specs.Table.{StandsFor}
-use Rattle.writelock.specs.LockTable.{LocksStandFor}
-use Rattle.rights.specs.Acts.{leader_in}
+use Rattle.acl.specs.Commands.{group_fault, group_acts}
 use Rattle.rights.proofs.Standing.{stands_on}
 use Rattle.rights.proofs.Redoing.{redo, on_ok, chosen}
 use Rattle.rights.proofs.lists.group.Goals as goal

@@ -1,15 +1,8 @@
-use Rattle.std.proofs.Common.{◌≡◌, ◌∙◌, ◌∷◌, [], List, true, false, not, ◌&&◌, Some, refl, ap, sym, subst, is_none}
-use Rattle.std.proofs.lemmas.Bool.{false≢true}
-use Rattle.std.proofs.lemmas.List.Elements.{All-nil}
-use Rattle.acl.specs.declared.act.Act.TheVariants.{Known}
-use Rattle.acl.specs.declared.act.Object.{Object}
-use Rattle.acl.specs.declared.leaders.Edition.{Edition}
-use Rattle.acl.specs.declared.user_id.UserId.{UserId}
-use Rattle.acl.specs.Commands.{change_fault, new_name_fault}
-use Rattle.acl.specs.History.{History, among, users_of, there}
-use Rattle.acl.specs.Table.{Table, StandsFor, users_in}
-use Rattle.writelock.specs.LockTable.{LocksStandFor}
-use Rattle.rights.specs.Following.{StandsAfter}
+use Rattle.rights.proofs.Vocabulary.{◌≡◌, ◌∙◌, ◌∷◌, [], List, true, false, not, ◌&&◌, Some, refl, ap, sym, subst}
+use Rattle.rights.proofs.Vocabulary.{is_none, false≢true, All-nil, Known, Object, Edition, UserId, change_fault}
+use Rattle.rights.proofs.Vocabulary.{History, among, users_of, there, Table, StandsFor, LocksStandFor, StandsAfter}
+use Rattle.acl.specs.Commands.{new_name_fault}
+use Rattle.acl.specs.Table.{users_in}
 use Rattle.rights.proofs.Standing.{stands_on}
 use Rattle.rights.proofs.Redoing.{redo, on_ok, new_alone, know_done}
 use Rattle.rights.proofs.lists.know.Goals as goal

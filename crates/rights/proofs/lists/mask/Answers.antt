@@ -1,8 +1,7 @@
-use Rattle.std.proofs.Common.{◌∷◌, [], Some, refl}
+use Rattle.rights.proofs.Vocabulary.{◌∷◌, [], Some, refl, known_name_fault, users_of}
 use Rattle.acl.specs.declared.act.Act.TheVariants.{Masked}
 use Rattle.acl.specs.declared.entries.MaskScope.TheVariants as scope
-use Rattle.acl.specs.Commands.{mask_fault, known_name_fault}
-use Rattle.acl.specs.History.{users_of}
+use Rattle.acl.specs.Commands.{mask_fault}
 use Rattle.rights.proofs.Standing.{stands_on}
 use Rattle.rights.proofs.Redoing.{redo, on_ok, alone}
 use Rattle.rights.proofs.lists.mask.Goals as goal

@@ -1,18 +1,8 @@
-use Rattle.std.proofs.Common.{◌≡◌, ◌∙◌, ◌∷◌, [], true, ◌&&◌, Some, refl, ap, sym, subst, length, nat_lt}
-use Rattle.std.specs.Prelude.{All}
-use Rattle.std.proofs.lemmas.Bool.{false≢true}
-use Rattle.std.proofs.lemmas.List.Elements.{All-cons, All-nil}
-use Rattle.acl.specs.declared.act.Act.TheVariants.{Set}
-use Rattle.acl.specs.declared.act.Object.{Object}
-use Rattle.acl.specs.declared.leaders.Edition.{Edition}
-use Rattle.acl.specs.declared.entries.AclFault.TheVariants.{OwnerKept, TooManyUsers, UnknownUser}
-use Rattle.acl.specs.declared.user_id.UserId.{UserId}
-use Rattle.acl.specs.Commands.{change_fault}
-use Rattle.acl.specs.History.{History, among, users_of, there}
-use Rattle.acl.specs.Same.{same_user}
-use Rattle.acl.specs.Table.{StandsFor}
-use Rattle.writelock.specs.LockTable.{LocksStandFor}
-use Rattle.rights.specs.Following.{StandsAfter, is_nameable}
+use Rattle.rights.proofs.Vocabulary.{◌≡◌, ◌∙◌, ◌∷◌, [], true, ◌&&◌, Some, refl, ap, sym, subst, length, All, false≢true}
+use Rattle.rights.proofs.Vocabulary.{All-cons, All-nil, Set, Object, Edition, OwnerKept, TooManyUsers, UnknownUser}
+use Rattle.rights.proofs.Vocabulary.{UserId, change_fault, History, among, users_of, there, same_user, StandsFor}
+use Rattle.rights.proofs.Vocabulary.{LocksStandFor, StandsAfter, is_nameable}
+use Rattle.std.proofs.Common.{nat_lt}
 use Rattle.rights.proofs.Standing.{stands_on}
 use Rattle.rights.proofs.Redoing.{redo, on_ok, changeable, listed, set_done, both}
 use Rattle.rights.proofs.lists.set.Goals as goal

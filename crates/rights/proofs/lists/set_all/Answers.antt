@@ -1,10 +1,5 @@
-use Rattle.std.proofs.Common.{sym, subst, ◌∙◌}
-use Rattle.std.specs.Prelude.{Bool}
-use Rattle.std.proofs.lemmas.Result.{IfOk-weaker}
-use Rattle.acl.specs.declared.entries.AclFault.TheVariants.{OwnerKept, TooManyUsers, UnknownUser}
-use Rattle.acl.specs.History.{among, users_of}
-use Rattle.acl.specs.Same.{same_user}
-use Rattle.acl.specs.Table.{StandsFor}
+use Rattle.rights.proofs.Vocabulary.{sym, subst, ◌∙◌, Bool, IfOk-weaker, OwnerKept, TooManyUsers, UnknownUser, among}
+use Rattle.rights.proofs.Vocabulary.{users_of, same_user, StandsFor}
 use Rattle.rights.proofs.Redoing.{on_ok, listed, sets_done}
 use Rattle.rights.proofs.Running.{all_there, on_all}
 use Rattle.rights.proofs.lists.set_all.Goals as goal

@@ -1,11 +1,7 @@
-use Rattle.std.proofs.Common.{◌≡◌, ◌∙◌, ◌∷◌, ℕ, false, not, List, ap, sym, subst}
-use Rattle.std.specs.Prelude.{◌==◌}
-use Rattle.std.specs.List.{list_any}
+use Rattle.rights.proofs.Vocabulary.{◌≡◌, ◌∙◌, ◌∷◌, ℕ, false, not, List, ap, sym, subst, ◌==◌, list_any, UserId}
+use Rattle.rights.proofs.Vocabulary.{StandsFor-aside, Differ}
 use Rattle.acl.specs.declared.act.Act.TheVariants.{Attached}
-use Rattle.acl.specs.declared.user_id.UserId.{UserId}
-use Rattle.acl.proofs.AsideLemmas.{StandsFor-aside}
 use Rattle.writelock.proofs.LockLemmas.{LocksStandFor-Attached}
-use Rattle.rights.specs.Clients.{Differ}
 use Rattle.rights.proofs.moves.attach.Goals as goal
 
 pub returns : goal.returns

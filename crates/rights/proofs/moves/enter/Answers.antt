@@ -1,6 +1,5 @@
-use Rattle.std.proofs.Common.{◌≡◌, ◌∙◌, true, refl, sym}
+use Rattle.rights.proofs.Vocabulary.{◌≡◌, ◌∙◌, true, refl, sym, is_open}
 use Rattle.acl.specs.declared.act.Act.TheVariants.{Entered}
-use Rattle.acl.specs.History.{is_open}
 use Rattle.rights.proofs.Standing.{stands_aside}
 use Rattle.rights.proofs.moves.enter.Goals as goal
 

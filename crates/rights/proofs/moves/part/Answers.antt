@@ -1,6 +1,5 @@
-use Rattle.std.proofs.Common.{refl}
+use Rattle.rights.proofs.Vocabulary.{refl, StandsFor-aside}
 use Rattle.acl.specs.declared.act.Act.TheVariants.{Parted}
-use Rattle.acl.proofs.AsideLemmas.{StandsFor-aside}
 use Rattle.rights.proofs.moves.part.Goals as goal
 
 pub returns : goal.returns

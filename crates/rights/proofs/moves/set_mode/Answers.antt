@@ -1,8 +1,5 @@
-use Rattle.std.proofs.Common.{◌≡◌, ◌∙◌, ◌||◌, true, refl, ap, sym}
+use Rattle.rights.proofs.Vocabulary.{◌≡◌, ◌∙◌, ◌||◌, true, refl, ap, sym, Window, Write, is_open, may}
 use Rattle.acl.specs.declared.act.Act.TheVariants.{Mode}
-use Rattle.acl.specs.declared.act.Object.TheVariants.{Window}
-use Rattle.acl.specs.declared.bits.Bit.TheVariants.{Write}
-use Rattle.acl.specs.History.{is_open, may}
 use Rattle.writelock.specs.Holding.{is_off}
 use Rattle.rights.proofs.Standing.{stands_aside, or_rest}
 use Rattle.rights.proofs.Redoing.{both}

@@ -1,9 +1,7 @@
-use Rattle.std.proofs.Common.{false, ◌∙◌, ◌<◌, ◌∷◌, ◌++◌, [], ap, get_or, length, sym, take, arith}
+use Rattle.rights.proofs.Vocabulary.{false, ◌∙◌, ◌∷◌, ◌++◌, [], ap, length, sym, take, Known, Set, Read, BitChange}
+use Rattle.rights.proofs.Vocabulary.{sets_on}
+use Rattle.std.proofs.Common.{◌<◌, get_or, arith}
 use Rattle.std.proofs.lemmas.List.{take_all, take_more, map_more}
-use Rattle.acl.specs.declared.act.Act.TheVariants.{Known, Set}
-use Rattle.acl.specs.declared.bits.Bit.TheVariants.{Read}
-use Rattle.acl.specs.declared.bits.BitChange.{BitChange}
-use Rattle.acl.specs.Commands.{sets_on}
 use Rattle.rights.proofs.runs.are_sets.Goals as goal
 
 pub places-preserved : goal.places-preserved

@@ -1,5 +1,4 @@
-use Rattle.std.specs.Prelude.{◌≡◌, take}
-use Rattle.acl.specs.Commands.{sets_on}
+use Rattle.rights.proofs.Vocabulary.{◌≡◌, take, sets_on}
 use Rattle.rights.proofs.runs.are_sets.Given as goal
 
 abbrev pub invariant-places : goal.invariant-places

@@ -1,7 +1,5 @@
-use Rattle.std.proofs.Common.{◌≡◌, ◌∙◌, true, is_none, is_some, not, ap, sym, subst}
-use Rattle.acl.specs.History.{is_open, there}
-use Rattle.writelock.specs.Holding.{holder, mode_of}
-use Rattle.rights.specs.Runs.{is_unheld}
+use Rattle.rights.proofs.Vocabulary.{◌≡◌, ◌∙◌, true, is_none, is_some, not, ap, sym, subst, is_open, there, holder}
+use Rattle.rights.proofs.Vocabulary.{mode_of, is_unheld}
 use Rattle.rights.proofs.Standing.{some_if}
 use Rattle.rights.proofs.runs.is_unlocked.Goals as goal
 

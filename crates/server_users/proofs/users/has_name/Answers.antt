@@ -1,5 +1,4 @@
-use Rattle.std.proofs.Common.{◌∙◌, ap, subst, sym, refl, arith, Contains}
-use Rattle.std.proofs.lemmas.Bool.{false≢true}
+use Rattle.server_users.proofs.Vocabulary.{◌∙◌, ap, subst, sym, refl, arith, Contains, false≢true}
 use Rattle.server_users.proofs.Seen.{name_at, names_are, not_yet, here, nowhere}
 use Rattle.server_users.proofs.users.has_name.Goals as goal
 

@@ -1,6 +1,4 @@
-use Rattle.std.proofs.Common.{◌∙◌, ap, sym, refl, arith}
-use Rattle.std.proofs.lemmas.Bool.{false≢true}
-use Rattle.server_users.specs.Stands.{entry_of}
+use Rattle.server_users.proofs.Vocabulary.{◌∙◌, ap, sym, refl, arith, false≢true, entry_of}
 use Rattle.server_users.proofs.Seen.{not_yet, here, nowhere}
 use Rattle.server_users.proofs.users.holder.Goals as goal
 

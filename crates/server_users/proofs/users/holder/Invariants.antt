@@ -1,5 +1,4 @@
-use Rattle.std.proofs.Common.{Contains, map, take}
-use Rattle.server_users.specs.Stands.{entry_of}
+use Rattle.server_users.proofs.Vocabulary.{Contains, map, take, entry_of}
 use Rattle.server_users.proofs.users.holder.Given as goal
 
 abbrev pub invariant-loop-user : goal.invariant-loop-user

@@ -1,12 +1,9 @@
-use Rattle.std.proofs.Common.{rules, ◌≡◌, ◌∙◌, ◌++◌, ap, subst, sym, refl, true, Some}
+use Rattle.session_commands.proofs.Vocabulary.{rules, ◌≡◌, ◌∙◌, ◌++◌, ap, subst, sym, refl, true, Some, change_fault}
+use Rattle.session_commands.proofs.Vocabulary.{there, known_users, names_of, every_window, every_command, changes}
+use Rattle.session_commands.proofs.Vocabulary.{on_ok}
 use Rattle.std.specs.List.{All}
-use Rattle.acl.specs.Commands.{change_fault, add_acts}
-use Rattle.acl.specs.History.{there}
-use Rattle.session_model.specs.Tables.{known_users}
-use Rattle.session_model.specs.Naming.{names_of, every_window, every_command}
+use Rattle.acl.specs.Commands.{add_acts}
 use Rattle.session_model.specs.Rights.{add_acts_in}
-use Rattle.session_model.specs.Deeds.{changes}
-use Rattle.windows_model.proofs.Serials.{on_ok}
 use Rattle.session_commands.proofs.There.{all_there}
 use Rattle.session_commands.proofs.OnLists.{acted, says_nothing, change_done, change_refused}
 use Rattle.session_commands.proofs.Quiet.{quietly}

@@ -1,12 +1,9 @@
-use Rattle.std.proofs.Common.{rules, ◌≡◌, ◌∙◌, ap, sym, refl, None, Some, Ok, List}
-use Rattle.std.proofs.lemmas.Result.{err_from_is_err_and}
+use Rattle.session_commands.proofs.Vocabulary.{rules, ◌≡◌, ◌∙◌, ap, sym, refl, None, Some, Ok, List}
+use Rattle.session_commands.proofs.Vocabulary.{err_from_is_err_and, change_fault, known_users, names_of, objects_of}
+use Rattle.session_commands.proofs.Vocabulary.{acting, changes, on_ok}
 use Rattle.acl.specs.declared.bits.BitChange.{BitChange}
-use Rattle.acl.specs.Commands.{change_fault, change_acts}
-use Rattle.session_model.specs.Tables.{known_users}
-use Rattle.session_model.specs.Naming.{names_of, objects_of}
+use Rattle.acl.specs.Commands.{change_acts}
 use Rattle.session_model.specs.Commands.{changing_bits}
-use Rattle.session_model.specs.Deeds.{acting, changes}
-use Rattle.windows_model.proofs.Serials.{on_ok}
 use Rattle.session_commands.proofs.There.{objects_there}
 use Rattle.session_commands.proofs.Naming.{nothing_named}
 use Rattle.session_commands.proofs.OnLists.{acted, says_nothing, change_done, change_refused, change_without}

@@ -1,16 +1,9 @@
-use Rattle.std.proofs.Common.{◌≡◌, ◌∙◌, ◌⊎◌, ◌++◌, Some, None, Err, ap, refl, sym, subst, inr, arith, rules}
+use Rattle.session_commands.proofs.Vocabulary.{◌≡◌, ◌∙◌, ◌⊎◌, ◌++◌, Some, None, Err, ap, refl, sym, subst, inr, arith}
+use Rattle.session_commands.proofs.Vocabulary.{rules, named_by, known_name_fault, NoMemory, known_users, removes, does}
+use Rattle.session_commands.proofs.Vocabulary.{caller_in, Of, parted_now}
 use Rattle.std.proofs.lemmas.Grind.{common_steps}
 use Rattle.acl.specs.declared.acl.Acl.{Acl}
-use Rattle.acl.specs.Names.{named_by}
-use Rattle.acl.specs.Commands.{known_name_fault}
 use Rattle.command_lang.specs.declared.command.Command.TheVariants as command
-use Rattle.session_model.specs.declared.refusal.Refusal.TheVariants.{NoMemory}
-use Rattle.session_model.specs.Tables.{known_users}
-use Rattle.session_model.specs.Deeds.{removes}
-use Rattle.session_model.specs.Commands.{does}
-use Rattle.session_state.specs.Doing.{caller_in}
-use Rattle.session_commands.specs.declared.going.Going.TheVariants.{Of}
-use Rattle.session_commands.specs.Going.{parted_now}
 use Rattle.session_commands.proofs.Pushed.{grown}
 use Rattle.session_commands.proofs.LeavingRows.{removal, removal_refused, removal_unnamed}
 use Rattle.session_commands.proofs.Ending.{removed}

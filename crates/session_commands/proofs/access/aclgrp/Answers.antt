@@ -1,13 +1,9 @@
-use Rattle.std.proofs.Common.{rules, ◌≡◌, ◌∙◌, ap, sym, refl, Option}
-use Rattle.acl.specs.declared.user_id.UserId.{UserId}
+use Rattle.session_commands.proofs.Vocabulary.{rules, ◌≡◌, ◌∙◌, ap, sym, refl, Option, UserId, named_by, Acl, Answer}
+use Rattle.session_commands.proofs.Vocabulary.{acting, unless, on_ok}
 use Rattle.acl.specs.declared.entries.NewLeader.{NewLeader}
 use Rattle.acl.specs.Commands.{group_acts}
-use Rattle.acl.specs.Names.{named_by}
-use Rattle.session_model.specs.declared.refusal.Refusal.TheVariants.{Acl}
 use Rattle.session_model.specs.Naming.{new_leader_of}
 use Rattle.session_model.specs.Rights.{group_fault_in}
-use Rattle.session_model.specs.Deeds.{Answer, acting, unless}
-use Rattle.windows_model.proofs.Serials.{on_ok}
 use Rattle.session_commands.proofs.OnLists.{acted, says_nothing, unless_none, unless_some}
 use Rattle.session_commands.proofs.Quiet.{quietly}
 use Rattle.session_commands.proofs.access.aclgrp.Goals as goal

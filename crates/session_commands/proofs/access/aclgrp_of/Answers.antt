@@ -1,5 +1,4 @@
-use Rattle.std.proofs.Common.{inr}
-use Rattle.session_state.specs.Doing.{caller_in}
+use Rattle.session_commands.proofs.Vocabulary.{inr, caller_in}
 use Rattle.session_commands.proofs.Grouping.{lists, leaders_listed, leaders_refused}
 use Rattle.session_commands.proofs.access.aclgrp_of.Goals as goal
 

@@ -1,11 +1,7 @@
-use Rattle.std.proofs.Common.{rules, ◌≡◌, ◌∙◌, ap, sym, refl, List}
+use Rattle.session_commands.proofs.Vocabulary.{rules, ◌≡◌, ◌∙◌, ap, sym, refl, List, Acl, known_users, mask_entries}
+use Rattle.session_commands.proofs.Vocabulary.{Answer, acting, unless, on_ok}
 use Rattle.acl.specs.declared.entries.MaskEntry.{MaskEntry}
 use Rattle.acl.specs.Commands.{mask_fault, mask_acts}
-use Rattle.session_model.specs.declared.refusal.Refusal.TheVariants.{Acl}
-use Rattle.session_model.specs.Tables.{known_users}
-use Rattle.session_model.specs.Commands.{mask_entries}
-use Rattle.session_model.specs.Deeds.{Answer, acting, unless}
-use Rattle.windows_model.proofs.Serials.{on_ok}
 use Rattle.session_commands.proofs.OnLists.{acted, says_nothing, unless_none, unless_some}
 use Rattle.session_commands.proofs.Quiet.{quietly}
 use Rattle.session_commands.proofs.access.aclumask.Goals as goal

@@ -1,6 +1,5 @@
-use Rattle.std.proofs.Common.{◌∷◌, ◌++◌, [], refl, sym, append-nil, rules}
+use Rattle.session_commands.proofs.Vocabulary.{◌∷◌, ◌++◌, [], refl, sym, append-nil, rules, acting}
 use Rattle.acl.specs.declared.act.Act.TheVariants as act
-use Rattle.session_model.specs.Deeds.{acting}
 use Rattle.session_commands.proofs.Doing.{pushed}
 use Rattle.session_commands.proofs.Locking.{with_locks}
 use Rattle.session_commands.proofs.access.defwritelock.Goals as goal

@@ -1,5 +1,4 @@
-use Rattle.std.proofs.Common.{◌≡◌, Some, false, true, sym, ◌∙◌}
-use Rattle.acl.specs.Names.{named_by}
+use Rattle.session_commands.proofs.Vocabulary.{◌≡◌, Some, false, true, sym, ◌∙◌, named_by}
 use Rattle.session_commands.proofs.Grouping.{fault_is}
 use Rattle.session_commands.proofs.access.known_user.Goals as goal
 

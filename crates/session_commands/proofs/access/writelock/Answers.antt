@@ -1,11 +1,7 @@
-use Rattle.std.proofs.Common.{◌≡◌, ◌∷◌, ◌++◌, [], ℕ, Ok, true, refl, ap, sym, ◌∙◌, append-nil}
-use Rattle.std.proofs.Common.{is_some, rules}
-use Rattle.acl.specs.History.{is_open}
+use Rattle.session_commands.proofs.Vocabulary.{◌≡◌, ◌∷◌, ◌++◌, [], ℕ, Ok, true, refl, ap, sym, ◌∙◌, append-nil, is_some}
+use Rattle.session_commands.proofs.Vocabulary.{rules, is_open, Window, acting, caller_in}
 use Rattle.acl.specs.declared.act.Act.TheVariants as act
 use Rattle.command_lang.specs.declared.command.Command.TheVariants as command
-use Rattle.session_model.specs.Tables.{Window}
-use Rattle.session_model.specs.Deeds.{acting}
-use Rattle.session_state.specs.Doing.{caller_in}
 use Rattle.session_commands.proofs.Passing.{acted_on, may_write}
 use Rattle.session_commands.proofs.Doing.{on_row, pushed}
 use Rattle.session_commands.proofs.Locking.{with_locks, lock_needs_window, lock_needs_write}

@@ -1,7 +1,5 @@
-use Rattle.std.proofs.Common.{◌∙◌, ◌++◌, ◌∷◌, [], ap, inr, arith, rules}
-use Rattle.std.proofs.lemmas.Result.{err_from_is_err_and}
-use Rattle.acl.specs.declared.act.Act.TheVariants.{Closed}
-use Rattle.session_model.specs.declared.event.Effect.TheVariants.{Gone}
+use Rattle.session_commands.proofs.Vocabulary.{◌∙◌, ◌++◌, ◌∷◌, [], ap, inr, arith, rules, err_from_is_err_and, Closed}
+use Rattle.session_commands.proofs.Vocabulary.{Gone}
 use Rattle.session_model.specs.declared.event.Peer.TheVariants as peer
 use Rattle.session_commands.proofs.Pushed.{pushed}
 use Rattle.session_commands.proofs.Ending.{closing_done, closing_refused}

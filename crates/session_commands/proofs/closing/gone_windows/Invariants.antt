@@ -1,5 +1,4 @@
-use Rattle.std.proofs.Common.{◌≡◌, map, take}
-use Rattle.session_commands.specs.Closing.{gone_row}
+use Rattle.session_commands.proofs.Vocabulary.{◌≡◌, map, take, gone_row}
 use Rattle.session_commands.proofs.closing.gone_windows.Given as goal
 
 abbrev pub invariant-loop-window : goal.invariant-loop-window

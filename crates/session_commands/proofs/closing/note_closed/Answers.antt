@@ -1,11 +1,6 @@
-use Rattle.std.proofs.Common.{◌∙◌, [], ◌∷◌, ◌++◌, ap, sym, subst, take, get_or, append_assoc, arith}
-use Rattle.std.proofs.lemmas.List.{take_all}
-use Rattle.acl.specs.declared.act.Act.TheVariants.{Closed}
-use Rattle.acl.specs.History.{followed_by}
-use Rattle.acl.specs.Table.{StandsFor}
-use Rattle.writelock.specs.LockTable.{LocksStandFor}
+use Rattle.session_commands.proofs.Vocabulary.{◌∙◌, [], ◌∷◌, ◌++◌, ap, sym, subst, take, get_or, append_assoc, arith}
+use Rattle.session_commands.proofs.Vocabulary.{take_all, Closed, followed_by, StandsFor, LocksStandFor, closed_acts}
 use Rattle.windows.specs.declared.window.Window.{Window}
-use Rattle.session_commands.specs.Closing.{closed_acts}
 use Rattle.session_commands.proofs.Pushed.{pushed}
 use Rattle.session_commands.proofs.Parting.{at_place}
 use Rattle.session_commands.proofs.Ending.{closed_more, history_more}

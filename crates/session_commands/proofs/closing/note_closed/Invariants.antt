@@ -1,11 +1,5 @@
-use Rattle.std.proofs.Common.{◌≡◌, ◌≤◌, ◌+◌, ◌++◌, take}
-use Rattle.std.specs.Prelude.{vec_len, vec_capacity}
-use Rattle.acl.specs.declared.leaders.Edition.{Edition}
-use Rattle.acl.specs.declared.user_id.UserId.{UserId}
-use Rattle.acl.specs.History.{History, followed_by}
-use Rattle.acl.specs.Table.{StandsFor}
-use Rattle.writelock.specs.LockTable.{LocksStandFor}
-use Rattle.session_commands.specs.Closing.{closed_acts}
+use Rattle.session_commands.proofs.Vocabulary.{◌≡◌, ◌≤◌, ◌+◌, ◌++◌, take, vec_len, vec_capacity, Edition, UserId}
+use Rattle.session_commands.proofs.Vocabulary.{History, followed_by, StandsFor, LocksStandFor, closed_acts}
 use Rattle.session_commands.proofs.closing.note_closed.Given as goal
 
 -- the windows that are closed up to here

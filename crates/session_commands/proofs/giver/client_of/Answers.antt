@@ -1,7 +1,4 @@
-use Rattle.std.proofs.Common.{ap}
-use Rattle.std.specs.Prelude.{option_copied}
-use Rattle.session_state.specs.Clients.{ClientStands}
-use Rattle.windows_model.proofs.Matching.{both_back}
+use Rattle.session_commands.proofs.Vocabulary.{ap, option_copied, ClientStands, both_back}
 use Rattle.session_commands.proofs.giver.client_of.Goals as goal
 
 pub returns-in-Some-get-clause-ok : goal.returns-in-Some-get-clause-ok

@@ -1,5 +1,4 @@
-use Rattle.std.proofs.Common.{◌≡◌, reverse, take}
-use Rattle.session_commands.specs.Going.{attached_now}
+use Rattle.session_commands.proofs.Vocabulary.{◌≡◌, reverse, take, attached_now}
 use Rattle.session_commands.proofs.going.attached.Given as goal
 
 abbrev pub invariant-loop-client : goal.invariant-loop-client

@@ -1,6 +1,4 @@
-use Rattle.std.proofs.Common.{◌∙◌, ◌++◌, ap, refl, sym, subst, arith}
-use Rattle.session_state.specs.Clients.{AreClients}
-use Rattle.session_commands.specs.Going.{parted_now}
+use Rattle.session_commands.proofs.Vocabulary.{◌∙◌, ◌++◌, ap, refl, sym, subst, arith, AreClients, parted_now}
 use Rattle.session_commands.proofs.Parting.{went, parted_are, gone_are}
 use Rattle.session_commands.proofs.going.go.Goals as goal
 

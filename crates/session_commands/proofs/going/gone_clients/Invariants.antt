@@ -1,5 +1,4 @@
-use Rattle.std.proofs.Common.{◌≡◌, map, filter, take}
-use Rattle.session_commands.specs.Going.{gone_now, goes_now}
+use Rattle.session_commands.proofs.Vocabulary.{◌≡◌, map, filter, take, gone_now, goes_now}
 use Rattle.session_commands.proofs.going.gone_clients.Given as goal
 
 abbrev pub invariant-loop-client : goal.invariant-loop-client

@@ -1,12 +1,7 @@
-use Rattle.std.proofs.Common.{◌≡◌, ◌∙◌, ◌+◌, [], ◌∷◌, ◌++◌, true, false, Vec, Global, ap, sym, subst, take}
-use Rattle.std.proofs.Common.{append_assoc, arith}
-use Rattle.std.proofs.lemmas.List.{take_all}
-use Rattle.acl.specs.declared.act.Act.{Act}
-use Rattle.acl.specs.declared.act.Act.TheVariants.{Parted}
-use Rattle.acl.specs.History.{History, followed_by}
-use Rattle.acl.proofs.FollowingLemmas.{followed_by-append}
-use Rattle.writelock.specs.LockTable.{LocksStandFor}
-use Rattle.session_commands.specs.Going.{goes_now, parted_now}
+use Rattle.session_commands.proofs.Vocabulary.{◌≡◌, ◌∙◌, ◌+◌, [], ◌∷◌, ◌++◌, true, false, ap, sym, subst, take}
+use Rattle.session_commands.proofs.Vocabulary.{append_assoc, arith, take_all, Act, Parted, History, followed_by}
+use Rattle.session_commands.proofs.Vocabulary.{followed_by-append, LocksStandFor, goes_now, parted_now}
+use Rattle.std.proofs.Common.{Vec, Global}
 use Rattle.session_commands.proofs.Pushed.{pushed}
 use Rattle.session_commands.proofs.Parting.{at_place, parted_more, parted_same}
 use Rattle.session_commands.proofs.going.note_parted.Goals.{then-has, else-has}

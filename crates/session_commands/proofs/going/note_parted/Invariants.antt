@@ -1,11 +1,5 @@
-use Rattle.std.proofs.Common.{◌≡◌, ◌≤◌, ◌+◌, ◌++◌, take}
-use Rattle.std.specs.Prelude.{vec_len, vec_capacity}
-use Rattle.acl.specs.declared.leaders.Edition.{Edition}
-use Rattle.acl.specs.declared.user_id.UserId.{UserId}
-use Rattle.acl.specs.History.{History, followed_by}
-use Rattle.writelock.specs.LockTable.{LocksStandFor}
-use Rattle.rights.specs.Clients.{ClientsStandFor}
-use Rattle.session_commands.specs.Going.{parted_now}
+use Rattle.session_commands.proofs.Vocabulary.{◌≡◌, ◌≤◌, ◌+◌, ◌++◌, take, vec_len, vec_capacity, Edition, UserId}
+use Rattle.session_commands.proofs.Vocabulary.{History, followed_by, LocksStandFor, ClientsStandFor, parted_now}
 use Rattle.session_commands.proofs.going.note_parted.Given as goal
 
 -- the clients that have gone up to here

@@ -1,9 +1,6 @@
-use Rattle.std.proofs.Common.{subst, Ok, None, rules}
-use Rattle.std.proofs.lemmas.Result.{err_from_is_err_and}
+use Rattle.session_commands.proofs.Vocabulary.{subst, Ok, None, rules, err_from_is_err_and, does, Answers, caller_in}
+use Rattle.session_commands.proofs.Vocabulary.{detaching}
 use Rattle.command_lang.specs.declared.command.Command.TheVariants as command
-use Rattle.session_model.specs.Commands.{does}
-use Rattle.session_state.specs.Doing.{Answers, caller_in}
-use Rattle.session_commands.specs.Settling.{detaching}
 use Rattle.session_commands.proofs.LeavingRows.{detach_is, refused_alike}
 use Rattle.session_commands.proofs.Quiet.{quietly}
 use Rattle.session_commands.proofs.leaving.detach.Goals as goal

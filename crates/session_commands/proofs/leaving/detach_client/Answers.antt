@@ -1,11 +1,7 @@
-use Rattle.std.proofs.Common.{◌==◌, Ok, ap, refl, inr, rules}
+use Rattle.session_commands.proofs.Vocabulary.{◌==◌, Ok, ap, refl, inr, rules, NoWindow, client_at, parts, both_back}
+use Rattle.session_commands.proofs.Vocabulary.{none_back, ClientStands}
 use Rattle.std.specs.Option.{option_copied}
 use Rattle.session_model.specs.declared.event.Reason.TheVariants as reason
-use Rattle.session_model.specs.declared.refusal.Refusal.TheVariants.{NoWindow}
-use Rattle.session_model.specs.Tables.{client_at}
-use Rattle.session_model.specs.Deeds.{parts}
-use Rattle.windows_model.proofs.Matching.{both_back, none_back}
-use Rattle.session_state.specs.Clients.{ClientStands}
 use Rattle.session_commands.proofs.LeavingRows.{given_some, given_none}
 use Rattle.session_commands.proofs.Quiet.{quietly}
 use Rattle.session_commands.proofs.leaving.detach_client.Goals as goal

@@ -1,12 +1,8 @@
-use Rattle.std.proofs.Common.{◌≡◌, ◌∙◌, true, false, not, ap, refl, sym, subst, append-nil, rules}
-use Rattle.acl.specs.declared.user_id.UserId.{UserId}
+use Rattle.session_commands.proofs.Vocabulary.{◌≡◌, ◌∙◌, true, false, not, ap, refl, sym, subst, append-nil, rules}
+use Rattle.session_commands.proofs.Vocabulary.{UserId, does, changing, parts, is_of, HasDone, caller_in, goes}
 use Rattle.command_lang.specs.declared.command.Command.TheVariants as command
 use Rattle.session_model.specs.declared.event.Reason.TheVariants as reason
-use Rattle.session_model.specs.Commands.{does}
-use Rattle.session_model.specs.Deeds.{changing, parts, is_of}
-use Rattle.session_state.specs.Doing.{HasDone, caller_in}
 use Rattle.session_commands.specs.declared.going.Going.TheVariants.{AllBut}
-use Rattle.session_commands.specs.Going.{goes}
 use Rattle.session_commands.proofs.Quiet.{quietly}
 use Rattle.session_commands.proofs.leaving.multiuser.Goals as goal
 

@@ -1,8 +1,6 @@
-use Rattle.std.proofs.Common.{◌∙◌, ◌+◌, ◌++◌, ap, refl, map, length, append_assoc, arith}
+use Rattle.session_commands.proofs.Vocabulary.{◌∙◌, ◌+◌, ◌++◌, ap, refl, map, length, append_assoc, arith, All}
+use Rattle.session_commands.proofs.Vocabulary.{parted_now, closed_acts, gone_row}
 use Rattle.session_model.specs.declared.event.Reason.TheVariants as reason
-use Rattle.session_commands.specs.declared.going.Going.TheVariants.{All}
-use Rattle.session_commands.specs.Going.{parted_now}
-use Rattle.session_commands.specs.Closing.{closed_acts, gone_row}
 use Rattle.session_commands.proofs.Ending.{quits, quit_done}
 use Rattle.session_commands.proofs.leaving.quit.Goals as goal
 

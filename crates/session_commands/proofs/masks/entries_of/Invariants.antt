@@ -1,7 +1,4 @@
-use Rattle.std.proofs.Common.{◌≡◌, take}
-use Rattle.acl.specs.Table.{StandsFor}
-use Rattle.session_model.specs.Tables.{Tables}
-use Rattle.session_model.specs.Commands.{mask_entries}
+use Rattle.session_commands.proofs.Vocabulary.{◌≡◌, take, StandsFor, Tables, mask_entries}
 use Rattle.session_commands.proofs.masks.entries_of.Given as goal
 
 abbrev pub invariant-loop-mask : goal.invariant-loop-mask

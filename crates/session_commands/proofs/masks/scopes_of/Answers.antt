@@ -1,5 +1,4 @@
-use Rattle.std.proofs.Common.{◌∙◌, ap, sym, map, List, Option, option_copied}
-use Rattle.acl.specs.declared.user_id.UserId.{UserId}
+use Rattle.session_commands.proofs.Vocabulary.{◌∙◌, ap, sym, map, List, Option, option_copied, UserId}
 use Rattle.acl.specs.declared.entries.MaskScope.TheVariants.{User}
 use Rattle.windows_model.proofs.Serials.{if_ok}
 use Rattle.session_commands.proofs.Naming.{other_scopes}

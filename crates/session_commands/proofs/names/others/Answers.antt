@@ -1,5 +1,4 @@
-use Rattle.std.proofs.Common.{◌<◌, ◌∙◌, sym, length, arith}
-use Rattle.acl.specs.Table.{users_in}
+use Rattle.session_commands.proofs.Vocabulary.{◌<◌, ◌∙◌, sym, length, arith, users_in}
 use Rattle.session_commands.proofs.Naming.{another, the_owner}
 use Rattle.session_commands.proofs.names.others.Goals as goal
 use Rattle.session_commands.proofs.names.others.Goals.{then-ne+in_ok-push, else-ne}

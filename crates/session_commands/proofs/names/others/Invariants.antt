@@ -1,6 +1,4 @@
-use Rattle.std.proofs.Common.{◌≡◌, not, filter, take, map, Some}
-use Rattle.acl.specs.Same.{same_user}
-use Rattle.acl.specs.Table.{users_in}
+use Rattle.session_commands.proofs.Vocabulary.{◌≡◌, not, filter, take, map, Some, same_user, users_in}
 use Rattle.session_commands.proofs.names.others.Given as goal
 
 abbrev pub invariant-loop-place : goal.invariant-loop-place

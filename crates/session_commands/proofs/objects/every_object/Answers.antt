@@ -1,7 +1,4 @@
-use Rattle.std.proofs.Common.{◌++◌, ◌∙◌, ap, map, List}
-use Rattle.acl.specs.declared.act.Object.{Object}
-use Rattle.session_model.specs.Naming.{every_command}
-use Rattle.session_commands.specs.Asked.{window_object}
+use Rattle.session_commands.proofs.Vocabulary.{◌++◌, ◌∙◌, ap, map, List, Object, every_command, window_object}
 use Rattle.session_commands.proofs.Naming.{windows_stand}
 use Rattle.session_commands.proofs.objects.every_object.Goals as goal
 

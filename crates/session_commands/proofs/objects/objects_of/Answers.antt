@@ -1,7 +1,5 @@
-use Rattle.std.proofs.Common.{◌<◌, ◌∙◌, ◌++◌, ap, sym, length, arith}
-use Rattle.std.proofs.lemmas.Result.{err_from_is_err_and}
-use Rattle.std.specs.Option.{option_map}
-use Rattle.session_model.specs.Naming.{item_objects}
+use Rattle.session_commands.proofs.Vocabulary.{◌<◌, ◌∙◌, ◌++◌, ap, sym, length, arith, err_from_is_err_and, option_map}
+use Rattle.session_commands.proofs.Vocabulary.{item_objects}
 use Rattle.session_commands.proofs.Naming.{item_unnamed, nothing_named}
 use Rattle.session_commands.proofs.objects.objects_of.Goals as goal
 

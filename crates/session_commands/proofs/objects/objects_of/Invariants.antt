@@ -1,8 +1,4 @@
-use Rattle.std.proofs.Common.{◌≡◌, ◌++◌, drop}
-use Rattle.std.specs.Option.{option_map}
-use Rattle.session_model.specs.Tables.{Tables}
-use Rattle.session_model.specs.Naming.{objects_of}
-use Rattle.windows.specs.Standing.{StandFor}
+use Rattle.session_commands.proofs.Vocabulary.{◌≡◌, ◌++◌, drop, option_map, Tables, objects_of, StandFor}
 use Rattle.session_commands.proofs.objects.objects_of.Given as goal
 
 abbrev pub invariant-loop-item : goal.invariant-loop-item

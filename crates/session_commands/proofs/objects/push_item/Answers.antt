@@ -1,5 +1,4 @@
-use Rattle.std.proofs.Common.{◌∙◌, sym}
-use Rattle.session_commands.specs.Asked.{wide}
+use Rattle.session_commands.proofs.Vocabulary.{◌∙◌, sym, wide}
 use Rattle.session_commands.proofs.Naming.{wide_stand}
 use Rattle.session_commands.proofs.objects.push_item.Goals as goal
 

@@ -1,7 +1,4 @@
-use Rattle.std.proofs.Common.{◌∙◌, refl, sym, map, nat_eq}
-use Rattle.std.specs.List.{list_any}
-use Rattle.session_model.specs.Naming.{every_command}
-use Rattle.session_commands.specs.Asked.{window_object}
+use Rattle.session_commands.proofs.Vocabulary.{◌∙◌, refl, sym, map, nat_eq, list_any, every_command, window_object}
 use Rattle.session_commands.proofs.Naming.{wide_parts, put, put_none}
 use Rattle.session_commands.proofs.objects.push_wide.Goals as goal
 use Rattle.session_commands.proofs.objects.push_wide.Goals.{then-has_byte+in_ok-push_windows, else-has_byte}

@@ -1,5 +1,4 @@
-use Rattle.std.proofs.Common.{◌≡◌, ◌++◌, map, take}
-use Rattle.session_commands.specs.Asked.{window_object}
+use Rattle.session_commands.proofs.Vocabulary.{◌≡◌, ◌++◌, map, take, window_object}
 use Rattle.session_commands.proofs.objects.push_windows.Given as goal
 
 abbrev pub invariant-loop-window : goal.invariant-loop-window

@@ -1,7 +1,6 @@
-use Rattle.std.proofs.Common.{refl, rules}
-use Rattle.regions.specs.Layouts.{Arrangement, next_focus}
+use Rattle.session_commands.proofs.Vocabulary.{refl, rules, Arrangement, enters}
+use Rattle.regions.specs.Layouts.{next_focus}
 use Rattle.session_model.specs.Tables as model
-use Rattle.session_model.specs.Deeds.{enters}
 use Rattle.session_commands.proofs.Answering.{done_on}
 use Rattle.session_commands.proofs.Arranging.{arranged_by}
 use Rattle.session_commands.proofs.Paging.{giver_there, done_entering}

@@ -1,9 +1,5 @@
-use Rattle.std.proofs.Common.{ap, inr, rules}
-use Rattle.std.specs.Prelude.{option_copied}
-use Rattle.session_model.specs.Naming.{window_after}
-use Rattle.session_model.specs.declared.refusal.Refusal.TheVariants.{NoWindow}
+use Rattle.session_commands.proofs.Vocabulary.{ap, inr, rules, option_copied, window_after, NoWindow, caller_in}
 use Rattle.session_model.specs.Tables as model
-use Rattle.session_state.specs.Doing.{caller_in}
 use Rattle.session_commands.proofs.Answering.{shown_on, not_shown_on}
 use Rattle.session_commands.proofs.Members.{StandsAt, of_after, stand_there}
 use Rattle.session_commands.proofs.Paging.{giver_there}

@@ -1,7 +1,6 @@
-use Rattle.std.proofs.Common.{refl, rules}
+use Rattle.session_commands.proofs.Vocabulary.{refl, rules, arranges}
 use Rattle.regions.specs.Layouts.{kept_alone}
 use Rattle.session_model.specs.Tables as model
-use Rattle.session_model.specs.Deeds.{arranges}
 use Rattle.session_state.proofs.Keeping.{room_for_one}
 use Rattle.session_commands.proofs.Answering.{done_on}
 use Rattle.session_commands.proofs.Arranging.{arranged_by}

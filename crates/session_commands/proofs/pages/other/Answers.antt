@@ -1,9 +1,6 @@
-use Rattle.std.proofs.Common.{ap, inr, refl, ◌∙◌, Some, None, rules}
-use Rattle.std.specs.Prelude.{option_copied}
-use Rattle.std.specs.Option.{option_and_then}
-use Rattle.session_model.specs.declared.refusal.Refusal.TheVariants.{NoWindow}
+use Rattle.session_commands.proofs.Vocabulary.{ap, inr, refl, ◌∙◌, Some, None, rules, option_copied, option_and_then}
+use Rattle.session_commands.proofs.Vocabulary.{NoWindow, window_at}
 use Rattle.session_model.specs.Tables as model
-use Rattle.session_model.specs.Tables.{window_at}
 use Rattle.session_model.specs.Deeds.{former_of}
 use Rattle.session_commands.proofs.Answering.{shown_on, not_shown_on}
 use Rattle.session_commands.proofs.Members.{of_row, found_row}

@@ -1,14 +1,10 @@
-use Rattle.std.proofs.Common.{ap, inr, refl, rules, sym, subst, ◌∙◌, ◌≡◌, ◌<◌, ◌≢◌, Some, length, arith}
-use Rattle.std.specs.Prelude.{option_copied, ◌==◌}
-use Rattle.regions.specs.Layouts.{Arrangement, remove_focused}
+use Rattle.session_commands.proofs.Vocabulary.{ap, inr, refl, rules, sym, subst, ◌∙◌, ◌≡◌, ◌<◌, Some, length, arith}
+use Rattle.session_commands.proofs.Vocabulary.{option_copied, ◌==◌, Arrangement, remove_focused, Regions, enters}
+use Rattle.session_commands.proofs.Vocabulary.{row_of, Client, serial_of}
+use Rattle.std.proofs.Common.{◌≢◌}
 use Rattle.regions.specs.Pages.{KeepsRoom}
 use Rattle.regions.specs.declared.layout.RegionFault.TheVariants.{LastRegion}
-use Rattle.session_model.specs.declared.refusal.Refusal.TheVariants.{Regions}
 use Rattle.session_model.specs.Tables as model
-use Rattle.session_model.specs.Deeds.{enters}
-use Rattle.session_model.specs.Tables.{row_of}
-use Rattle.session_state.specs.declared.client.Client.{Client}
-use Rattle.session_state.proofs.Changing.{serial_of}
 use Rattle.session_state.proofs.Keeping.{still_roomy}
 use Rattle.windows_model.proofs.Serials.{equal_number, other_number}
 use Rattle.session_commands.proofs.Answering.{done_on, on_giver, refused, not_refused}

@@ -1,7 +1,6 @@
-use Rattle.std.proofs.Common.{refl, rules}
-use Rattle.regions.specs.Layouts.{Arrangement}
+use Rattle.session_commands.proofs.Vocabulary.{refl, rules, Arrangement, arranges, showing}
 use Rattle.session_model.specs.Tables as model
-use Rattle.session_model.specs.Deeds.{arranges, showing, shown_in_focus}
+use Rattle.session_model.specs.Deeds.{shown_in_focus}
 use Rattle.session_commands.specs.Scrolling as pages
 use Rattle.session_commands.proofs.Answering.{done_on}
 use Rattle.session_commands.proofs.Arranging.{arranged_by}

@@ -1,8 +1,4 @@
-use Rattle.std.proofs.Common.{ap, inr, rules}
-use Rattle.std.specs.Prelude.{option_copied}
-use Rattle.session_model.specs.Naming.{window_named}
-use Rattle.session_model.specs.declared.refusal.Refusal.TheVariants.{Windows}
-use Rattle.session_model.specs.rows.WindowsFault.TheVariants.{NoSuchWindow}
+use Rattle.session_commands.proofs.Vocabulary.{ap, inr, rules, option_copied, window_named, Windows, NoSuchWindow}
 use Rattle.session_model.specs.Tables as model
 use Rattle.session_commands.proofs.Answering.{shown_on, not_shown_on}
 use Rattle.session_commands.proofs.Members.{StandsAt, of_named, stand_there}

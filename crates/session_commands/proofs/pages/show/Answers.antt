@@ -1,10 +1,6 @@
-use Rattle.std.proofs.Common.{ℕ, Some, sym, subst, rules}
-use Rattle.regions.specs.declared.layout.Shown.{Shown}
+use Rattle.session_commands.proofs.Vocabulary.{ℕ, Some, sym, subst, rules, Shown, enters, showing, HasDone, IsOpenThere}
 use Rattle.regions.specs.Layouts.{put_in_focus}
 use Rattle.session_model.specs.Tables as model
-use Rattle.session_model.specs.Deeds.{enters, showing}
-use Rattle.session_state.specs.Doing.{HasDone}
-use Rattle.session_commands.specs.Entering.{IsOpenThere}
 use Rattle.session_commands.proofs.Arranging.{arranged_by}
 use Rattle.session_commands.proofs.Paging.{done_entering}
 use Rattle.session_commands.proofs.Shown.{at_set}

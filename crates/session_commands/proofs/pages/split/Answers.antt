@@ -1,15 +1,10 @@
-use Rattle.std.proofs.Common.{◌≡◌, true, Some, None, inr, inl, refl, rules, ◌∙◌, ap, sym}
-use Rattle.std.specs.Prelude.{option_copied, unwrap_or}
-use Rattle.regions.specs.Layouts.{Arrangement, split_focused, split_fault, split_error}
-use Rattle.regions.specs.Pages.{has_room}
-use Rattle.regions.specs.declared.node.Way.{Way}
+use Rattle.session_commands.proofs.Vocabulary.{◌≡◌, true, Some, None, inr, inl, refl, rules, ◌∙◌, ap, sym}
+use Rattle.session_commands.proofs.Vocabulary.{option_copied, Arrangement, split_focused, split_fault, has_room, Way}
+use Rattle.session_commands.proofs.Vocabulary.{Regions, row_of, arranges, Client, serial_of}
+use Rattle.std.specs.Prelude.{unwrap_or}
+use Rattle.regions.specs.Layouts.{split_error}
 use Rattle.regions.specs.declared.layout.RegionFault.TheVariants.{NoMemory}
-use Rattle.session_model.specs.declared.refusal.Refusal.TheVariants.{Regions}
 use Rattle.session_model.specs.Tables as model
-use Rattle.session_model.specs.Tables.{row_of}
-use Rattle.session_model.specs.Deeds.{arranges}
-use Rattle.session_state.specs.declared.client.Client.{Client}
-use Rattle.session_state.proofs.Changing.{serial_of}
 use Rattle.session_commands.proofs.Answering.{done_on, faultless, on_giver, split_refused}
 use Rattle.session_commands.proofs.Arranging.{found_arranged, page_kept, split_alike, split_roomy}
 use Rattle.session_commands.proofs.Paging.{giver_there, done_quietly, row_stands, row_there}

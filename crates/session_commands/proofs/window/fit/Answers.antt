@@ -1,8 +1,6 @@
-use Rattle.std.proofs.Common.{ap, sym, true, false, ◌≡◌, inl, inr, ◌-◌, ◌∷◌, ◌++◌, [], ◌∙◌, refl, rules}
-use Rattle.std.specs.Prelude.{option_copied, is_ok}
-use Rattle.std.proofs.lemmas.Result.{err_from_is_err_and}
-use Rattle.session_model.specs.declared.event.Effect.TheVariants.{Size}
-use Rattle.windows_model.proofs.Serials.{if_true}
+use Rattle.session_commands.proofs.Vocabulary.{ap, sym, true, false, ◌≡◌, inl, inr, ◌-◌, ◌∷◌, ◌++◌, [], ◌∙◌, refl}
+use Rattle.session_commands.proofs.Vocabulary.{rules, option_copied, err_from_is_err_and, Size, if_true}
+use Rattle.std.specs.Prelude.{is_ok}
 use Rattle.session_commands.proofs.Paging.{giver_there, row_stands, row_there}
 use Rattle.session_commands.proofs.Sizes.{window_there, too_small, good, for_memory, fits_there}
 use Rattle.session_commands.proofs.Quiet.{quietly}

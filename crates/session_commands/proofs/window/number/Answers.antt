@@ -1,7 +1,5 @@
-use Rattle.std.proofs.Common.{inr, rules}
-use Rattle.std.proofs.lemmas.Result.{err_from_is_err_and}
+use Rattle.session_commands.proofs.Vocabulary.{inr, rules, err_from_is_err_and, with_new_number}
 use Rattle.command_lang.specs.declared.command.Command.TheVariants as command
-use Rattle.windows.specs.Standing.{with_new_number}
 use Rattle.session_commands.proofs.Changing.{change_done, change_refused, number_changes}
 use Rattle.session_commands.proofs.Quiet.{quietly}
 use Rattle.session_commands.proofs.window.number.Goals as goal

@@ -1,7 +1,5 @@
-use Rattle.std.proofs.Common.{rules}
-use Rattle.std.proofs.lemmas.Result.{err_from_is_err_and}
+use Rattle.session_commands.proofs.Vocabulary.{rules, err_from_is_err_and, retitled}
 use Rattle.command_lang.specs.declared.command.Command.TheVariants as command
-use Rattle.windows.specs.Standing.{retitled}
 use Rattle.session_commands.proofs.Changing.{change_done, change_refused, title_changes}
 use Rattle.session_commands.proofs.Quiet.{quietly}
 use Rattle.session_commands.proofs.window.title.Goals as goal

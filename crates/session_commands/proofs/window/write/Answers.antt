@@ -1,7 +1,5 @@
-use Rattle.std.proofs.Common.{subst, Ok, rules}
-use Rattle.terminal_model.specs.Writing.{Writing}
-use Rattle.windows.specs.Standing.{written, written_in, Answered}
-use Rattle.session_commands.specs.Written.{writing_of}
+use Rattle.session_commands.proofs.Vocabulary.{subst, Ok, rules, Writing, written, Answered, writing_of}
+use Rattle.windows.specs.Standing.{written_in}
 use Rattle.session_commands.proofs.Changing.{change_done, writing_changes}
 use Rattle.session_commands.proofs.Quiet.{quietly}
 use Rattle.session_commands.proofs.window.write.Goals as goal

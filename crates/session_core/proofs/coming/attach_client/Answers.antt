@@ -1,11 +1,6 @@
-use Rattle.std.proofs.Common.{ℕ, List, None, Ok, refl, ap, sym, ◌∙◌}
-use Rattle.session_model.specs.declared.refusal.Check.{Check}
-use Rattle.session_model.specs.Deeds.{Deed}
-use Rattle.session_model.specs.Outcomes.{reply_of}
+use Rattle.session_core.proofs.Vocabulary.{ℕ, List, None, Ok, refl, ap, sym, ◌∙◌, Check, Deed, reply_of, Step}
+use Rattle.session_core.proofs.Vocabulary.{StepOutput, was_passed}
 use Rattle.session_model.specs.Comings.{attach_checks, attaches, new_client}
-use Rattle.session_state.specs.declared.state.Step.{Step}
-use Rattle.session_state.specs.declared.state.StepOutput.{StepOutput}
-use Rattle.session_input.proofs.Outcomes.{was_passed}
 use Rattle.session_core.proofs.coming.attach_client.Goals as goal
 
 pub returns-clause-step : goal.returns-clause-step

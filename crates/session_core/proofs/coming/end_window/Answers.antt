@@ -1,9 +1,6 @@
-use Rattle.std.proofs.Common.{◌≡◌, Ok, sym, rules}
-use Rattle.std.specs.Prelude.{◌==◌}
-use Rattle.std.proofs.lemmas.Result.{err_from_is_err_and}
+use Rattle.session_core.proofs.Vocabulary.{◌≡◌, Ok, sym, rules, ◌==◌, err_from_is_err_and, Window, window_at, Deed}
 use Rattle.session_model.specs.declared.event.Reason.TheVariants as reason
-use Rattle.session_model.specs.Tables.{Window, window_at}
-use Rattle.session_model.specs.Deeds.{Deed, closes}
+use Rattle.session_model.specs.Deeds.{closes}
 use Rattle.session_core.proofs.Settled.{was_settled, was_unsettled}
 use Rattle.session_core.proofs.coming.end_window.Goals as goal
 

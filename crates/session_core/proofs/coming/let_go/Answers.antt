@@ -1,9 +1,6 @@
-use Rattle.std.proofs.Common.{◌≡◌, Ok, sym, rules}
-use Rattle.std.specs.Prelude.{◌==◌}
-use Rattle.std.proofs.lemmas.Result.{err_from_is_err_and}
+use Rattle.session_core.proofs.Vocabulary.{◌≡◌, Ok, sym, rules, ◌==◌, err_from_is_err_and, Client, client_at, Deed}
 use Rattle.session_model.specs.declared.event.Reason.TheVariants as reason
-use Rattle.session_model.specs.Tables.{Client, client_at}
-use Rattle.session_model.specs.Deeds.{Deed, parts}
+use Rattle.session_model.specs.Deeds.{parts}
 use Rattle.session_core.proofs.Settled.{was_settled, was_unsettled}
 use Rattle.session_core.proofs.coming.let_go.Goals as goal
 

@@ -1,17 +1,10 @@
-use Rattle.std.proofs.Common.{◌∷◌, [], List, Ok, refl, ap, sym}
-use Rattle.std.specs.Option.{option_copied}
-use Rattle.session_model.specs.declared.refusal.Check.{Check}
+use Rattle.session_core.proofs.Vocabulary.{◌∷◌, [], List, Ok, refl, ap, sym, option_copied, Check, Client, client_at}
+use Rattle.session_core.proofs.Vocabulary.{with_client, Deed, changing, done, both_back, ClientStands, Step, StepOutput}
+use Rattle.session_core.proofs.Vocabulary.{was_passed, for_there}
 use Rattle.session_model.specs.declared.refusal.Check.TheVariants.{Must as must}
 use Rattle.session_model.specs.declared.refusal.Refusal.TheVariants.{BadSize}
-use Rattle.session_model.specs.Tables.{Client, client_at, with_client}
-use Rattle.session_model.specs.Deeds.{Deed, changing}
-use Rattle.session_model.specs.Outcomes.{done, where_passed}
+use Rattle.session_model.specs.Outcomes.{where_passed}
 use Rattle.session_model.specs.Comings.{is_client_size, resized}
-use Rattle.windows_model.proofs.Matching.{both_back}
-use Rattle.session_state.specs.Clients.{ClientStands}
-use Rattle.session_state.specs.declared.state.Step.{Step}
-use Rattle.session_state.specs.declared.state.StepOutput.{StepOutput}
-use Rattle.session_input.proofs.Outcomes.{was_passed, for_there}
 use Rattle.session_core.proofs.coming.resize_client.Goals as goal
 
 pub returns-clause-step : goal.returns-clause-step

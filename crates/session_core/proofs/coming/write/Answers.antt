@@ -1,13 +1,8 @@
-use Rattle.std.proofs.Common.{[], Ok, refl, ap, sym, append-nil}
-use Rattle.std.specs.Option.{option_copied}
-use Rattle.session_model.specs.Tables.{Window, window_at}
-use Rattle.session_model.specs.Outcomes.{done, finished}
-use Rattle.session_model.specs.Comings.{outputs}
-use Rattle.windows_model.proofs.Matching.{both_back}
-use Rattle.windows.specs.Standing.{WindowStands, at_serial}
-use Rattle.session_state.specs.declared.state.Step.{Step}
-use Rattle.session_laws.proofs.Leaving.{none_left}
-use Rattle.session_input.proofs.Outcomes.{was_done, for_there, nobody_leaves}
+use Rattle.session_core.proofs.Vocabulary.{[], Ok, refl, ap, sym, append-nil, option_copied, Window, window_at, done}
+use Rattle.session_core.proofs.Vocabulary.{finished, outputs, both_back, WindowStands, Step, none_left, was_done}
+use Rattle.session_core.proofs.Vocabulary.{for_there}
+use Rattle.windows.specs.Standing.{at_serial}
+use Rattle.session_input.proofs.Outcomes.{nobody_leaves}
 use Rattle.session_core.proofs.coming.write.Goals as goal
 
 pub returns-clause-step : goal.returns-clause-step

@@ -1,8 +1,4 @@
-use Rattle.std.proofs.Common.{Option, sym, subst, refl}
-use Rattle.redraw.specs.Frames.{Made}
-use Rattle.session_state.specs.declared.state.State.{State}
-use Rattle.session_view.specs.Drawn.{DrawsBy}
-use Rattle.session_core.specs.Taking.{DrawsSharing}
+use Rattle.session_core.proofs.Vocabulary.{Option, sym, subst, refl, Made, State, DrawsBy, DrawsSharing}
 use Rattle.session_core.proofs.Drawings.{drawn_none, drawn_own}
 use Rattle.session_core.proofs.drawing.draw_alone.Goals as goal
 

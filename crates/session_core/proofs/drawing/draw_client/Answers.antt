@@ -1,5 +1,4 @@
-use Rattle.std.proofs.Common.{Bool, Ok, sym, ◌∙◌}
-use Rattle.std.proofs.lemmas.Result.{err_from_is_err_and}
+use Rattle.session_core.proofs.Vocabulary.{Bool, Ok, sym, ◌∙◌, err_from_is_err_and}
 use Rattle.session_core.proofs.Drawings.{draw_step, refused_step, refused_behind, from_before, then_same}
 use Rattle.session_core.proofs.drawing.draw_client.Goals as goal
 

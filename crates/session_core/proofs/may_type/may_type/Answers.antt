@@ -1,10 +1,5 @@
-use Rattle.std.proofs.Common.{◌≡◌, ◌∙◌, Bool, ap, sym}
-use Rattle.std.specs.Prelude.{◌&&◌}
-use Rattle.std.specs.Option.{option_copied}
+use Rattle.session_core.proofs.Vocabulary.{◌≡◌, ◌∙◌, Bool, ap, sym, ◌&&◌, option_copied, Write, passes, Right, Unlocked}
 use Rattle.acl.specs.declared.act.Object.TheVariants.{Window}
-use Rattle.acl.specs.declared.bits.Bit.TheVariants.{Write}
-use Rattle.session_model.specs.Checks.{passes}
-use Rattle.session_model.specs.declared.refusal.Check.TheVariants.{Right, Unlocked}
 use Rattle.session_core.proofs.MayTyping.{copied_some, one_there}
 use Rattle.session_core.proofs.may_type.may_type.Goals as goal
 

@@ -1,7 +1,6 @@
-use Rattle.std.proofs.Common.{ℕ, ◌≡◌, false, List, [], ◌∷◌, not, refl, sym, rules, arith}
-use Rattle.std.specs.Prelude.{◌==◌}
+use Rattle.session_core.proofs.Vocabulary.{ℕ, ◌≡◌, false, List, [], ◌∷◌, not, refl, sym, rules, arith, ◌==◌, without}
+use Rattle.session_core.proofs.Vocabulary.{is_one_of}
 use Rattle.std.proofs.lemmas.Fn.{filter_same}
-use Rattle.session_core.specs.Sharing.{without, is_one_of}
 use Rattle.session_core.proofs.sharing.leave_out.Goals as goal
 
 -- a list is what it is without one that isn't in it

@@ -1,6 +1,5 @@
-use Rattle.std.proofs.Common.{refl, ap}
-use Rattle.session_model.specs.Trace.{happening, Attach, Detach, Keys, Command, Resize}
-use Rattle.session_model.specs.Trace.{Open, Output, Closed}
+use Rattle.session_core.proofs.Vocabulary.{refl, ap, happening, Keys, Command, Output}
+use Rattle.session_model.specs.Trace.{Attach, Detach, Resize, Open, Closed}
 use Rattle.session_core.proofs.Entries.{taken}
 use Rattle.session_core.proofs.taking.take.Goals as goal
 

@@ -1,5 +1,4 @@
-use Rattle.std.proofs.Common.{◌≡◌, ◌∷◌, ◌++◌, [], refl, sym, ◌∙◌}
-use Rattle.std.specs.Prelude.{nat_lt, ◌^◌}
+use Rattle.session_events.proofs.Vocabulary.{◌≡◌, ◌∷◌, ◌++◌, [], refl, sym, ◌∙◌, nat_lt, ◌^◌}
 use Rattle.acl.specs.declared.act.Act.TheVariants as act
 use Rattle.session_events.proofs.Passing.{taken_is}
 use Rattle.session_events.proofs.Feeding.{pushed}

@@ -1,9 +1,8 @@
-use Rattle.std.proofs.Common.{◌≡◌, ◌<◌, ℕ, ◌∷◌, ◌++◌, [], true, false, refl, ap, sym, ◌∙◌, subst}
-use Rattle.std.specs.Prelude.{nat_lt, ◌^◌, unwrap_or}
+use Rattle.session_events.proofs.Vocabulary.{◌≡◌, ◌<◌, ℕ, ◌∷◌, ◌++◌, [], true, false, refl, ap, sym, ◌∙◌, subst, nat_lt}
+use Rattle.session_events.proofs.Vocabulary.{◌^◌, unwrap_or, is_open, free_number}
 use Rattle.std.proofs.lemmas.Result.{err_from_is_err_and}
-use Rattle.acl.specs.History.{is_open, open_count}
+use Rattle.acl.specs.History.{open_count}
 use Rattle.acl.specs.declared.act.Act.TheVariants as act
-use Rattle.session_model.specs.Naming.{free_number}
 use Rattle.session_events.proofs.Passing.{taken_is, one_left}
 use Rattle.session_events.proofs.Finding.{next_unopened}
 use Rattle.session_events.proofs.Feeding.{pushed}

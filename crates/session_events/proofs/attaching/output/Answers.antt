@@ -1,10 +1,5 @@
-use Rattle.std.proofs.Common.{◌≡◌, ◌∷◌, ◌++◌, [], ℕ, List, true, false, length, refl, ap, sym, ◌∙◌}
-use Rattle.std.proofs.Common.{subst, append-nil}
-use Rattle.std.specs.Prelude.{◌==◌}
-use Rattle.terminal_model.specs.Reading.{reads}
-use Rattle.session_model.specs.declared.event.Effect.{Effect}
-use Rattle.session_model.specs.declared.event.Effect.TheVariants.{Input}
-use Rattle.session_model.specs.Terminals.{terminal_of}
+use Rattle.session_events.proofs.Vocabulary.{◌≡◌, ◌∷◌, ◌++◌, [], ℕ, List, true, false, length, refl, ap, sym, ◌∙◌}
+use Rattle.session_events.proofs.Vocabulary.{subst, append-nil, ◌==◌, reads, Effect, Input, terminal_of}
 use Rattle.session_events.proofs.Feeding.{fed_done, no_input, some_input, pushed}
 use Rattle.session_events.proofs.attaching.output.Goals as goal
 

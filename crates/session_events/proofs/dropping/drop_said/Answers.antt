@@ -1,5 +1,4 @@
-use Rattle.std.proofs.Common.{◌≡◌, ◌+◌, ℕ, List, true, false, arith, length, ap, sym, subst, ◌∙◌}
-use Rattle.session_model.specs.declared.event.Effect.{Effect}
+use Rattle.session_events.proofs.Vocabulary.{◌≡◌, ◌+◌, ℕ, List, true, false, arith, length, ap, sym, subst, ◌∙◌, Effect}
 use Rattle.session_events.specs.Dropping.{SaysAgain}
 use Rattle.session_events.proofs.Parts.{Part, goes_on}
 use Rattle.session_events.proofs.dropping.drop_said.Goals.{then-says_again, else-says_again}

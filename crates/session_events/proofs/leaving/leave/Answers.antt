@@ -1,6 +1,4 @@
-use Rattle.std.proofs.Common.{◌≡◌, ◌∙◌, ◌++◌, ap, refl}
-use Rattle.session_model.specs.Outcomes.{left_acts}
-use Rattle.session_events.specs.Leaving.{all_left, focuses_of}
+use Rattle.session_events.proofs.Vocabulary.{◌≡◌, ◌∙◌, ◌++◌, ap, refl, left_acts, all_left, focuses_of}
 use Rattle.session_events.proofs.Left.{left_same, has_ended}
 use Rattle.session_events.proofs.leaving.leave.Goals as goal
 

@@ -1,14 +1,9 @@
-use Rattle.std.proofs.Common.{◌≡◌, ◌∙◌, ◌+◌, ◌<◌, List, [], ◌∷◌, ◌++◌, None, ap, sym, subst, append-nil, append_assoc}
-use Rattle.std.proofs.Common.{get_or, drop, length, arith, Vec, Global}
+use Rattle.session_events.proofs.Vocabulary.{◌≡◌, ◌∙◌, ◌+◌, ◌<◌, List, [], ◌∷◌, ◌++◌, None, ap, sym, subst, append-nil}
+use Rattle.session_events.proofs.Vocabulary.{append_assoc, drop, length, arith, followed_by, Act, Left}
+use Rattle.session_events.proofs.Vocabulary.{followed_by-append, LocksStandFor, Focus, all_left, left_window, leaving}
+use Rattle.std.proofs.Common.{get_or, Vec, Global}
 use Rattle.std.proofs.lemmas.List.{drop_all}
-use Rattle.acl.specs.History.{followed_by}
-use Rattle.acl.specs.declared.act.Act.{Act}
-use Rattle.acl.specs.declared.act.Act.TheVariants.{Left}
 use Rattle.acl.proofs.InPlace.{drop-next}
-use Rattle.acl.proofs.FollowingLemmas.{followed_by-append}
-use Rattle.writelock.specs.LockTable.{LocksStandFor}
-use Rattle.session_events.specs.declared.focuses.Focus.{Focus}
-use Rattle.session_events.specs.Leaving.{all_left, left_window, leaving}
 use Rattle.session_events.proofs.Left.{one_more, rest_is, pushed}
 use Rattle.session_events.proofs.leaving.note_left.Goals.{in-Some, in_default}
 use Rattle.session_events.proofs.leaving.note_left.Goals as goal

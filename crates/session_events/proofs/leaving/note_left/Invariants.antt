@@ -1,11 +1,6 @@
-use Rattle.std.proofs.Common.{◌≡◌, ◌≤◌, ◌+◌, ◌++◌, drop, List}
+use Rattle.session_events.proofs.Vocabulary.{◌≡◌, ◌≤◌, ◌+◌, ◌++◌, drop, List, Act, Edition, UserId, History}
+use Rattle.session_events.proofs.Vocabulary.{followed_by, LocksStandFor, all_left}
 use Rattle.std.specs.Prelude.{vec_len, vec_capacity}
-use Rattle.acl.specs.declared.act.Act.{Act}
-use Rattle.acl.specs.declared.leaders.Edition.{Edition}
-use Rattle.acl.specs.declared.user_id.UserId.{UserId}
-use Rattle.acl.specs.History.{History, followed_by}
-use Rattle.writelock.specs.LockTable.{LocksStandFor}
-use Rattle.session_events.specs.Leaving.{all_left}
 use Rattle.session_events.proofs.leaving.note_left.Given as goal
 
 -- the users of the focuses up to here who have left, and then those of the later ones

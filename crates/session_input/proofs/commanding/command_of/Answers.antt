@@ -1,6 +1,4 @@
-use Rattle.std.proofs.Common.{Err, sym, subst}
-use Rattle.session_model.specs.declared.refusal.Refusal.{Refusal}
-use Rattle.session_input.specs.Lines.{Parses}
+use Rattle.session_input.proofs.Vocabulary.{Err, sym, subst, Refusal, Parses}
 use Rattle.session_input.proofs.Answered.{line_says, line_fails}
 use Rattle.session_input.proofs.commanding.command_of.Goals as goal
 

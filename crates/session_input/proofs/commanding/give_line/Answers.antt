@@ -1,9 +1,5 @@
-use Rattle.std.proofs.Common.{Option, None, Ok, Err, refl, sym, subst, ◌∙◌}
-use Rattle.std.proofs.lemmas.Result.{err_from_is_err_and}
-use Rattle.session_model.specs.Tables.{Window}
-use Rattle.session_model.specs.Commands.{ruling}
-use Rattle.session_model.specs.Outcomes.{reply_of}
-use Rattle.session_input.specs.Reads.{Ruled}
+use Rattle.session_input.proofs.Vocabulary.{Option, None, Ok, Err, refl, sym, subst, ◌∙◌, err_from_is_err_and, Window}
+use Rattle.session_input.proofs.Vocabulary.{ruling, reply_of, Ruled}
 use Rattle.session_input.proofs.Answered.{was_ruled_out, was_obeyed}
 use Rattle.session_input.proofs.commanding.give_line.Goals as goal
 

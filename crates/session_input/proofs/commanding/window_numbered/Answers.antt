@@ -1,6 +1,4 @@
-use Rattle.std.proofs.Common.{Some, refl, ap, sym, ◌∙◌}
-use Rattle.std.specs.Option.{option_and_then}
-use Rattle.session_model.specs.Naming.{with_number}
+use Rattle.session_input.proofs.Vocabulary.{Some, refl, ap, sym, ◌∙◌, option_and_then, with_number}
 use Rattle.session_input.proofs.Numbered.{numbered_there}
 use Rattle.session_input.proofs.commanding.window_numbered.Goals as goal
 

@@ -1,6 +1,4 @@
-use Rattle.std.proofs.Common.{Some, ap, refl, ◌∙◌}
-use Rattle.session_state.specs.declared.state.Step.{Step}
-use Rattle.session_state.specs.declared.state.StepOutput.{StepOutput}
+use Rattle.session_input.proofs.Vocabulary.{Some, ap, refl, ◌∙◌, Step, StepOutput}
 use Rattle.session_input.proofs.KeyStepping.{keys_given}
 use Rattle.session_input.proofs.key_step.give.Goals as goal
 

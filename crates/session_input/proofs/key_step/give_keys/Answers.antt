@@ -1,7 +1,4 @@
-use Rattle.std.proofs.Common.{None, refl}
-use Rattle.std.proofs.lemmas.Result.{err_from_is_err_and}
-use Rattle.session_model.specs.Tables.{client_at}
-use Rattle.session_model.specs.Outcomes.{reply_of}
+use Rattle.session_input.proofs.Vocabulary.{None, refl, err_from_is_err_and, client_at, reply_of}
 use Rattle.session_input.proofs.Answered.{was_read, was_unread}
 use Rattle.session_input.proofs.key_step.give_keys.Goals as goal
 

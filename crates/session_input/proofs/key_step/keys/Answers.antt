@@ -1,11 +1,6 @@
-use Rattle.std.proofs.Common.{ℕ, List, ap, sym, subst, ◌∙◌}
+use Rattle.session_input.proofs.Vocabulary.{ℕ, List, ap, sym, subst, ◌∙◌, Keeping, StandsFor, Client, client_at}
+use Rattle.session_input.proofs.Vocabulary.{serial_is, both_back, ClientStands, read_of}
 use Rattle.std.specs.Prelude.{option_copied}
-use Rattle.keys.specs.Kept.{Keeping, StandsFor}
-use Rattle.session_model.specs.Tables.{Client, client_at}
-use Rattle.windows_model.proofs.Serials.{serial_is}
-use Rattle.windows_model.proofs.Matching.{both_back}
-use Rattle.session_state.specs.Clients.{ClientStands}
-use Rattle.session_input.specs.Reads.{read_of}
 use Rattle.session_input.proofs.Putting.{serial}
 use Rattle.session_input.proofs.KeyStepping.{called_by, were_read, err_always}
 use Rattle.session_input.proofs.key_step.keys.Goals as goal

@@ -1,10 +1,6 @@
-use Rattle.std.proofs.Common.{◌≡◌, ℕ, List, ap, ◌∙◌, refl}
-use Rattle.session_model.specs.Tables.{Client, with_client, row_of, with_row}
-use Rattle.windows_model.proofs.Serials.{serial_is, with_same}
+use Rattle.session_input.proofs.Vocabulary.{◌≡◌, ℕ, List, ap, ◌∙◌, refl, Client, with_client, row_of, with_row}
+use Rattle.session_input.proofs.Vocabulary.{serial_is, with_same, State, read_by, reading}
 use Rattle.session_state.specs.declared.client.Client.{Client as Row}
-use Rattle.session_state.specs.declared.state.State.{State}
-use Rattle.session_input.specs.KeyStepping.{read_by}
-use Rattle.session_model.specs.Answering.{reading}
 use Rattle.session_input.proofs.Putting.{serial, fit_put, stands_read}
 use Rattle.session_input.proofs.key_step.obey_read.Goals as goal
 

@@ -1,15 +1,5 @@
-use Rattle.std.proofs.Common.{ℕ, Some, Result, refl, sym, subst}
-use Rattle.std.proofs.Common.{append-nil}
-use Rattle.std.specs.Prelude.{OnOk}
-use Rattle.command_lang.specs.declared.command.Command.{Command}
-use Rattle.command_lang.specs.declared.fault.ParseFault.{ParseFault}
-use Rattle.session_model.specs.declared.event.StatusMessage.TheVariants.{Text}
-use Rattle.session_model.specs.declared.refusal.Refusal.{Refusal}
-use Rattle.session_model.specs.declared.refusal.Refusal.TheVariants.{Line}
-use Rattle.session_model.specs.Answering.{says}
-use Rattle.session_model.specs.Texts.{text_of}
-use Rattle.windows_model.proofs.Serials.{on_ok}
-use Rattle.session_state.specs.Doing.{HasDone}
+use Rattle.session_input.proofs.Vocabulary.{ℕ, Some, Result, refl, sym, subst, append-nil, OnOk, Command, ParseFault}
+use Rattle.session_input.proofs.Vocabulary.{Text, Refusal, Line, says, text_of, on_ok, HasDone}
 use Rattle.session_input.specs.Obeying.{Obeys}
 use Rattle.session_input.proofs.Ordered.{kept_on}
 use Rattle.session_input.proofs.obeying.obey.Goals as goal

@@ -1,17 +1,8 @@
-use Rattle.std.proofs.Common.{◌+◌, ◌≤◌, Ok, Err, ap, refl, sym, subst, ◌∙◌}
+use Rattle.session_input.proofs.Vocabulary.{◌+◌, ◌≤◌, Ok, Err, ap, refl, sym, subst, ◌∙◌, is_some, StatusMessage}
+use Rattle.session_input.proofs.Vocabulary.{ruling, on_ok, Caller, State, Stands, caller_in, Ruled, Says}
 use Rattle.std.specs.Prelude.{vec_len, vec_capacity}
-use Rattle.std.specs.Option.{is_some}
-use Rattle.session_model.specs.declared.event.StatusMessage.{StatusMessage}
-use Rattle.session_model.specs.Commands.{ruling}
-use Rattle.windows_model.proofs.Serials.{on_ok, on_error}
-use Rattle.session_state.specs.declared.state.Caller.{Caller}
-use Rattle.session_state.specs.declared.state.State.{State}
-use Rattle.session_state.specs.Stands.{Stands}
-use Rattle.session_state.specs.Doing.{caller_in}
-use Rattle.session_input.specs.Ruled.{Ruled}
-use Rattle.session_input.specs.Said.{Says}
-use Rattle.session_input.proofs.Ordered.{obeyed_listing, obeyed_refused_or}
-use Rattle.session_input.proofs.Ordered.{kept_on, on_always}
+use Rattle.windows_model.proofs.Serials.{on_error}
+use Rattle.session_input.proofs.Ordered.{obeyed_listing, obeyed_refused_or, kept_on, on_always}
 use Rattle.session_input.proofs.obeying.obey_command.Goals as goal
 
 pub returns-in_ok-message-in-Ok-Some-clause-ok : goal.returns-in_ok-message-in-Ok-Some-clause-ok

@@ -1,8 +1,6 @@
-use Rattle.std.proofs.Common.{ap, sym, subst, ◌∙◌, rules}
-use Rattle.std.proofs.lemmas.Result.{err_from_is_err_and}
-use Rattle.command_lang.specs.declared.command.Command.{Command}
+use Rattle.session_input.proofs.Vocabulary.{ap, sym, subst, ◌∙◌, err_from_is_err_and, Command, Does}
+use Rattle.std.proofs.Common.{rules}
 use Rattle.command_lang.specs.declared.needs.Needs.{Needs}
-use Rattle.session_state.specs.Doing.{Does}
 use Rattle.session_input.proofs.Acting.{nobody_gives, given_nowhere}
 use Rattle.session_input.proofs.orders.act.Goals as goal
 

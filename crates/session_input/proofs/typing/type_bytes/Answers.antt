@@ -1,13 +1,5 @@
-use Rattle.std.proofs.Common.{◌≡◌, ◌++◌, subst, ap, sym, ◌∙◌}
-use Rattle.std.specs.Prelude.{◌⊎◌}
-use Rattle.session_model.specs.declared.event.StatusMessage.{StatusMessage}
-use Rattle.session_model.specs.declared.refusal.Refusal.TheVariants.{NoMemory}
-use Rattle.session_model.specs.Checks.{typing_checks}
-use Rattle.session_state.specs.declared.state.Caller.{Caller}
-use Rattle.session_state.specs.declared.state.Step.{Step}
-use Rattle.session_state.specs.Doing.{caller_in}
-use Rattle.session_checks.specs.Checked.{Passed, Failed}
-use Rattle.session_input.specs.Typing.{Typed, input_to}
+use Rattle.session_input.proofs.Vocabulary.{◌≡◌, ◌++◌, subst, ap, sym, ◌∙◌, ◌⊎◌, StatusMessage, NoMemory, typing_checks}
+use Rattle.session_input.proofs.Vocabulary.{Caller, Step, caller_in, Passed, Failed, Typed, input_to}
 use Rattle.session_input.proofs.Inputs.{typed_through, typed_refused_or}
 use Rattle.session_input.proofs.typing.type_bytes.Goals as goal
 

@@ -1,5 +1,4 @@
-use Rattle.std.proofs.Common.{◌≡◌, replicate}
-use Rattle.session_model.specs.declared.event.StatusMessage.TheVariants.{Text}
+use Rattle.session_state.proofs.Vocabulary.{◌≡◌, replicate, Text}
 use Rattle.session_state.proofs.clients.messages_of.Given as goal
 
 abbrev pub invariant-loop-i : goal.invariant-loop-i

@@ -1,9 +1,4 @@
-use Rattle.std.proofs.Common.{◌++◌, ap, sym, ◌∙◌, List, ℕ}
-use Rattle.std.proofs.lemmas.List.{take_all}
-use Rattle.std.specs.Prelude.{codes}
-use Rattle.std.specs.List.{flat_map}
-use Rattle.acl.specs.declared.user_id.UserId.{UserId}
-use Rattle.acl.specs.Names.{name_of}
+use Rattle.session_state.proofs.Vocabulary.{◌++◌, ap, sym, ◌∙◌, List, ℕ, take_all, codes, flat_map, UserId, name_of}
 use Rattle.session_state.specs.Leaders.{behind_each}
 use Rattle.session_state.proofs.leaders.push_others.Goals as goal
 

@@ -1,7 +1,4 @@
-use Rattle.std.proofs.Common.{◌≡◌, ◌++◌, take}
-use Rattle.std.specs.Prelude.{codes}
-use Rattle.std.specs.List.{flat_map}
-use Rattle.acl.specs.Names.{name_of}
+use Rattle.session_state.proofs.Vocabulary.{◌≡◌, ◌++◌, take, codes, flat_map, name_of}
 use Rattle.session_state.proofs.leaders.push_others.Given as goal
 
 abbrev pub invariant-loop-leader : goal.invariant-loop-leader

@@ -1,5 +1,4 @@
-use Rattle.std.proofs.Common.{ℕ, List}
-use Rattle.keys.specs.Kept.{StandsFor}
+use Rattle.session_state.proofs.Vocabulary.{ℕ, List, StandsFor}
 use Rattle.session_state.proofs.Typing.{ReadsOn}
 use Rattle.session_state.proofs.reading.read_keys.Given as goal
 

@@ -1,9 +1,5 @@
-use Rattle.std.proofs.Common.{◌∙◌, ap, map, List, ℕ, Option}
-use Rattle.std.specs.Prelude.{codes}
-use Rattle.session_model.specs.Texts.{separated}
-use Rattle.session_state.specs.Items.{client_line}
-use Rattle.session_state.specs.declared.client.Client.{Client}
-use Rattle.session_state.specs.Listing.{client_item}
+use Rattle.session_state.proofs.Vocabulary.{◌∙◌, ap, map, List, ℕ, Option, codes, separated, client_line, Client}
+use Rattle.session_state.proofs.Vocabulary.{client_item}
 use Rattle.session_state.proofs.Growing.{items_more, items_all}
 use Rattle.session_state.proofs.Listing.{clients_alike}
 use Rattle.session_state.proofs.texts.clients_text.Goals as goal

@@ -1,6 +1,4 @@
-use Rattle.std.proofs.Common.{map, take}
-use Rattle.session_state.specs.Growing.{IsList}
-use Rattle.session_state.specs.Listing.{client_item}
+use Rattle.session_state.proofs.Vocabulary.{map, take, IsList, client_item}
 use Rattle.session_state.proofs.texts.clients_text.Given as goal
 
 -- the items of the clients before this one

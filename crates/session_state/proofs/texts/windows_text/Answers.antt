@@ -1,10 +1,6 @@
-use Rattle.std.proofs.Common.{◌≡◌, ◌∙◌, ◌+◌, ℕ, List, ap, Bool, refl, sym, subst, map, arith, Some, None}
-use Rattle.session_model.specs.Naming.{with_number}
-use Rattle.session_model.specs.Texts.{window_item}
+use Rattle.session_state.proofs.Vocabulary.{◌≡◌, ◌∙◌, ◌+◌, ℕ, List, ap, Bool, refl, sym, subst, map, arith, Some, None}
+use Rattle.session_state.proofs.Vocabulary.{with_number, window_item, numbered, WindowStands, IsList}
 use Rattle.windows_model.proofs.Matching.{both_back, none_back}
-use Rattle.session_state.specs.Orders.{numbered}
-use Rattle.windows.specs.Standing.{WindowStands}
-use Rattle.session_state.specs.Growing.{IsList}
 use Rattle.session_state.proofs.Numbered.{none_numbered, one_numbered, all_numbered, there_by_number}
 use Rattle.session_state.proofs.texts.windows_text.Goals as goal
 use Rattle.session_state.proofs.texts.windows_text.Goals.{in-Some+in_ok-push_separator+in_ok-push_item, in_default}

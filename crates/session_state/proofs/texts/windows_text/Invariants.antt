@@ -1,10 +1,4 @@
-use Rattle.std.proofs.Common.{map}
-use Rattle.session_model.specs.Tables.{Tables}
-use Rattle.session_model.specs.Texts.{window_item}
-use Rattle.session_state.specs.Orders.{numbered}
-use Rattle.session_state.specs.Stands.{Stands}
-use Rattle.session_model.specs.Sound.{AreFit}
-use Rattle.session_state.specs.Growing.{IsList}
+use Rattle.session_state.proofs.Vocabulary.{map, Tables, window_item, numbered, Stands, AreFit, IsList}
 use Rattle.session_state.proofs.texts.windows_text.Given as goal
 
 -- the items of the windows of lower numbers

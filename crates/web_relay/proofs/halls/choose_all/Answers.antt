@@ -1,5 +1,4 @@
-use Rattle.std.proofs.Common.{refl, arith}
-use Rattle.web_relay.specs.Halls.{AtBoth, Chooses}
+use Rattle.web_relay.proofs.Vocabulary.{refl, arith, AtBoth, Chooses}
 use Rattle.web_relay.proofs.Turns.{done-more, rest-more, all-done}
 use Rattle.web_relay.proofs.halls.choose_all.Goals as goal
 

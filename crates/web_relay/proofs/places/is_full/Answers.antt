@@ -1,6 +1,5 @@
-use Rattle.std.proofs.Common.{◌≢◌, ◌-◌, ◌/◌, ◌≤◌, ◌<◌, ℕ, List, [], sym, ap, ◌∙◌, count_by, rules, refl, arith}
-use Rattle.slab.specs.Slab.{entries}
-use Rattle.web_relay.specs.Places.{is_neighbour}
+use Rattle.web_relay.proofs.Vocabulary.{◌≢◌, ◌-◌, ◌/◌, ◌≤◌, ◌<◌, ℕ, List, [], sym, ap, ◌∙◌, count_by, rules, refl}
+use Rattle.web_relay.proofs.Vocabulary.{arith, entries, is_neighbour}
 use Rattle.web_relay.proofs.Room.{few, many}
 use Rattle.web_relay.proofs.places.is_full.Goals as goal
 

@@ -1,5 +1,4 @@
-use Rattle.std.proofs.Common.{◌≡◌, ◌≢◌, ◌∙◌, ap, inl, inr, refl, rules, sym}
-use Rattle.web_client.specs.declared.visitor.Visitor.{Visitor}
+use Rattle.web_relay.proofs.Vocabulary.{◌≡◌, ◌≢◌, ◌∙◌, ap, inl, inr, refl, rules, sym, Visitor}
 use Rattle.web_relay.proofs.Sitting.{misses_hall}
 use Rattle.web_relay.proofs.seating.sit.Goals as goal
 

@@ -1,14 +1,7 @@
-use Rattle.std.proofs.Common.{◌≡◌, ◌∙◌, [], Bool, List, sym, subst}
-use Rattle.std.proofs.lemmas.Bool.{false≢true}
-use Rattle.std.proofs.lemmas.Result.{IfOk-weaker}
-use Rattle.acl.specs.declared.act.Act.{Act}
-use Rattle.acl.specs.declared.leaders.Edition.{Edition}
-use Rattle.acl.specs.declared.user_id.UserId.{UserId}
-use Rattle.acl.specs.History.{History}
-use Rattle.hub_trail.specs.Legal.{acts_after}
+use Rattle.hub_check.proofs.Vocabulary.{◌≡◌, ◌∙◌, [], Bool, List, sym, subst, false≢true, IfOk-weaker, Act, Edition}
+use Rattle.hub_check.proofs.Vocabulary.{UserId, History, acts_after, StandsAfter, IsJudged}
 use Rattle.rights.specs.declared.rights.Rights.{Rights}
-use Rattle.rights.specs.Following.{StandsAfter, FollowsAll}
-use Rattle.hub_check.specs.Parts.{IsJudged}
+use Rattle.rights.specs.Following.{FollowsAll}
 use Rattle.hub_check.proofs.Taken.{good_next, acts_next, bad_next}
 use Rattle.hub_check.proofs.judge.Judge.take.Goals as goal
 

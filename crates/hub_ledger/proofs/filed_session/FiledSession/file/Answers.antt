@@ -1,9 +1,5 @@
-use Rattle.std.proofs.Common.{◌≡◌, ◌∙◌, ◌∷◌, ◌++◌, [], Some, ap, subst, sym}
-use Rattle.session.specs.Trace.{happening}
-use Rattle.hub_trail.specs.Trails.{Ending}
-use Rattle.hub_trail.specs.Filing.{kept_of}
-use Rattle.hub_record.specs.Receipts.{Receipt}
-use Rattle.hub_ledger.specs.Seats.{IsReceived}
+use Rattle.hub_ledger.proofs.Vocabulary.{◌≡◌, ◌∙◌, ◌∷◌, ◌++◌, [], Some, ap, subst, sym, happening, Ending, kept_of}
+use Rattle.hub_ledger.proofs.Vocabulary.{Receipt, IsReceived}
 use Rattle.hub_record.specs.Growing.{kept_by}
 use Rattle.hub_ledger.proofs.filed_session.FiledSession.file.Goals as goal
 

@@ -1,8 +1,4 @@
-use Rattle.std.proofs.Common.{List, length, ap, subst, sym}
-use Rattle.session.specs.Trace.{begun}
-use Rattle.hub_trail.specs.Trails.{Entry, Trail}
-use Rattle.hub_peers.specs.Peers.{AreSeats, Owners}
-use Rattle.hub_ledger.specs.Routing.{views}
+use Rattle.hub_ledger.proofs.Vocabulary.{List, length, ap, subst, sym, begun, Entry, Trail, AreSeats, Owners, views}
 use Rattle.hub_ledger.proofs.filed_session.FiledSession.new.Goals as goal
 
 pub returns-clause-kept : goal.returns-clause-kept

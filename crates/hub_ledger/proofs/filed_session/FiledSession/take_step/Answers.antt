@@ -1,15 +1,8 @@
-use Rattle.std.proofs.Common.{◌≡◌, ◌<◌, List, length, sym, ap, ◌∙◌, subst, false, Bool}
-use Rattle.std.specs.declared.vec.Vec.{Vec}
-use Rattle.std.specs.declared.alloc.Global.{Global}
-use Rattle.std.specs.List.{AllByRecursion}
-use Rattle.std.proofs.lemmas.List.{length-map}
-use Rattle.session.specs.Trace.{happening}
-use Rattle.session.specs.Stands.{entry_of, wants_memory}
-use Rattle.hub_trail.specs.Filing.{kept_of}
-use Rattle.hub_peers.specs.Peers.{HasPeer, Owners, owners_of, with_peers}
-use Rattle.hub_ledger.specs.Routing.{Sent, views, marked, typed_in, AreRouted}
-use Rattle.hub_record.specs.Growing.{trail_in, with_entries, written}
-use Rattle.hub_ledger.specs.States.{state_of}
+use Rattle.hub_ledger.proofs.Vocabulary.{◌≡◌, ◌<◌, List, length, sym, ap, ◌∙◌, subst, false, Bool, Vec, Global}
+use Rattle.hub_ledger.proofs.Vocabulary.{AllByRecursion, length-map, happening, entry_of, wants_memory, kept_of}
+use Rattle.hub_ledger.proofs.Vocabulary.{HasPeer, Owners, owners_of, with_peers, Sent, views, marked, trail_in}
+use Rattle.hub_ledger.proofs.Vocabulary.{with_entries, written, state_of}
+use Rattle.hub_ledger.specs.Routing.{typed_in, AreRouted}
 use Rattle.hub_ledger.proofs.Steps.{few, peers_there, made_by, filed_is, kept_after}
 use Rattle.hub_ledger.proofs.filed_session.FiledSession.take_step.Goals as goal
 

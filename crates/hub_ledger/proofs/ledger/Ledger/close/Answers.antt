@@ -1,12 +1,6 @@
-use Rattle.std.proofs.Common.{◌≡◌, ◌∙◌, List, length, [], ap, subst, sym, arith}
-use Rattle.hub_trail.specs.Trails.{Entry, Trail}
-use Rattle.hub_trail.specs.Legal.{IsLegal}
-use Rattle.hub_trail.specs.Judging.{AreJudgeable}
+use Rattle.hub_ledger.proofs.Vocabulary.{◌≡◌, ◌∙◌, List, length, [], ap, subst, sym, arith, Entry, Trail, IsLegal}
+use Rattle.hub_ledger.proofs.Vocabulary.{AreJudgeable, trail_in, State, state_of, Sitting, IsFirstWrong, receipts_of}
 use Rattle.hub_record.specs.declared.growing_trail.GrowingTrail.{GrowingTrail}
-use Rattle.hub_record.specs.Growing.{trail_in}
-use Rattle.hub_ledger.specs.States.{State, state_of}
-use Rattle.hub_ledger.specs.Seats.{Sitting}
-use Rattle.hub_ledger.specs.Closing.{IsFirstWrong, receipts_of}
 use Rattle.hub_ledger.proofs.Counting.{none_means}
 use Rattle.hub_ledger.proofs.Standing.{kept_judgeable, kept_legal}
 use Rattle.hub_ledger.proofs.Tellings.{written}

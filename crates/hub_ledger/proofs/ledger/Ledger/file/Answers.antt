@@ -1,12 +1,6 @@
-use Rattle.std.proofs.Common.{◌∙◌, Some, ap, refl, subst, sym, arith}
-use Rattle.std.proofs.lemmas.List.{length-map}
-use Rattle.std.specs.declared.vec.Vec.{Vec}
-use Rattle.std.specs.declared.alloc.Global.{Global}
-use Rattle.hub_ledger.specs.Routing.{Sent}
-use Rattle.session.specs.Trace.{happening}
-use Rattle.hub_trail.specs.Filing.{kept_of}
-use Rattle.hub_ledger.specs.States.{State, state_of}
-use Rattle.hub_ledger.specs.Seats.{Answers, Sitting, StandsLast, Told, stepped}
+use Rattle.hub_ledger.proofs.Vocabulary.{◌∙◌, Some, ap, refl, subst, sym, arith, length-map, Vec, Global, Sent}
+use Rattle.hub_ledger.proofs.Vocabulary.{happening, kept_of, State, state_of, Sitting, StandsLast, Told, stepped}
+use Rattle.hub_ledger.specs.Seats.{Answers}
 use Rattle.hub_ledger.proofs.Filing.{answered, begins_stay, handed, one_more, seats_stay, stands_last}
 use Rattle.hub_ledger.proofs.Rising.{rise_pushed}
 use Rattle.hub_ledger.proofs.ledger.Ledger.file.Goals as goal

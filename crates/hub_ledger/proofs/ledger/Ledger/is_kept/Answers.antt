@@ -1,5 +1,4 @@
-use Rattle.std.proofs.Common.{subst}
-use Rattle.hub_ledger.specs.States.{IsKept}
+use Rattle.hub_ledger.proofs.Vocabulary.{subst, IsKept}
 use Rattle.hub_ledger.proofs.Standing.{kept_legal}
 use Rattle.hub_ledger.proofs.ledger.Ledger.is_kept.Goals as goal
 

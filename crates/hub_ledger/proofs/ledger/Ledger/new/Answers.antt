@@ -1,13 +1,7 @@
-use Rattle.std.proofs.Common.{◌≡◌, ◌∙◌, ℕ, length, ap, sym, arith, subst}
-use Rattle.std.proofs.lemmas.List.{length-map, length-replicate}
-use Rattle.std.specs.declared.vec.Vec.{Vec}
-use Rattle.std.specs.declared.alloc.Global.{Global}
-use Rattle.acl.specs.declared.leaders.Edition.{Edition}
-use Rattle.acl.specs.declared.user_id.UserId.{UserId}
-use Rattle.hub_ledger.specs.Routing.{Sent}
-use Rattle.session.specs.Trace.{begun}
-use Rattle.session.specs.session.Session.{Session}
-use Rattle.hub_ledger.specs.States.{State, StandsFor, begun_with}
+use Rattle.hub_ledger.proofs.Vocabulary.{◌≡◌, ◌∙◌, ℕ, length, ap, sym, arith, subst, length-map, Vec, Global, Edition}
+use Rattle.hub_ledger.proofs.Vocabulary.{UserId, Sent, begun, Session, State, StandsFor}
+use Rattle.std.proofs.lemmas.List.{length-replicate}
+use Rattle.hub_ledger.specs.States.{begun_with}
 use Rattle.hub_ledger.proofs.ledger.Ledger.new.Goals as goal
 
 -- the session has the edition and the owner with which the ledger began

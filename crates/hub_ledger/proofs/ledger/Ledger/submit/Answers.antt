@@ -1,12 +1,5 @@
-use Rattle.std.proofs.Common.{◌≡◌, ◌∙◌, false, length, ap, sym, arith}
-use Rattle.std.specs.Prelude.{is_some}
-use Rattle.std.proofs.lemmas.List.{length-map}
-use Rattle.std.specs.declared.vec.Vec.{Vec}
-use Rattle.std.specs.declared.alloc.Global.{Global}
-use Rattle.hub_ledger.specs.Routing.{Sent}
-use Rattle.session.specs.Trace.{happening}
-use Rattle.hub_trail.specs.Filing.{kept_of}
-use Rattle.hub_ledger.specs.States.{State, state_of}
+use Rattle.hub_ledger.proofs.Vocabulary.{◌≡◌, ◌∙◌, false, length, ap, sym, arith, is_some, length-map, Vec, Global}
+use Rattle.hub_ledger.proofs.Vocabulary.{Sent, happening, kept_of, State, state_of}
 use Rattle.hub_ledger.proofs.Filing.{begins_stay, no_more, seats_stay}
 use Rattle.hub_ledger.proofs.ledger.Ledger.submit.Goals as goal
 

@@ -1,12 +1,8 @@
-use Rattle.std.proofs.Common.{◌≡◌, ◌∙◌, ◌+◌, ◌∷◌, ◌++◌, [], ℕ, List, Ok, Err, ap, sym, subst, drop, take, length}
-use Rattle.std.proofs.Common.{get_or, arith}
-use Rattle.std.specs.Prelude.{Result}
-use Rattle.std.proofs.lemmas.List.{take_more, take_all, take-append-drop, length-take-le}
-use Rattle.std.proofs.lemmas.Option.{get_or_from_slice_get}
+use Rattle.hub_ledger.proofs.Vocabulary.{◌≡◌, ◌∙◌, ◌+◌, ◌∷◌, ◌++◌, [], ℕ, List, Ok, Err, ap, sym, subst, drop, take}
+use Rattle.hub_ledger.proofs.Vocabulary.{length, get_or, arith, Result, take_more, take_all, get_or_from_slice_get}
+use Rattle.hub_ledger.proofs.Vocabulary.{Entry, AreGood, IsBadAt, HasJudged}
+use Rattle.std.proofs.lemmas.List.{take-append-drop, length-take-le}
 use Rattle.acl.proofs.InPlace.{drop-next}
-use Rattle.hub_trail.specs.Trails.{Entry}
-use Rattle.hub_trail.specs.Judging.{AreGood, IsBadAt}
-use Rattle.hub_check.specs.Judges.{HasJudged}
 use Rattle.hub_check.specs.declared.CheckFault.{CheckFault}
 use Rattle.hub_check.specs.declared.CheckFault.TheVariants.{BadEntry, NoMemory}
 use Rattle.hub_ledger.proofs.ledger.trail.check_entries.Goals as goal

@@ -1,5 +1,4 @@
-use Rattle.std.proofs.Common.{take}
-use Rattle.hub_check.specs.Judges.{HasJudged}
+use Rattle.hub_ledger.proofs.Vocabulary.{take, HasJudged}
 use Rattle.hub_ledger.proofs.ledger.trail.check_entries.Given as goal
 
 -- the entries before this one passed

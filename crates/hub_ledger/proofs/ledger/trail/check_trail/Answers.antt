@@ -1,10 +1,6 @@
-use Rattle.std.proofs.Common.{◌≡◌, [], ℕ, List, subst, sym}
-use Rattle.acl.specs.declared.leaders.Edition.{Edition}
-use Rattle.acl.specs.declared.user_id.UserId.{UserId}
-use Rattle.hub_trail.specs.Trails.{Entry}
-use Rattle.hub_trail.specs.Judging.{AreGood, AreJudgeable, IsBadAt, IsIllegalAt}
-use Rattle.hub_trail.specs.Legal.{AreLegal}
-use Rattle.hub_check.proofs.Judged.{bad_illegal, good_legal}
+use Rattle.hub_ledger.proofs.Vocabulary.{◌≡◌, [], ℕ, List, subst, sym, Edition, UserId, Entry, AreGood, AreJudgeable}
+use Rattle.hub_ledger.proofs.Vocabulary.{IsBadAt, IsIllegalAt, AreLegal, bad_illegal}
+use Rattle.hub_check.proofs.Judged.{good_legal}
 use Rattle.hub_ledger.proofs.OtherOwner.{legal_until}
 use Rattle.hub_ledger.proofs.ledger.trail.check_trail.Goals as goal
 

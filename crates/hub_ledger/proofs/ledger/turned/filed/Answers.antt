@@ -1,11 +1,6 @@
-use Rattle.std.proofs.Common.{◌≡◌, Result, Ok, Err, Some, IfOk, sym, subst}
-use Rattle.std.specs.Result.{result_ok}
-use Rattle.acl.specs.declared.leaders.Edition.{Edition}
+use Rattle.hub_ledger.proofs.Vocabulary.{◌≡◌, Result, Ok, Err, Some, IfOk, sym, subst, result_ok, Edition, UserId}
+use Rattle.hub_ledger.proofs.Vocabulary.{begun, Session, StandsFor}
 use Rattle.acl.specs.declared.leaders.Edition.TheVariants.{Second}
-use Rattle.acl.specs.declared.user_id.UserId.{UserId}
-use Rattle.session.specs.Trace.{begun}
-use Rattle.session.specs.session.Session.{Session}
-use Rattle.hub_ledger.specs.States.{StandsFor}
 use Rattle.hub_ledger.proofs.ledger.turned.filed.Goals as goal
 
 made_so : {E : Type 0} (P : Session → Type 0) (r : Result Session E) (s : Session) → Some s ≡ result_ok r → IfOk r P

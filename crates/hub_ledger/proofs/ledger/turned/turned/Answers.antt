@@ -1,15 +1,8 @@
-use Rattle.std.proofs.Common.{◌≡◌, ◌∙◌, ◌+◌, ◌<◌, ◌∷◌, ◌++◌, [], ℕ, List, Some, ap, sym, subst, take, length, true}
-use Rattle.std.proofs.Common.{slice_get, arith}
-use Rattle.std.specs.List.{AllByRecursion}
-use Rattle.std.proofs.lemmas.List.{take_more, take_all, append_assoc, append-nil}
-use Rattle.std.proofs.lemmas.Option.{get_or_from_slice_get}
-use Rattle.acl.specs.declared.leaders.Edition.{Edition}
-use Rattle.acl.specs.declared.user_id.UserId.{UserId}
-use Rattle.acl.specs.History.{History, followed_by}
-use Rattle.session.specs.refusal.Verdict.{Verdict}
-use Rattle.hub_trail.specs.Trails.{Entry}
-use Rattle.rights.specs.Acts.{CanFollow}
-use Rattle.hub_trail.specs.Judging.{is_on_there, AreJudgeable}
+use Rattle.hub_ledger.proofs.Vocabulary.{◌≡◌, ◌∙◌, ◌+◌, ◌<◌, ◌∷◌, ◌++◌, [], ℕ, List, Some, ap, sym, subst, take, length}
+use Rattle.hub_ledger.proofs.Vocabulary.{true, slice_get, arith, AllByRecursion, take_more, take_all, append_assoc}
+use Rattle.hub_ledger.proofs.Vocabulary.{append-nil, get_or_from_slice_get, Edition, UserId, History, followed_by}
+use Rattle.hub_ledger.proofs.Vocabulary.{Verdict, Entry, CanFollow, AreJudgeable}
+use Rattle.hub_trail.specs.Judging.{is_on_there}
 use Rattle.hub_record.specs.EntryLists.{entry_in}
 use Rattle.hub_ledger.proofs.ledger.turned.turned.Goals as goal
 

@@ -1,6 +1,4 @@
-use Rattle.std.proofs.Common.{◌++◌, [], List, take}
-use Rattle.hub_trail.specs.Trails.{Entry}
-use Rattle.hub_trail.specs.Judging.{AreJudgeable}
+use Rattle.hub_ledger.proofs.Vocabulary.{◌++◌, [], List, take, Entry, AreJudgeable}
 use Rattle.hub_ledger.proofs.ledger.turned.turned.Given as goal
 
 -- the entries so far can be judged wherever those of the trail can

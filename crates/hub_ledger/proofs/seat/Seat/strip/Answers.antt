@@ -1,8 +1,5 @@
-use Rattle.std.proofs.Common.{◌≡◌, ◌∙◌, ◌≤◌, List, length, ap, subst, arith, true}
-use Rattle.std.specs.Prelude.{◌↔◌}
-use Rattle.hub_record.specs.Receipts.{Receipt}
-use Rattle.hub_ledger.specs.Seats.{Sitting}
-use Rattle.hub_ledger.specs.Closing.{AreOf, before, times}
+use Rattle.hub_ledger.proofs.Vocabulary.{◌≡◌, ◌∙◌, ◌≤◌, List, length, ap, subst, arith, true, ◌↔◌, Receipt, Sitting}
+use Rattle.hub_ledger.proofs.Vocabulary.{AreOf, before, times}
 use Rattle.hub_ledger.proofs.Rising.{before_le}
 use Rattle.hub_ledger.proofs.seat.Seat.strip.Goals as goal
 

@@ -1,9 +1,6 @@
-use Rattle.std.proofs.Common.{◌∙◌, ◌∷◌, ◌++◌, [], Bool, List, false, ap, sym}
-use Rattle.std.specs.declared.vec.Vec.{Vec}
-use Rattle.std.specs.declared.alloc.Global.{Global}
+use Rattle.hub_ledger.proofs.Vocabulary.{◌∙◌, ◌∷◌, ◌++◌, [], Bool, List, false, ap, sym, Vec, Global, map_push, Sent}
+use Rattle.hub_ledger.proofs.Vocabulary.{views}
 use Rattle.std.proofs.lemmas.Grind.{replicate_next}
-use Rattle.std.proofs.lemmas.List.{map_push}
-use Rattle.hub_ledger.specs.Routing.{Sent, views}
 use Rattle.hub_ledger.proofs.waiting.SeatEffects.new.Goals as goal
 
 pub seats-preserved : goal.seats-preserved

@@ -1,9 +1,5 @@
-use Rattle.std.proofs.Common.{ap, ◌∙◌}
+use Rattle.hub_ledger.proofs.Vocabulary.{ap, ◌∙◌, Vec, Global, map-set, Sent, views}
 use Rattle.std.specs.Prelude.{slice_set}
-use Rattle.std.specs.declared.vec.Vec.{Vec}
-use Rattle.std.specs.declared.alloc.Global.{Global}
-use Rattle.std.proofs.lemmas.List.{map-set}
-use Rattle.hub_ledger.specs.Routing.{Sent, views}
 use Rattle.hub_ledger.proofs.waiting.SeatEffects.take.Goals as goal
 
 pub returns-clause-lists : goal.returns-clause-lists

@@ -1,6 +1,4 @@
-use Rattle.std.proofs.Common.{sym, subst}
-use Rattle.acl.specs.declared.act.Act.{Act}
-use Rattle.rights.specs.Following.{Redoes, Follows}
+use Rattle.rights.proofs.Vocabulary.{sym, subst, Act, Redoes, Follows}
 use Rattle.rights.proofs.rights.Rights.follow.Goals as goal
 
 pub returns-in-Known : goal.returns-in-Known

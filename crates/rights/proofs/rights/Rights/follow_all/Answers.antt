@@ -1,11 +1,7 @@
-use Rattle.std.proofs.Common.{◌≡◌, ◌∙◌, ◌∷◌, refl, ap, sym, subst}
+use Rattle.rights.proofs.Vocabulary.{◌≡◌, ◌∙◌, ◌∷◌, refl, ap, sym, subst, false≢true, followed_by, followed_by-append}
+use Rattle.rights.proofs.Vocabulary.{CanFollow, Rights, StandsAfter}
 use Rattle.std.specs.Prelude.{IfNone, IfSome}
-use Rattle.std.proofs.lemmas.Bool.{false≢true}
-use Rattle.acl.specs.History.{followed_by}
-use Rattle.acl.proofs.FollowingLemmas.{followed_by-append}
-use Rattle.rights.specs.Acts.{CanFollow}
-use Rattle.rights.specs.declared.rights.Rights.{Rights}
-use Rattle.rights.specs.Following.{FollowsFront, StandsAfter}
+use Rattle.rights.specs.Following.{FollowsFront}
 use Rattle.rights.proofs.Running.{follow_append, follow_rest, none_left}
 use Rattle.rights.proofs.rights.Rights.follow_all.Goals as goal
 

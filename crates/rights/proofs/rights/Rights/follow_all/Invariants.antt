@@ -1,10 +1,5 @@
-use Rattle.std.proofs.Common.{◌≡◌, length}
+use Rattle.rights.proofs.Vocabulary.{◌≡◌, length, Edition, UserId, History, followed_by, CanFollow, StandsAfter}
 use Rattle.std.specs.Prelude.{◌↔◌}
-use Rattle.acl.specs.declared.leaders.Edition.{Edition}
-use Rattle.acl.specs.declared.user_id.UserId.{UserId}
-use Rattle.acl.specs.History.{History, followed_by}
-use Rattle.rights.specs.Acts.{CanFollow}
-use Rattle.rights.specs.Following.{StandsAfter}
 use Rattle.rights.proofs.rights.Rights.follow_all.Given as goal
 
 -- the acts so far, and what is left to follow

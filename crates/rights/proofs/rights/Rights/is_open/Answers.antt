@@ -1,6 +1,4 @@
-use Rattle.std.proofs.Common.{◌∙◌, ap, is_some}
-use Rattle.acl.specs.History.{is_open}
-use Rattle.writelock.specs.Holding.{mode_of}
+use Rattle.rights.proofs.Vocabulary.{◌∙◌, ap, is_some, is_open, mode_of}
 use Rattle.rights.proofs.Standing.{some_if}
 use Rattle.rights.proofs.rights.Rights.is_open.Goals as goal
 

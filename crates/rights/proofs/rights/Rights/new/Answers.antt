@@ -1,5 +1,4 @@
-use Rattle.std.proofs.Common.{refl, sym, subst}
-use Rattle.rights.specs.Clients.{Differ}
+use Rattle.rights.proofs.Vocabulary.{refl, sym, subst, Differ}
 use Rattle.rights.proofs.rights.Rights.new.Goals as goal
 
 pub returns : goal.returns

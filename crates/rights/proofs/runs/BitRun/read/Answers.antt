@@ -1,7 +1,4 @@
-use Rattle.std.proofs.Common.{◌≡◌, ◌++◌, sym, subst}
-use Rattle.std.specs.List.{AllByRecursion}
-use Rattle.acl.specs.Commands.{sets, sets_on}
-use Rattle.rights.specs.Runs.{IsUnlocked}
+use Rattle.rights.proofs.Vocabulary.{◌≡◌, ◌++◌, sym, subst, AllByRecursion, sets, sets_on, IsUnlocked}
 use Rattle.rights.proofs.Reading.{all_more, read_more}
 use Rattle.rights.proofs.runs.BitRun.read.Goals as goal
 

@@ -1,7 +1,4 @@
-use Rattle.std.specs.Prelude.{◌≡◌, ◌++◌, length}
-use Rattle.std.specs.List.{AllByRecursion}
-use Rattle.acl.specs.Commands.{sets}
-use Rattle.rights.specs.Runs.{IsUnlocked}
+use Rattle.rights.proofs.Vocabulary.{◌≡◌, ◌++◌, length, AllByRecursion, sets, IsUnlocked}
 use Rattle.rights.proofs.runs.BitRun.read.Given as goal
 
 -- the acts so far, and what is left

@@ -1,7 +1,4 @@
-use Rattle.std.proofs.Common.{subst}
-use Rattle.attach_proto.specs.declared.why.Why.{Why}
-use Rattle.server_loop.specs.Beginning.{Dismisses}
-use Rattle.server_loop.specs.Submitting.{state_of}
+use Rattle.server_loop.proofs.Vocabulary.{subst, Why, Dismisses, state_of}
 use Rattle.server_loop.proofs.Begun.{dismissed}
 use Rattle.server_loop.proofs.own.Loop.attempt.Goals as goal
 

@@ -1,12 +1,9 @@
-use Rattle.std.proofs.Common.{◌≡◌, ◌∙◌, Option, Some, true, ap, inl, refl, sym, subst, rules}
-use Rattle.std.specs.Prelude.{codes}
-use Rattle.slab.specs.Slab.{get}
+use Rattle.server_loop.proofs.Vocabulary.{◌≡◌, ◌∙◌, Option, Some, true, ap, inl, refl, sym, subst, rules, codes, get}
+use Rattle.server_loop.proofs.Vocabulary.{Done, TurnsAway, State, state_of, Loop}
 use Rattle.server_steps.specs.Meaning.{may_judge, shown_in}
-use Rattle.server_steps.specs.declared.progress.Progress.TheVariants.{Done, Held}
+use Rattle.server_steps.specs.declared.progress.Progress.TheVariants.{Held}
 use Rattle.server_users.specs.Entries.{Entry}
-use Rattle.server_loop.specs.Beginning.{BeginsWith, Judges, TurnsAway, known_of}
-use Rattle.server_loop.specs.Submitting.{State, state_of}
-use Rattle.server_loop.specs.declared.own.Loop.{Loop}
+use Rattle.server_loop.specs.Beginning.{BeginsWith, Judges, known_of}
 use Rattle.server_loop.proofs.Telling.{if_true}
 use Rattle.server_loop.proofs.own.Loop.begin.Goals as goal
 

@@ -1,7 +1,5 @@
-use Rattle.std.proofs.Common.{ap, inr, refl, subst}
+use Rattle.server_loop.proofs.Vocabulary.{ap, inr, refl, subst, State, state_of, Loop}
 use Rattle.server_loop.specs.Beginning.{Answers}
-use Rattle.server_loop.specs.Submitting.{State, state_of}
-use Rattle.server_loop.specs.declared.own.Loop.{Loop}
 use Rattle.server_loop.proofs.own.Loop.command.Goals as goal
 
 pub returns-in-Ok-attempt : goal.returns-in-Ok-attempt

@@ -1,8 +1,5 @@
-use Rattle.std.proofs.Common.{◌≡◌, true, false, refl, subst, rules}
-use Rattle.attach_proto.specs.declared.why.Why.TheVariants.{Fault}
-use Rattle.server_connections.specs.declared.connections.Connections.{Connections}
-use Rattle.server_loop.specs.Leaving.{Expels, TellsLeaving}
-use Rattle.server_loop.specs.Submitting.{state_of}
+use Rattle.server_loop.proofs.Vocabulary.{◌≡◌, true, false, refl, subst, rules, Fault, Connections, Expels}
+use Rattle.server_loop.proofs.Vocabulary.{TellsLeaving, state_of}
 use Rattle.server_loop.proofs.Telling.{if_false, if_true}
 use Rattle.server_loop.proofs.own.Loop.detach.Goals as goal
 

@@ -1,12 +1,9 @@
-use Rattle.std.proofs.Common.{◌∙◌, ℕ, Err, Ok, ap, refl, subst, sym}
+use Rattle.server_loop.proofs.Vocabulary.{◌∙◌, ℕ, Err, Ok, ap, refl, subst, sym, Connections, SeatFault, Submits}
+use Rattle.server_loop.proofs.Vocabulary.{state_of, with_peer, Loop}
 use Rattle.session.specs.Trace.{Draw}
 use Rattle.server_connections.specs.Changing.{drawn}
-use Rattle.server_connections.specs.declared.connections.Connections.{Connections}
-use Rattle.server_seat.specs.declared.seat.SeatFault.{SeatFault}
 use Rattle.server_seat.specs.declared.seat.SeatFault.TheVariants as fault
 use Rattle.server_loop.specs.Drawing.{Draws}
-use Rattle.server_loop.specs.Submitting.{Submits, state_of, with_peer}
-use Rattle.server_loop.specs.declared.own.Loop.{Loop}
 use Rattle.server_loop.proofs.own.Loop.draw.Goals as goal
 use Rattle.server_loop.proofs.own.Loop.draw.Goals.{in-Ok, in-Err-NoMemory, in-Err-Over}
 

@@ -1,7 +1,6 @@
-use Rattle.std.proofs.Common.{◌≡◌, ◌∙◌, ℕ, refl, sym}
+use Rattle.server_loop.proofs.Vocabulary.{◌≡◌, ◌∙◌, ℕ, refl, sym, state_of}
 use Rattle.server_steps.specs.Turns.{drawn_from}
 use Rattle.server_loop.specs.Drawing.{DrawsRound}
-use Rattle.server_loop.specs.Submitting.{state_of}
 use Rattle.server_loop.proofs.Keys.{match_none, match_some}
 use Rattle.server_loop.proofs.own.Loop.draw_all.Goals as goal
 

@@ -1,6 +1,5 @@
-use Rattle.std.proofs.Common.{ℕ, Option, subst}
+use Rattle.server_loop.proofs.Vocabulary.{ℕ, Option, subst, state_of}
 use Rattle.server_loop.specs.Drawing.{HandsOn}
-use Rattle.server_loop.specs.Submitting.{state_of}
 use Rattle.server_loop.proofs.own.Loop.draw_round.Goals as goal
 
 pub returns : goal.returns

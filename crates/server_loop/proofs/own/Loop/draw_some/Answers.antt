@@ -1,6 +1,4 @@
-use Rattle.std.proofs.Common.{◌-◌, ℕ, Some, None, subst, arith}
-use Rattle.server_loop.specs.Drawing.{DrawsFrom}
-use Rattle.server_loop.specs.Submitting.{state_of}
+use Rattle.server_loop.proofs.Vocabulary.{◌-◌, ℕ, Some, None, subst, arith, DrawsFrom, state_of}
 use Rattle.server_loop.proofs.Drawn.{ended, next_drawn, stopped}
 use Rattle.server_loop.proofs.own.Loop.draw_some.Goals as goal
 

@@ -1,6 +1,4 @@
-use Rattle.std.proofs.Common.{◌-◌}
-use Rattle.server_loop.specs.Drawing.{DrawsFrom}
-use Rattle.server_loop.specs.Submitting.{state_of}
+use Rattle.server_loop.proofs.Vocabulary.{◌-◌, DrawsFrom, state_of}
 use Rattle.server_loop.proofs.own.Loop.draw_some.Given as goal
 
 -- whatever the rest of the keys makes of it, all of them do

@@ -1,8 +1,5 @@
-use Rattle.std.proofs.Common.{◌≡◌, true, false, rules}
-use Rattle.server_loop.specs.Submitting.{state_of}
-use Rattle.server_loop.specs.Walking.{VisitsAll}
+use Rattle.server_loop.proofs.Vocabulary.{◌≡◌, true, false, rules, state_of, VisitsAll, Loop}
 use Rattle.server_loop.specs.Writing.{DropsAt}
-use Rattle.server_loop.specs.declared.own.Loop.{Loop}
 use Rattle.server_loop.proofs.Passing.{passed}
 use Rattle.server_loop.proofs.Telling.{if_true}
 use Rattle.server_loop.proofs.own.Loop.drop_all_typed.Goals as goal

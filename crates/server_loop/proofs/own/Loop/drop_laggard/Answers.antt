@@ -1,8 +1,5 @@
-use Rattle.std.proofs.Common.{◌≡◌, true, false, refl, subst, inl, inr, rules}
-use Rattle.std.proofs.lemmas.Bool.{false≢true}
-use Rattle.server_connections.specs.declared.connections.Connections.{Connections}
-use Rattle.server_loop.specs.Submitting.{state_of}
-use Rattle.server_loop.specs.Writing.{Writes}
+use Rattle.server_loop.proofs.Vocabulary.{◌≡◌, true, false, refl, subst, inl, inr, rules, false≢true, Connections}
+use Rattle.server_loop.proofs.Vocabulary.{state_of, Writes}
 use Rattle.server_loop.proofs.own.Loop.drop_laggard.Goals as goal
 
 pub returns-then-not-is_laggard : goal.returns-then-not-is_laggard

@@ -1,7 +1,5 @@
-use Rattle.std.proofs.Common.{rules}
-use Rattle.server_loop.specs.Submitting.{state_of}
+use Rattle.server_loop.proofs.Vocabulary.{rules, state_of, Loop}
 use Rattle.server_loop.specs.Writing.{DropsLaggard}
-use Rattle.server_loop.specs.declared.own.Loop.{Loop}
 use Rattle.server_loop.proofs.Passing.{passed}
 use Rattle.server_loop.proofs.own.Loop.drop_laggards.Goals as goal
 

@@ -1,7 +1,5 @@
-use Rattle.std.proofs.Common.{◌≡◌, true, false, refl, ap, rules}
-use Rattle.server_connections.specs.declared.connections.Connections.{Connections}
+use Rattle.server_loop.proofs.Vocabulary.{◌≡◌, true, false, refl, ap, rules, Connections, State, state_of, with_peer}
 use Rattle.server_steps.specs.Sending.{without_user}
-use Rattle.server_loop.specs.Submitting.{State, state_of, with_peer}
 use Rattle.server_loop.proofs.Telling.{if_false, if_true}
 use Rattle.server_loop.proofs.own.Loop.drop_of.Goals as goal
 

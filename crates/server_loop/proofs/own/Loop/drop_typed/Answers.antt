@@ -1,7 +1,4 @@
-use Rattle.std.proofs.Common.{◌-◌, subst, arith}
-use Rattle.server_connections.specs.declared.peer.Role.{Role}
-use Rattle.server_loop.specs.Submitting.{state_of}
-use Rattle.server_loop.specs.Writing.{DropsTyped}
+use Rattle.server_loop.proofs.Vocabulary.{◌-◌, subst, arith, Role, state_of, DropsTyped}
 use Rattle.server_loop.proofs.Dropping.{all_dropped, dropped_next, no_window, nobody_next}
 use Rattle.server_loop.proofs.own.Loop.drop_typed.Goals as goal
 

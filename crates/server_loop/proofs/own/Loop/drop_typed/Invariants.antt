@@ -1,6 +1,5 @@
-use Rattle.std.proofs.Common.{◌-◌}
-use Rattle.server_loop.specs.Submitting.{state_of}
-use Rattle.server_loop.specs.Writing.{DropsAfter, DropsAll}
+use Rattle.server_loop.proofs.Vocabulary.{◌-◌, state_of, DropsAfter}
+use Rattle.server_loop.specs.Writing.{DropsAll}
 use Rattle.server_loop.proofs.own.Loop.drop_typed.Given as goal
 
 -- whatever comes of the other users' frames, it comes of all

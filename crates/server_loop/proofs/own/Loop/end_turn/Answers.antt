@@ -1,7 +1,5 @@
-use Rattle.std.proofs.Common.{ap, refl, subst}
+use Rattle.server_loop.proofs.Vocabulary.{ap, refl, subst, state_of, Loop}
 use Rattle.server_loop.specs.Awaiting.{EndsBy}
-use Rattle.server_loop.specs.Submitting.{state_of}
-use Rattle.server_loop.specs.declared.own.Loop.{Loop}
 use Rattle.server_loop.proofs.own.Loop.end_turn.Goals as goal
 
 pub returns : goal.returns

@@ -1,7 +1,4 @@
-use Rattle.std.proofs.Common.{subst}
-use Rattle.server_connections.specs.declared.connections.Connections.{Connections}
-use Rattle.server_loop.specs.Leaving.{TellsLeaving}
-use Rattle.server_loop.specs.Submitting.{state_of}
+use Rattle.server_loop.proofs.Vocabulary.{subst, Connections, TellsLeaving, state_of}
 use Rattle.server_loop.proofs.own.Loop.expel.Goals as goal
 
 pub returns : goal.returns

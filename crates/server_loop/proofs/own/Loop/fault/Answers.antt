@@ -1,8 +1,6 @@
-use Rattle.std.proofs.Common.{◌≡◌, ◌∙◌, true, false, refl, sym, subst, rules}
-use Rattle.attach_proto.specs.declared.why.Why.TheVariants.{Fault}
+use Rattle.server_loop.proofs.Vocabulary.{◌≡◌, ◌∙◌, true, false, refl, sym, subst, rules, Fault, Expels, State, peer_at}
+use Rattle.server_loop.proofs.Vocabulary.{state_of}
 use Rattle.server_steps.specs.Typing.{is_open_at}
-use Rattle.server_loop.specs.Leaving.{Expels}
-use Rattle.server_loop.specs.Submitting.{State, peer_at, state_of}
 use Rattle.server_loop.proofs.Telling.{if_false, if_true}
 use Rattle.server_loop.proofs.own.Loop.fault.Goals as goal
 

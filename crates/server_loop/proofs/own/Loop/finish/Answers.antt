@@ -1,7 +1,5 @@
-use Rattle.std.proofs.Common.{subst}
-use Rattle.attach_proto.specs.declared.why.Why.{Why}
+use Rattle.server_loop.proofs.Vocabulary.{subst, Why, state_of}
 use Rattle.server_steps.specs.Ending.{EachKey, FinishesAt}
-use Rattle.server_loop.specs.Submitting.{state_of}
 use Rattle.server_loop.proofs.own.Loop.finish.Goals as goal
 
 pub returns : goal.returns

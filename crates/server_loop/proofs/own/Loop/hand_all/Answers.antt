@@ -1,7 +1,5 @@
-use Rattle.std.proofs.Common.{List, refl, sym, subst, arith}
+use Rattle.server_loop.proofs.Vocabulary.{List, refl, sym, subst, arith, HandsAll, Sent, state_of}
 use Rattle.std.proofs.lemmas.List.{drop_all}
-use Rattle.server_loop.specs.Handing.{HandsAll, Sent}
-use Rattle.server_loop.specs.Submitting.{state_of}
 use Rattle.server_loop.proofs.Telling.{handed_next}
 use Rattle.server_loop.proofs.own.Loop.hand_all.Goals as goal
 

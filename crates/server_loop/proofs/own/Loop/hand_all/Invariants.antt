@@ -1,6 +1,4 @@
-use Rattle.std.proofs.Common.{drop}
-use Rattle.server_loop.specs.Handing.{HandsAll}
-use Rattle.server_loop.specs.Submitting.{state_of}
+use Rattle.server_loop.proofs.Vocabulary.{drop, HandsAll, state_of}
 use Rattle.server_loop.proofs.own.Loop.hand_all.Given as goal
 
 -- whatever the rest of the effects makes of it, all of them do

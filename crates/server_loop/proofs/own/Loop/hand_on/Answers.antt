@@ -1,8 +1,5 @@
-use Rattle.std.proofs.Common.{◌≡◌, true, rules}
+use Rattle.server_loop.proofs.Vocabulary.{◌≡◌, true, rules, State, state_of, VisitsAll, Writes}
 use Rattle.server_loop.specs.Handing.{HandsOut}
-use Rattle.server_loop.specs.Submitting.{State, state_of}
-use Rattle.server_loop.specs.Walking.{VisitsAll}
-use Rattle.server_loop.specs.Writing.{Writes}
 use Rattle.server_loop.proofs.Telling.{if_true}
 use Rattle.server_loop.proofs.own.Loop.hand_on.Goals as goal
 

@@ -1,10 +1,9 @@
-use Rattle.std.proofs.Common.{ℕ, List, None, sym, subst}
+use Rattle.server_loop.proofs.Vocabulary.{ℕ, List, None, sym, subst, Hands, state_of}
 use Rattle.attach_proto.specs.declared.kind.Kind.TheVariants as kind
 use Rattle.session.specs.event.Effect.{Effect}
 use Rattle.server_connections.specs.declared.peer.Role.TheVariants as role
 use Rattle.server_sending.specs.Frames.{PutsFrames, PutsFront}
-use Rattle.server_loop.specs.Handing.{Hands, HandsFor}
-use Rattle.server_loop.specs.Submitting.{state_of}
+use Rattle.server_loop.specs.Handing.{HandsFor}
 use Rattle.server_loop.proofs.own.Loop.hand_one.Goals as goal
 
 pub returns-in-Input : goal.returns-in-Input

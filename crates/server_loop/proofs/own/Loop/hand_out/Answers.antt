@@ -1,6 +1,4 @@
-use Rattle.std.proofs.Common.{List, false, refl, subst}
-use Rattle.server_loop.specs.Handing.{HandsAll, Sent}
-use Rattle.server_loop.specs.Submitting.{state_of}
+use Rattle.server_loop.proofs.Vocabulary.{List, false, refl, subst, HandsAll, Sent, state_of}
 use Rattle.server_loop.proofs.own.Loop.hand_out.Goals as goal
 
 pub returns : goal.returns

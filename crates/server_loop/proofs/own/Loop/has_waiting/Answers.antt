@@ -1,7 +1,5 @@
-use Rattle.std.proofs.Common.{◌≡◌, true, false, rules}
+use Rattle.server_loop.proofs.Vocabulary.{◌≡◌, true, false, rules, AnyAwaits, NoneAwaits, OneAwaits, state_of}
 use Rattle.server_connections.specs.declared.peer.Awaits.TheVariants.{Ration}
-use Rattle.server_loop.specs.Awaiting.{AnyAwaits, NoneAwaits, OneAwaits}
-use Rattle.server_loop.specs.Submitting.{state_of}
 use Rattle.server_loop.proofs.Telling.{if_either, if_false}
 use Rattle.server_loop.proofs.own.Loop.has_waiting.Goals as goal
 

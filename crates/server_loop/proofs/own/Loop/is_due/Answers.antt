@@ -1,8 +1,6 @@
-use Rattle.std.proofs.Common.{◌≡◌, true, false, is_some, refl, rules}
+use Rattle.server_loop.proofs.Vocabulary.{◌≡◌, true, false, is_some, refl, rules, AnyAwaits, NoneAwaits, OneAwaits}
+use Rattle.server_loop.proofs.Vocabulary.{IfBool, state_of}
 use Rattle.server_connections.specs.declared.peer.Awaits.TheVariants.{Work}
-use Rattle.server_loop.specs.Awaiting.{AnyAwaits, NoneAwaits, OneAwaits}
-use Rattle.server_loop.specs.Leaving.{IfBool}
-use Rattle.server_loop.specs.Submitting.{state_of}
 use Rattle.server_loop.proofs.Telling.{if_either, if_false, if_true}
 use Rattle.server_loop.proofs.own.Loop.is_due.Goals as goal
 

@@ -1,12 +1,8 @@
-use Rattle.std.proofs.Common.{◌≡◌, ◌∙◌, ◌⊎◌, ℕ, Option, None, false, refl, sym, subst, inr}
-use Rattle.std.specs.Prelude.{codes}
-use Rattle.acl.specs.declared.user_id.UserId.{UserId}
-use Rattle.slab.specs.Slab.{get}
-use Rattle.session.specs.Trace.{happening}
-use Rattle.server_steps.specs.declared.progress.Progress.TheVariants.{Done}
+use Rattle.server_loop.proofs.Vocabulary.{◌≡◌, ◌∙◌, ℕ, Option, None, false, refl, sym, subst, inr, codes, UserId, get}
+use Rattle.server_loop.proofs.Vocabulary.{happening, Done, TurnsAway, state_of}
+use Rattle.std.proofs.Common.{◌⊎◌}
 use Rattle.server_steps.specs.Meaning.{is_extra_at}
-use Rattle.server_loop.specs.Beginning.{HasMost, IsCounted, TurnsAway}
-use Rattle.server_loop.specs.Submitting.{state_of}
+use Rattle.server_loop.specs.Beginning.{HasMost, IsCounted}
 use Rattle.server_loop.proofs.Telling.{if_false}
 use Rattle.server_loop.proofs.own.Loop.join.Goals as goal
 

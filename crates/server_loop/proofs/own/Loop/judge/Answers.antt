@@ -1,10 +1,8 @@
-use Rattle.std.proofs.Common.{◌≡◌, ◌∙◌, true, false, refl, sym, subst, inl, inr, rules}
-use Rattle.acl.specs.declared.user_id.UserId.{UserId}
+use Rattle.server_loop.proofs.Vocabulary.{◌≡◌, ◌∙◌, true, false, refl, sym, subst, inl, inr, rules, UserId, Shown}
+use Rattle.server_loop.proofs.Vocabulary.{State, peer_at, state_of, Stay}
 use Rattle.server_steps.specs.Typing.{user_at}
 use Rattle.server_steps.specs.declared.progress.Progress.TheVariants as made
-use Rattle.server_users.specs.declared.user.Shown.{Shown}
-use Rattle.server_loop.specs.Submitting.{State, peer_at, state_of}
-use Rattle.server_loop.specs.Trying.{IsSpent, Stay}
+use Rattle.server_loop.specs.Trying.{IsSpent}
 use Rattle.server_loop.specs.Typing.{JudgesFor}
 use Rattle.server_loop.proofs.Counting.{begun, stayed}
 use Rattle.server_loop.proofs.Keys.{match_none, match_some}

@@ -1,13 +1,10 @@
-use Rattle.std.proofs.Common.{◌≡◌, ◌∙◌, ◌||◌, ℕ, Bool, List, ap, subst}
+use Rattle.server_loop.proofs.Vocabulary.{◌≡◌, ◌∙◌, ◌||◌, ℕ, Bool, List, ap, subst, changed, Connections, peer_at}
+use Rattle.server_loop.proofs.Vocabulary.{state_of, FaultsIf}
 use Rattle.session.specs.Trace.{Keys}
-use Rattle.server_connections.specs.Changing.{changed}
-use Rattle.server_connections.specs.declared.connections.Connections.{Connections}
 use Rattle.server_steps.specs.Settling.{is_judged, is_refused, progress_of, settled}
 use Rattle.server_steps.specs.Typing.{answered, typed_at}
 use Rattle.server_typing.specs.Typed.{Typed}
-use Rattle.server_loop.specs.Submitting.{peer_at, state_of}
 use Rattle.server_loop.specs.Trying.{Tries}
-use Rattle.server_loop.specs.Typing.{FaultsIf}
 use Rattle.server_loop.proofs.own.Loop.judge_for.Goals as goal
 
 pub returns : goal.returns

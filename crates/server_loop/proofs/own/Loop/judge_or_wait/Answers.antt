@@ -1,8 +1,7 @@
-use Rattle.std.proofs.Common.{◌≡◌, ◌∙◌, true, false, refl, ap, sym, rules}
-use Rattle.server_connections.specs.declared.connections.Connections.{Connections}
+use Rattle.server_loop.proofs.Vocabulary.{◌≡◌, ◌∙◌, true, false, refl, ap, sym, rules, Connections, State, peer_at}
+use Rattle.server_loop.proofs.Vocabulary.{state_of}
 use Rattle.server_steps.specs.Typing.{strayed, wants_size}
 use Rattle.server_steps.specs.declared.progress.Progress.TheVariants as made
-use Rattle.server_loop.specs.Submitting.{State, peer_at, state_of}
 use Rattle.server_loop.specs.Typing.{Judges, JudgesUnlessFull}
 use Rattle.server_loop.proofs.Telling.{if_false, if_true}
 use Rattle.server_loop.proofs.own.Loop.judge_or_wait.Goals as goal

@@ -1,13 +1,7 @@
-use Rattle.std.proofs.Common.{◌≡◌, ◌∙◌, ap, subst}
+use Rattle.server_loop.proofs.Vocabulary.{◌≡◌, ◌∙◌, ap, subst, changed, Connections, Role, Guest, Tells, State}
+use Rattle.server_loop.proofs.Vocabulary.{state_of, Loop}
 use Rattle.attach_proto.specs.declared.message.Message.TheVariants.{Welcome}
-use Rattle.server_connections.specs.Changing.{changed}
-use Rattle.server_connections.specs.declared.connections.Connections.{Connections}
-use Rattle.server_connections.specs.declared.peer.Role.{Role}
-use Rattle.server_seat.specs.declared.news.Guest.{Guest}
 use Rattle.server_steps.specs.Meaning.{guest_of, joined, role_of}
-use Rattle.server_loop.specs.Beginning.{Tells}
-use Rattle.server_loop.specs.Submitting.{State, state_of}
-use Rattle.server_loop.specs.declared.own.Loop.{Loop}
 use Rattle.server_loop.proofs.own.Loop.let_in.Goals as goal
 
 pub returns : goal.returns

@@ -1,8 +1,6 @@
-use Rattle.std.proofs.Common.{ap, arith, inl, inr, refl, subst}
+use Rattle.server_loop.proofs.Vocabulary.{ap, arith, inl, inr, refl, subst, State, state_of, Loop}
 use Rattle.server_steps.specs.Sending.{WritesAt}
 use Rattle.server_loop.specs.Leaving.{Loses}
-use Rattle.server_loop.specs.Submitting.{State, state_of}
-use Rattle.server_loop.specs.declared.own.Loop.{Loop}
 use Rattle.server_loop.proofs.own.Loop.let_oldest_go.Goals as goal
 
 pub returns-in_default : goal.returns-in_default

@@ -1,8 +1,5 @@
-use Rattle.std.proofs.Common.{◌≡◌, ◌∙◌, Bool, true, false, sym, subst, rules}
-use Rattle.acl.specs.declared.user_id.UserId.{UserId}
-use Rattle.server_connections.specs.declared.connections.Connections.{Connections}
-use Rattle.server_loop.specs.Submitting.{state_of}
-use Rattle.server_loop.specs.Typing.{MustWait}
+use Rattle.server_loop.proofs.Vocabulary.{◌≡◌, ◌∙◌, Bool, true, false, sym, subst, rules, UserId, Connections, state_of}
+use Rattle.server_loop.proofs.Vocabulary.{MustWait}
 use Rattle.server_loop.proofs.Keys.{forbidden, goes_on, held_on, unasked, waiting}
 use Rattle.server_loop.proofs.own.Loop.must_wait.Goals as goal
 

@@ -1,7 +1,5 @@
-use Rattle.std.proofs.Common.{Some, None, refl, subst}
-use Rattle.server_connections.specs.declared.peer.Role.{Role}
+use Rattle.server_loop.proofs.Vocabulary.{Some, None, refl, subst, Role, state_of}
 use Rattle.server_loop.specs.Serving.{Obeys}
-use Rattle.server_loop.specs.Submitting.{state_of}
 use Rattle.server_loop.specs.Typing.{millis_of}
 use Rattle.server_loop.proofs.own.Loop.obey_first.Goals as goal
 

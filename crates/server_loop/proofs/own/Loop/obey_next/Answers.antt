@@ -1,6 +1,4 @@
-use Rattle.std.proofs.Common.{refl, ap}
-use Rattle.server_connections.specs.declared.connections.Connections.{Connections}
-use Rattle.server_loop.specs.Submitting.{state_of}
+use Rattle.server_loop.proofs.Vocabulary.{refl, ap, Connections, state_of}
 use Rattle.server_loop.proofs.own.Loop.obey_next.Goals as goal
 
 pub returns-in_default : goal.returns-in_default

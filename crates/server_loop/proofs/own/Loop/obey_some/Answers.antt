@@ -1,7 +1,5 @@
-use Rattle.std.proofs.Common.{Bool, ap, not, subst}
+use Rattle.server_loop.proofs.Vocabulary.{Bool, ap, not, subst, state_of, FaultsIf}
 use Rattle.server_loop.specs.Serving.{with_much}
-use Rattle.server_loop.specs.Submitting.{state_of}
-use Rattle.server_loop.specs.Typing.{FaultsIf}
 use Rattle.server_loop.proofs.own.Loop.obey_some.Goals as goal
 
 pub returns : goal.returns

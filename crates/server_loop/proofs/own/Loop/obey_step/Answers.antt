@@ -1,6 +1,4 @@
-use Rattle.std.proofs.Common.{ap, inr}
-use Rattle.server_connections.specs.declared.connections.Connections.{Connections}
-use Rattle.server_loop.specs.Submitting.{state_of}
+use Rattle.server_loop.proofs.Vocabulary.{ap, inr, Connections, state_of}
 use Rattle.server_loop.proofs.own.Loop.obey_step.Goals as goal
 
 pub returns : goal.returns

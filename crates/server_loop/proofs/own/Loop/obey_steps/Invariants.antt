@@ -1,7 +1,4 @@
-use Rattle.std.proofs.Common.{◌-◌}
-use Rattle.server_loop.specs.Serving.{Steps}
-use Rattle.server_loop.specs.Submitting.{state_of}
-use Rattle.server_loop.specs.Walking.{Repeats}
+use Rattle.server_loop.proofs.Vocabulary.{◌-◌, Steps, state_of, Repeats}
 use Rattle.server_loop.proofs.own.Loop.obey_steps.Given as goal
 
 -- whatever comes of the other ones, it comes of all

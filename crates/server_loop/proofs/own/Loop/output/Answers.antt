@@ -1,5 +1,4 @@
-use Rattle.std.proofs.Common.{◌∙◌, ◌-◌, ℕ, ap}
-use Rattle.server_loop.specs.Submitting.{state_of}
+use Rattle.server_loop.proofs.Vocabulary.{◌∙◌, ◌-◌, ℕ, ap, state_of}
 use Rattle.server_loop.proofs.own.Loop.output.Goals as goal
 
 pub returns-then-note_done-clause-step : goal.returns-then-note_done-clause-step

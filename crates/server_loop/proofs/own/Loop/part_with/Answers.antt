@@ -1,10 +1,4 @@
-use Rattle.std.proofs.Common.{◌∙◌, Option, ap, sym, subst}
-use Rattle.std.specs.Prelude.{IfSome}
-use Rattle.attach_proto.specs.declared.why.Why.{Why}
-use Rattle.server_connections.specs.declared.connections.Connections.{Connections}
-use Rattle.server_seat.specs.declared.news.Guest.{Guest}
-use Rattle.server_loop.specs.Submitting.{state_of}
-use Rattle.server_loop.specs.declared.own.Loop.{Loop}
+use Rattle.server_loop.proofs.Vocabulary.{◌∙◌, Option, ap, sym, subst, IfSome, Why, Connections, Guest, state_of, Loop}
 use Rattle.server_loop.proofs.own.Loop.part_with.Goals as goal
 
 pub returns-in_default : goal.returns-in_default

@@ -1,6 +1,4 @@
-use Rattle.std.proofs.Common.{ap, refl}
-use Rattle.server_loop.specs.Submitting.{state_of}
-use Rattle.server_loop.specs.declared.own.Loop.{Loop}
+use Rattle.server_loop.proofs.Vocabulary.{ap, refl, state_of, Loop}
 use Rattle.server_loop.proofs.own.Loop.read_all.Goals as goal
 
 pub returns : goal.returns

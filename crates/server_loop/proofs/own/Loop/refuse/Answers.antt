@@ -1,7 +1,5 @@
-use Rattle.std.proofs.Common.{◌≡◌, ◌∙◌, ◌++◌, ℕ, List, ap, inl, subst}
+use Rattle.server_loop.proofs.Vocabulary.{◌≡◌, ◌∙◌, ◌++◌, ℕ, List, ap, inl, subst, TurnsAway, state_of}
 use Rattle.session.specs.Texts.{text_of}
-use Rattle.server_loop.specs.Beginning.{TurnsAway}
-use Rattle.server_loop.specs.Submitting.{state_of}
 use Rattle.server_loop.proofs.own.Loop.refuse.Goals as goal
 
 pub returns-in-Ok : goal.returns-in-Ok

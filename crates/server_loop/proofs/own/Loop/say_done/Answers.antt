@@ -1,9 +1,7 @@
-use Rattle.std.proofs.Common.{ℕ, List, Option, ap, sym, subst}
+use Rattle.server_loop.proofs.Vocabulary.{ℕ, List, Option, ap, sym, subst, Tells, state_of, Loop}
 use Rattle.attach_proto.specs.declared.message.Message.TheVariants.{Say}
 use Rattle.attach_proto.specs.declared.why.Why.TheVariants.{Detached}
-use Rattle.server_loop.specs.Beginning.{Lists, Tells}
-use Rattle.server_loop.specs.Submitting.{state_of}
-use Rattle.server_loop.specs.declared.own.Loop.{Loop}
+use Rattle.server_loop.specs.Beginning.{Lists}
 use Rattle.server_loop.proofs.Begun.{dismissed}
 use Rattle.server_loop.proofs.own.Loop.say_done.Goals as goal
 use Rattle.server_loop.proofs.own.Loop.say_done.Goals.{in-Some, in_default}

@@ -1,11 +1,10 @@
-use Rattle.std.proofs.Common.{◌≡◌, ◌∙◌, ℕ, List, true, codes, sym, subst, rules}
+use Rattle.server_loop.proofs.Vocabulary.{◌≡◌, ◌∙◌, ℕ, List, true, codes, sym, subst, rules, Connections, peer_at}
+use Rattle.server_loop.proofs.Vocabulary.{state_of, with_peer}
 use Rattle.attach_proto.specs.declared.message.Message.TheVariants as message
-use Rattle.server_connections.specs.declared.connections.Connections.{Connections}
 use Rattle.server_sending.specs.Frames.{PutsMessage}
 use Rattle.server_sending.specs.Written.{Waiting}
 use Rattle.server_steps.specs.Typing.{is_news_at, told_news}
 use Rattle.server_loop.specs.Handing.{SendsTo}
-use Rattle.server_loop.specs.Submitting.{peer_at, state_of, with_peer}
 use Rattle.server_loop.proofs.Telling.{if_true}
 use Rattle.server_loop.proofs.own.Loop.say_dropped.Goals as goal
 

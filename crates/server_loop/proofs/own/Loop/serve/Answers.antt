@@ -1,9 +1,6 @@
-use Rattle.std.proofs.Common.{◌≡◌, ◌∙◌, true, false, ap, sym, subst, rules}
-use Rattle.server_connections.specs.declared.connections.Connections.{Connections}
-use Rattle.server_steps.specs.Asking.{is_due_at, unheld}
-use Rattle.server_loop.specs.Serving.{ServesOnce}
-use Rattle.server_loop.specs.Submitting.{State, peer_at, state_of, with_peer}
-use Rattle.server_loop.specs.Walking.{Repeats}
+use Rattle.server_loop.proofs.Vocabulary.{◌≡◌, ◌∙◌, true, false, ap, sym, subst, rules, Connections, is_due_at}
+use Rattle.server_loop.proofs.Vocabulary.{ServesOnce, State, peer_at, state_of, with_peer, Repeats}
+use Rattle.server_steps.specs.Asking.{unheld}
 use Rattle.server_loop.proofs.Telling.{if_false, if_true}
 use Rattle.server_loop.proofs.own.Loop.serve.Goals as goal
 

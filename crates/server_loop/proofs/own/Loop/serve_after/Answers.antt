@@ -1,8 +1,7 @@
-use Rattle.std.proofs.Common.{◌≡◌, ◌∙◌, Bool, false, not, refl, sym, subst, rules}
+use Rattle.server_loop.proofs.Vocabulary.{◌≡◌, ◌∙◌, Bool, false, not, refl, sym, subst, rules, peer_at, state_of}
 use Rattle.server_connections.specs.declared.stream.Arrival.{Arrival}
 use Rattle.server_steps.specs.Asking.{has_asked_at}
 use Rattle.server_loop.specs.Serving.{ObeysSome, ServesAfter, with_much}
-use Rattle.server_loop.specs.Submitting.{peer_at, state_of}
 use Rattle.server_loop.proofs.Telling.{if_false}
 use Rattle.server_loop.proofs.own.Loop.serve_after.Goals as goal
 

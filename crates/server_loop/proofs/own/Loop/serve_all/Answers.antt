@@ -1,7 +1,6 @@
-use Rattle.std.proofs.Common.{◌≡◌, ℕ, Bool, true, false, is_some, nat_le, nat_lt, refl, rules}
+use Rattle.server_loop.proofs.Vocabulary.{◌≡◌, ℕ, Bool, true, false, is_some, refl, rules, state_of, Loop}
+use Rattle.std.proofs.Common.{nat_le, nat_lt}
 use Rattle.server_loop.specs.Serving.{ServesOther, ServesWindow, ServesWindows}
-use Rattle.server_loop.specs.Submitting.{state_of}
-use Rattle.server_loop.specs.declared.own.Loop.{Loop}
 use Rattle.server_loop.proofs.Passing.{passed}
 use Rattle.server_loop.proofs.Telling.{if_false, if_true}
 use Rattle.server_loop.proofs.own.Loop.serve_all.Goals as goal

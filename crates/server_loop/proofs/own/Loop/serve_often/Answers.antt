@@ -1,6 +1,4 @@
-use Rattle.std.proofs.Common.{◌≡◌, Bool, true, false, subst, arith, rules}
-use Rattle.server_loop.specs.Serving.{ServesOnce}
-use Rattle.server_loop.specs.Submitting.{state_of}
+use Rattle.server_loop.proofs.Vocabulary.{◌≡◌, Bool, true, false, subst, arith, rules, ServesOnce, state_of}
 use Rattle.server_loop.proofs.Stepping.{all_steps, last_step, stepped}
 use Rattle.server_loop.proofs.own.Loop.serve_often.Goals as goal
 

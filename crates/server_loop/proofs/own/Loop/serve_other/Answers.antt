@@ -1,7 +1,5 @@
-use Rattle.std.proofs.Common.{◌≡◌, ◌∙◌, true, false, refl, sym, rules}
+use Rattle.server_loop.proofs.Vocabulary.{◌≡◌, ◌∙◌, true, false, refl, sym, rules, Serves, peer_at, state_of}
 use Rattle.server_steps.specs.Asking.{is_window_at}
-use Rattle.server_loop.specs.Serving.{Serves}
-use Rattle.server_loop.specs.Submitting.{peer_at, state_of}
 use Rattle.server_loop.proofs.Telling.{if_false, if_true}
 use Rattle.server_loop.proofs.own.Loop.serve_other.Goals as goal
 

@@ -1,9 +1,6 @@
-use Rattle.std.proofs.Common.{◌≡◌, ◌∙◌, ◌+◌, ℕ, true, false, ap, refl, sym, rules}
-use Rattle.std.specs.Prelude.{min}
-use Rattle.server_steps.specs.Asking.{is_due_at, prints_at}
-use Rattle.server_loop.specs.Leaving.{IfBool}
-use Rattle.server_loop.specs.Serving.{Serves}
-use Rattle.server_loop.specs.Submitting.{State, peer_at, state_of}
+use Rattle.server_loop.proofs.Vocabulary.{◌≡◌, ◌∙◌, ◌+◌, ℕ, true, false, ap, refl, sym, rules, min, is_due_at, IfBool}
+use Rattle.server_loop.proofs.Vocabulary.{Serves, State, peer_at, state_of}
+use Rattle.server_steps.specs.Asking.{prints_at}
 use Rattle.server_loop.proofs.Telling.{if_false, if_true}
 use Rattle.server_loop.proofs.own.Loop.serve_window.Goals as goal
 

@@ -1,5 +1,4 @@
-use Rattle.std.proofs.Common.{refl}
-use Rattle.server_loop.specs.Submitting.{state_of}
+use Rattle.server_loop.proofs.Vocabulary.{refl, state_of}
 use Rattle.server_loop.proofs.own.Loop.settle.Goals as goal
 
 pub returns : goal.returns

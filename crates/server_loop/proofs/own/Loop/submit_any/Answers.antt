@@ -1,7 +1,6 @@
-use Rattle.std.proofs.Common.{◌≡◌, ◌∙◌, true, ap, sym, subst}
-use Rattle.session.specs.Trace.{happening}
+use Rattle.server_loop.proofs.Vocabulary.{◌≡◌, ◌∙◌, true, ap, sym, subst, happening, State, state_of}
 use Rattle.server_steps.specs.declared.submitted.Submitted.{Submitted}
-use Rattle.server_loop.specs.Submitting.{State, after_step, end_by, state_of}
+use Rattle.server_loop.specs.Submitting.{after_step, end_by}
 use Rattle.server_loop.proofs.own.Loop.submit_any.Goals as goal
 
 pub returns : goal.returns

@@ -1,6 +1,5 @@
-use Rattle.std.proofs.Common.{◌≡◌, true, false, refl, rules}
+use Rattle.server_loop.proofs.Vocabulary.{◌≡◌, true, false, refl, rules, State, state_of}
 use Rattle.server_loop.specs.Drawing.{AreTold}
-use Rattle.server_loop.specs.Submitting.{State, state_of}
 use Rattle.server_loop.proofs.Telling.{if_true}
 use Rattle.server_loop.proofs.own.Loop.tell_all.Goals as goal
 

@@ -1,8 +1,7 @@
-use Rattle.std.proofs.Common.{Option, ap, sym, subst}
+use Rattle.server_loop.proofs.Vocabulary.{Option, ap, sym, subst, state_of}
 use Rattle.session.specs.Trace.{Reply}
 use Rattle.server_seat.specs.declared.seat.ServerEnd.{ServerEnd}
 use Rattle.server_loop.specs.Beginning.{Ends}
-use Rattle.server_loop.specs.Submitting.{state_of}
 use Rattle.server_loop.proofs.own.Loop.tell_answer.Goals as goal
 
 pub returns-in-Ok : goal.returns-in-Ok

@@ -1,11 +1,7 @@
-use Rattle.std.proofs.Common.{Bool, Err, Ok, true, false, ap, refl, subst, sym}
-use Rattle.session.specs.Trace.{happening}
-use Rattle.server_connections.specs.declared.connections.Connections.{Connections}
-use Rattle.server_seat.specs.declared.seat.SeatFault.{SeatFault}
+use Rattle.server_loop.proofs.Vocabulary.{Bool, Err, Ok, true, false, ap, refl, subst, sym, happening, Connections}
+use Rattle.server_loop.proofs.Vocabulary.{SeatFault, Submits, state_of, Loop}
 use Rattle.server_seat.specs.declared.seat.SeatFault.TheVariants as fault
 use Rattle.server_loop.specs.Leaving.{LeavesBy}
-use Rattle.server_loop.specs.Submitting.{Submits, state_of}
-use Rattle.server_loop.specs.declared.own.Loop.{Loop}
 use Rattle.server_loop.proofs.own.Loop.tell_by.Goals as goal
 use Rattle.server_loop.proofs.own.Loop.tell_by.Goals.{in-Ok, in-Err-Over, in-Err-NoMemory}
 

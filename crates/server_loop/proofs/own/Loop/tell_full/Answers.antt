@@ -1,7 +1,4 @@
-use Rattle.std.proofs.Common.{◌∙◌, ℕ, Bool, Option, ap, sym, subst}
-use Rattle.std.specs.Prelude.{IfSome}
-use Rattle.server_connections.specs.declared.connections.Connections.{Connections}
-use Rattle.server_loop.specs.Submitting.{state_of}
+use Rattle.server_loop.proofs.Vocabulary.{◌∙◌, ℕ, Bool, Option, ap, sym, subst, IfSome, Connections, state_of}
 use Rattle.server_loop.proofs.own.Loop.tell_full.Goals as goal
 
 pub returns-in_default : goal.returns-in_default

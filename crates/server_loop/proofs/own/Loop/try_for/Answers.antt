@@ -1,10 +1,8 @@
-use Rattle.std.proofs.Common.{◌≡◌, ◌∙◌, ◌+◌, ◌*◌, ◌/◌, ℕ, Bool, Err, Ok, true, false, ap, inl, inr, min, refl, subst, rules}
-use Rattle.std.specs.Duration.{as_nanos}
-use Rattle.acl.specs.declared.user_id.UserId.{UserId}
-use Rattle.session.specs.Trace.{happening}
+use Rattle.server_loop.proofs.Vocabulary.{◌≡◌, ◌∙◌, ◌+◌, ◌/◌, ℕ, Bool, Err, Ok, true, false, ap, inl, inr, min, refl}
+use Rattle.server_loop.proofs.Vocabulary.{subst, rules, as_nanos, UserId, happening, state_of, cost_of}
+use Rattle.std.proofs.Common.{◌*◌}
 use Rattle.server_steps.specs.Submitted.{entries_of}
-use Rattle.server_loop.specs.Submitting.{state_of}
-use Rattle.server_loop.specs.Trying.{HasToWait, cost_of}
+use Rattle.server_loop.specs.Trying.{HasToWait}
 use Rattle.server_loop.proofs.Counting.{begun, counted, stayed, tried}
 use Rattle.server_loop.proofs.own.Loop.try_for.Goals as goal
 

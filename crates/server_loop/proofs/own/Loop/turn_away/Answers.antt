@@ -1,5 +1,4 @@
-use Rattle.attach_proto.specs.declared.why.Why.TheVariants.{Fault}
-use Rattle.server_loop.specs.Submitting.{state_of}
+use Rattle.server_loop.proofs.Vocabulary.{Fault, state_of}
 use Rattle.server_loop.proofs.Begun.{dismissed}
 use Rattle.server_loop.proofs.own.Loop.turn_away.Goals as goal
 

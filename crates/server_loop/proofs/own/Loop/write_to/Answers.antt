@@ -1,6 +1,4 @@
-use Rattle.std.proofs.Common.{◌≡◌, Bool, true, false, refl, rules}
-use Rattle.server_loop.specs.Leaving.{TellsLeaving}
-use Rattle.server_loop.specs.Submitting.{State, state_of}
+use Rattle.server_loop.proofs.Vocabulary.{◌≡◌, Bool, true, false, refl, rules, TellsLeaving, State, state_of}
 use Rattle.server_loop.proofs.Telling.{if_false, if_true}
 use Rattle.server_loop.proofs.own.Loop.write_to.Goals as goal
 

@@ -1,10 +1,5 @@
-use Rattle.std.proofs.Common.{◌≡◌, Some, List, length, sym, ◌∙◌, ap, arith}
-use Rattle.std.specs.Prelude.{unwrap_or}
-use Rattle.std.specs.List.{position}
-use Rattle.acl.proofs.StandsForLemmas.{same_user-refl}
-use Rattle.server_users.specs.declared.allowances.Account.{Account}
-use Rattle.server_users.specs.Allowances.{fresh}
-use Rattle.server_users.specs.Accounts.{account_of}
+use Rattle.server_users.proofs.Vocabulary.{◌≡◌, Some, List, length, sym, ◌∙◌, ap, arith, unwrap_or, position}
+use Rattle.server_users.proofs.Vocabulary.{same_user-refl, Account, fresh, account_of}
 use Rattle.server_users.proofs.Places.{found, lost, pushed_is, is_of, no_account, some_account, push_own, push_other}
 use Rattle.server_users.proofs.Places.{other_user, on_err}
 use Rattle.server_users.proofs.allowances.Allowances.open.Goals as goal

@@ -1,6 +1,5 @@
-use Rattle.std.proofs.Common.{Some, Option, ap, subst, ◌∙◌}
-use Rattle.std.specs.Prelude.{unwrap_or}
-use Rattle.server_users.specs.Allowances.{MayPay, Purse, fresh, paid, stands_at}
+use Rattle.server_users.proofs.Vocabulary.{Some, Option, ap, subst, ◌∙◌, unwrap_or, MayPay, Purse, fresh, stands_at}
+use Rattle.server_users.specs.Allowances.{paid}
 use Rattle.server_users.proofs.Paying.{own_is, other_is, held_is, may_fresh, not_true, unpaid_is, waits_is}
 use Rattle.server_users.proofs.allowances.Allowances.pay.Goals as goal
 

@@ -1,7 +1,6 @@
-use Rattle.std.proofs.Common.{ap, sym, ◌∙◌}
-use Rattle.std.specs.List.{position}
+use Rattle.server_users.proofs.Vocabulary.{ap, sym, ◌∙◌, position, IsFirst}
 use Rattle.server_users.specs.Allowances.{settled}
-use Rattle.server_users.specs.Accounts.{judged, IsFirst}
+use Rattle.server_users.specs.Accounts.{judged}
 use Rattle.server_users.proofs.Places.{found, lost, is_of, no_account}
 use Rattle.server_users.proofs.Paying.{own_is, other_is, found_is, settled_is, none_settled}
 use Rattle.server_users.proofs.allowances.Allowances.settle.Goals as goal

@@ -1,7 +1,4 @@
-use Rattle.std.proofs.Common.{ap, sym, ◌∙◌}
-use Rattle.std.specs.Prelude.{option_map}
-use Rattle.std.specs.List.{position}
-use Rattle.std.specs.Duration.{as_nanos}
+use Rattle.server_users.proofs.Vocabulary.{ap, sym, ◌∙◌, option_map, position, as_nanos}
 use Rattle.server_users.specs.Rationed.{later_end}
 use Rattle.server_users.proofs.Places.{found, lost}
 use Rattle.server_users.proofs.Rationing.{is_for, no_ration, counted, uncounted}

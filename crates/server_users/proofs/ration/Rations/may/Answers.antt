@@ -1,12 +1,7 @@
-use Rattle.std.proofs.Common.{ap, sym, ◌∙◌, Some}
-use Rattle.std.specs.Prelude.{unwrap_or}
-use Rattle.std.specs.List.{position}
-use Rattle.std.specs.Duration.{as_nanos}
-use Rattle.acl.proofs.StandsForLemmas.{same_user-refl}
-use Rattle.server_users.specs.Rationed.{end_of}
+use Rattle.server_users.proofs.Vocabulary.{ap, sym, ◌∙◌, Some, unwrap_or, position, as_nanos, same_user-refl, end_of}
 use Rattle.server_users.proofs.Places.{found, lost, other_user}
-use Rattle.server_users.proofs.Rationing.{is_for, no_ration, may_cause, may_not, not_none, stays}
-use Rattle.server_users.proofs.Rationing.{may_first, none_waits, push_own, push_other}
+use Rattle.server_users.proofs.Rationing.{is_for, no_ration, may_cause, may_not, not_none, stays, may_first, none_waits}
+use Rattle.server_users.proofs.Rationing.{push_own, push_other}
 use Rattle.server_users.proofs.ration.Rations.may.Goals as goal
 
 pub returns-in-Some-clause-may : goal.returns-in-Some-clause-may

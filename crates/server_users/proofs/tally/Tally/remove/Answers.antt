@@ -1,6 +1,4 @@
-use Rattle.std.proofs.Common.{sym, ◌∙◌, ap}
-use Rattle.std.specs.List.{position}
-use Rattle.acl.specs.Same.{same_user}
+use Rattle.server_users.proofs.Vocabulary.{sym, ◌∙◌, ap, position, same_user}
 use Rattle.server_users.proofs.Places.{found, lost, without_first, without_none}
 use Rattle.server_users.proofs.tally.Tally.remove.Goals as goal
 

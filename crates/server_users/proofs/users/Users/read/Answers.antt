@@ -1,9 +1,8 @@
-use Rattle.std.proofs.Common.{◌≡◌, ◌∙◌, ◌⊎◌, ◌<◌, ◌+◌, ◌++◌, ◌∷◌, drop, inl, inr, [], subst, sym, length, vec_len}
-use Rattle.std.proofs.Common.{arith}
-use Rattle.std.proofs.lemmas.List.{length-map}
+use Rattle.server_users.proofs.Vocabulary.{◌≡◌, ◌∙◌, ◌⊎◌, ◌<◌, ◌+◌, ◌++◌, ◌∷◌, inl, inr, [], subst, sym, length, arith}
+use Rattle.server_users.proofs.Vocabulary.{length-map, entry_of, entries_of}
+use Rattle.std.proofs.Common.{drop, vec_len}
 use Rattle.std.proofs.lemmas.Bool.{eqb-true, eqb-false}
 use Rattle.server_users.specs.Entries.{BreaksAt}
-use Rattle.server_users.specs.Stands.{entry_of, entries_of}
 use Rattle.server_users.proofs.Known.{was_seen, not_seen, push_seen}
 use Rattle.server_users.proofs.Lines.{HaveRead, push, push_entry, stop_twice, no_users, some_of}
 use Rattle.server_users.proofs.users.Users.read.Goals as goal

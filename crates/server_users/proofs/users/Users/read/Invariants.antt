@@ -1,5 +1,4 @@
-use Rattle.std.proofs.Common.{length}
-use Rattle.server_users.specs.Stands.{entries_of}
+use Rattle.server_users.proofs.Vocabulary.{length, entries_of}
 use Rattle.server_users.proofs.Known.{HasSeen}
 use Rattle.server_users.proofs.Lines.{HaveRead}
 use Rattle.server_users.proofs.users.Users.read.Given as goal

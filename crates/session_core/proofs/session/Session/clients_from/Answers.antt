@@ -1,6 +1,5 @@
-use Rattle.std.proofs.Common.{sym, ap, ◌∙◌}
+use Rattle.session_core.proofs.Vocabulary.{sym, ap, ◌∙◌, least_from}
 use Rattle.session_state.specs.declared.client.Client.{Client}
-use Rattle.session_core.specs.Least.{least_from}
 use Rattle.session_core.proofs.Lowest.{serials_are, least_found, least_lost, at_least}
 use Rattle.session_core.proofs.session.Session.clients_from.Goals as goal
 

@@ -1,8 +1,4 @@
-use Rattle.std.proofs.Common.{List, ℕ, sym, subst}
-use Rattle.session_model.specs.Tables.{Tables}
-use Rattle.session_model.specs.Trace.{begun}
-use Rattle.session_model.specs.Run.{tables_of}
-use Rattle.session_core.specs.Drawn.{AreDrawn}
+use Rattle.session_core.proofs.Vocabulary.{List, ℕ, sym, subst, Tables, begun, tables_of, AreDrawn}
 use Rattle.session_core.proofs.Left.{none_shared}
 use Rattle.session_core.proofs.session.Session.of.Goals as goal
 

@@ -1,9 +1,7 @@
-use Rattle.std.proofs.Common.{refl, sym, ap, ◌∙◌, arith, ◌∷◌, [], ◌++◌, length}
-use Rattle.std.proofs.lemmas.List.{append-nil, length-map}
-use Rattle.std.specs.Prelude.{is_ok, map}
+use Rattle.session_core.proofs.Vocabulary.{refl, sym, ap, ◌∙◌, arith, ◌∷◌, [], ◌++◌, length, append-nil, is_ok, map}
+use Rattle.session_core.proofs.Vocabulary.{happening, if_true}
+use Rattle.std.proofs.lemmas.List.{length-map}
 use Rattle.session_model.specs.declared.event.Event.TheVariants.{Attach}
-use Rattle.session_model.specs.Trace.{happening}
-use Rattle.windows_model.proofs.Serials.{if_true}
 use Rattle.session_core.proofs.Runs.{promised, then_steps, at_end, without_none, stops_in, came_to, rest_at}
 use Rattle.session_core.proofs.session.Session.run.Goals as goal
 

@@ -1,6 +1,4 @@
-use Rattle.std.proofs.Common.{drop, map}
-use Rattle.session_model.specs.Trace.{happening}
-use Rattle.session_core.specs.Headline.{SomeSteps}
+use Rattle.session_core.proofs.Vocabulary.{drop, map, happening, SomeSteps}
 use Rattle.session_core.proofs.session.Session.run.Given as goal
 
 abbrev pub invariant-loop-taken : goal.invariant-loop-taken

@@ -1,12 +1,7 @@
-use Rattle.std.proofs.Common.{◌≡◌, [], true, ap, sym, subst, ◌∙◌, ◌++◌, Vec, Global, append-nil}
-use Rattle.session_model.specs.declared.event.Effect.{Effect}
-use Rattle.session_model.specs.Trace.{EventValue, happening}
-use Rattle.session_model.specs.Run.{tables_of}
-use Rattle.session_state.specs.declared.state.State.{State}
-use Rattle.session_state.specs.declared.state.Step.{Step}
-use Rattle.session_core.specs.Drawn.{draws_one_of}
-use Rattle.session_core.specs.Taking.{TakenAs, StayShared}
-use Rattle.session_core.specs.declared.session.Session.{Session}
+use Rattle.session_core.proofs.Vocabulary.{◌≡◌, [], true, ap, sym, subst, ◌∙◌, ◌++◌, append-nil, Effect, EventValue}
+use Rattle.session_core.proofs.Vocabulary.{happening, tables_of, State, Step, draws_one_of, TakenAs, StayShared}
+use Rattle.session_core.proofs.Vocabulary.{Session}
+use Rattle.std.proofs.Common.{Vec, Global}
 use Rattle.session_core.proofs.Fitting.{run_is_fit}
 use Rattle.session_core.proofs.Runs.{step_taken, draw_taken}
 use Rattle.session_core.proofs.session.Session.step.Goals as goal

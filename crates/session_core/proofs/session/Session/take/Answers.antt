@@ -1,5 +1,4 @@
-use Rattle.std.proofs.Common.{[], sym, ◌∙◌}
-use Rattle.session_model.specs.Trace.{happening}
+use Rattle.session_core.proofs.Vocabulary.{[], sym, ◌∙◌, happening}
 use Rattle.session_core.proofs.Runs.{one_step, whole_but_keys}
 use Rattle.session_core.proofs.session.Session.take.Goals as goal
 

@@ -1,6 +1,4 @@
-use Rattle.std.proofs.Common.{◌∷◌, [], ◌-◌, ◌≤◌, length, drop}
-use Rattle.session_model.specs.Trace.{Keys}
-use Rattle.session_core.specs.Headline.{SomeSteps}
+use Rattle.session_core.proofs.Vocabulary.{◌∷◌, [], ◌-◌, ◌≤◌, length, drop, Keys, SomeSteps}
 use Rattle.session_core.proofs.session.Session.take_keys.Given as goal
 
 abbrev pub invariant-steps : goal.invariant-steps

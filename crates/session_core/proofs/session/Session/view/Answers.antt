@@ -1,6 +1,4 @@
-use Rattle.std.proofs.Common.{refl}
-use Rattle.session_model.specs.Tables.{client_at}
-use Rattle.session_model.specs.Run.{tables_of}
+use Rattle.session_core.proofs.Vocabulary.{refl, client_at, tables_of}
 use Rattle.session_core.proofs.Fitting.{run_is_fit}
 use Rattle.session_core.proofs.Seeing.{sees}
 use Rattle.session_core.proofs.session.Session.view.Goals as goal

@@ -1,5 +1,4 @@
-use Rattle.std.proofs.Common.{◌≡◌, ◌≤◌, length, map, take}
-use Rattle.session_events.specs.Leaving.{focus_now}
+use Rattle.session_events.proofs.Vocabulary.{◌≡◌, ◌≤◌, length, map, take, focus_now}
 use Rattle.session_events.proofs.focuses.Focuses.of.Given as goal
 
 abbrev pub invariant-loop-client : goal.invariant-loop-client

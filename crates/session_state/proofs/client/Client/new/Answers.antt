@@ -1,6 +1,4 @@
-use Rattle.std.proofs.Common.{refl, None}
-use Rattle.session_model.specs.declared.event.StatusMessage.TheVariants.{Silence}
-use Rattle.session_state.specs.declared.client.Client.{Client}
+use Rattle.session_state.proofs.Vocabulary.{refl, None, Silence, Client}
 use Rattle.session_state.proofs.Keeping.{new_stands}
 use Rattle.session_state.proofs.client.Client.new.Goals as goal
 

@@ -1,10 +1,7 @@
-use Rattle.std.proofs.Common.{◌++◌, ◌∷◌, [], ◌∙◌, ap, sym, subst, List}
+use Rattle.session_state.proofs.Vocabulary.{◌++◌, ◌∷◌, [], ◌∙◌, ap, sym, subst, List, on_ok, Client, attached}
+use Rattle.session_state.proofs.Vocabulary.{ClientStands, AreClients}
 use Rattle.session_model.specs.Tables as model
-use Rattle.windows_model.proofs.Serials.{on_ok}
 use Rattle.windows_model.proofs.Matching.{push_match}
-use Rattle.session_state.specs.declared.client.Client.{Client}
-use Rattle.session_model.specs.Comings.{attached}
-use Rattle.session_state.specs.Clients.{ClientStands, AreClients}
 use Rattle.session_state.proofs.clients.Clients.attach.Goals as goal
 
 pub returns-clause-ok : goal.returns-clause-ok

@@ -1,7 +1,5 @@
-use Rattle.std.proofs.Common.{not, true, false, refl, rules}
-use Rattle.std.proofs.lemmas.Fn.{filter_same}
+use Rattle.session_state.proofs.Vocabulary.{not, true, false, refl, rules, filter_same, Client}
 use Rattle.session_model.specs.Tables as model
-use Rattle.session_state.specs.declared.client.Client.{Client}
 use Rattle.session_state.proofs.Changing.{kept}
 use Rattle.session_state.proofs.clients.Clients.clear.Goals as goal
 

@@ -1,8 +1,5 @@
-use Rattle.std.proofs.Common.{◌<◌, length, get_or, arith}
-use Rattle.std.proofs.lemmas.List.{get_or_default}
-use Rattle.std.proofs.lemmas.List.Edits.{map_over_more}
-use Rattle.session_model.specs.Deeds.{without_window}
-use Rattle.session_state.specs.Moves.{without}
+use Rattle.session_state.proofs.Vocabulary.{◌<◌, length, get_or, arith, get_or_default, map_over_more, without_window}
+use Rattle.session_state.proofs.Vocabulary.{without}
 use Rattle.session_state.proofs.Changing.{all_over}
 use Rattle.session_state.proofs.Keeping.{keeps_without}
 use Rattle.session_state.proofs.clients.Clients.close_window.Goals as goal

@@ -1,5 +1,4 @@
-use Rattle.std.proofs.Common.{◌≡◌, ◌++◌, map, take, drop}
-use Rattle.session_state.specs.Moves.{without}
+use Rattle.session_state.proofs.Vocabulary.{◌≡◌, ◌++◌, map, take, drop, without}
 use Rattle.session_state.proofs.clients.Clients.close_window.Given as goal
 
 abbrev pub invariant-loop-client : goal.invariant-loop-client

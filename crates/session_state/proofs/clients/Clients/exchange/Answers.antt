@@ -1,7 +1,4 @@
-use Rattle.std.proofs.Common.{◌≡◌, ◌∙◌, ap, subst, refl}
-use Rattle.session_model.specs.Tables.{with_row}
-use Rattle.session_model.specs.Answering.{reading}
-use Rattle.session_state.specs.declared.client.Client.{Client}
+use Rattle.session_state.proofs.Vocabulary.{◌≡◌, ◌∙◌, ap, subst, refl, with_row, reading, Client}
 use Rattle.session_state.specs.Exchanges.{Exchanged}
 use Rattle.session_state.proofs.Changing.{changed_row, no_row, lent_at, none_lent, serial_of}
 use Rattle.session_state.proofs.Exchanging.{keeps_read, stood, back, put_together}

@@ -1,7 +1,5 @@
-use Rattle.std.proofs.Common.{◌∙◌, ap}
-use Rattle.redraw.specs.Shadow.{Knowledge}
-use Rattle.windows_model.proofs.Serials.{on_ok, on_error}
-use Rattle.session_state.specs.declared.client.Client.{Client}
+use Rattle.session_state.proofs.Vocabulary.{◌∙◌, ap, Knowledge, on_ok, Client}
+use Rattle.windows_model.proofs.Serials.{on_error}
 use Rattle.session_state.proofs.Changing.{lent_back}
 use Rattle.session_state.proofs.Drawing.{drawn_row, nobody_drawn}
 use Rattle.session_state.proofs.clients.Clients.follow.Goals as goal

@@ -1,9 +1,5 @@
-use Rattle.std.proofs.Common.{◌∙◌, ap, sym, subst, List}
-use Rattle.session_model.specs.Tables.{row_of}
-use Rattle.windows_model.specs.Matched.{BothOrNone}
-use Rattle.windows_model.proofs.Matching.{rows_match}
-use Rattle.session_state.specs.declared.client.Client.{Client}
-use Rattle.session_state.specs.Clients.{ClientStands}
+use Rattle.session_state.proofs.Vocabulary.{◌∙◌, ap, sym, subst, List, row_of, BothOrNone, rows_match, Client}
+use Rattle.session_state.proofs.Vocabulary.{ClientStands}
 use Rattle.session_state.proofs.Changing.{model_serial, serial_of, serials}
 use Rattle.session_state.proofs.clients.Clients.get.Goals as goal
 

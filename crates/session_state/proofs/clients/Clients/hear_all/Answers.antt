@@ -1,9 +1,5 @@
-use Rattle.std.proofs.Common.{◌≡◌, ◌<◌, ◌+◌, ◌-◌, ◌∙◌, length, get_or, replicate, arith, ap, sym, refl}
-use Rattle.std.proofs.lemmas.List.{get_or_default}
-use Rattle.std.proofs.lemmas.List.Edits.{map_over_more}
-use Rattle.session_model.specs.declared.event.StatusMessage.TheVariants.{Text}
-use Rattle.session_model.specs.Deeds.{hearing}
-use Rattle.session_state.specs.Moves.{heard}
+use Rattle.session_state.proofs.Vocabulary.{◌≡◌, ◌<◌, ◌+◌, ◌-◌, ◌∙◌, length, get_or, replicate, arith, ap, sym, refl}
+use Rattle.session_state.proofs.Vocabulary.{get_or_default, map_over_more, Text, hearing, heard}
 use Rattle.session_state.proofs.Changing.{all_over}
 use Rattle.session_state.proofs.Keeping.{keeps_heard}
 use Rattle.session_state.proofs.clients.Clients.hear_all.Goals as goal

@@ -1,6 +1,5 @@
-use Rattle.std.proofs.Common.{◌≡◌, ◌+◌, ◌-◌, ◌++◌, ℕ, List, map, take, drop, length, replicate}
-use Rattle.session_model.specs.declared.event.StatusMessage.TheVariants.{Text}
-use Rattle.session_state.specs.Moves.{heard}
+use Rattle.session_state.proofs.Vocabulary.{◌≡◌, ◌+◌, ◌-◌, ◌++◌, ℕ, List, map, take, drop, length, replicate, Text}
+use Rattle.session_state.proofs.Vocabulary.{heard}
 use Rattle.session_state.proofs.clients.Clients.hear_all.Given as goal
 
 abbrev pub invariant-loop-client : goal.invariant-loop-client

@@ -1,9 +1,5 @@
-use Rattle.std.proofs.Common.{◌≡◌, ◌∙◌, ap, subst, rules}
-use Rattle.std.specs.Fn.{FnOnceReturnsAtMut}
-use Rattle.regions.specs.Layouts.{Arrangement}
-use Rattle.session_model.specs.Tables.{with_row}
-use Rattle.session_state.specs.declared.client.Client.{Client}
-use Rattle.session_state.specs.Moves.{moved_to}
+use Rattle.session_state.proofs.Vocabulary.{◌≡◌, ◌∙◌, ap, subst, rules, FnOnceReturnsAtMut, Arrangement, with_row}
+use Rattle.session_state.proofs.Vocabulary.{Client, moved_to}
 use Rattle.session_state.proofs.Changing.{serial_of, lent_at, none_lent}
 use Rattle.session_state.proofs.clients.Clients.on_page.Goals as goal
 

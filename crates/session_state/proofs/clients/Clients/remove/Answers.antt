@@ -1,7 +1,5 @@
-use Rattle.std.proofs.Common.{ap, not}
-use Rattle.std.specs.Prelude.{◌==◌}
+use Rattle.session_state.proofs.Vocabulary.{ap, not, ◌==◌, Client}
 use Rattle.session_model.specs.Tables as model
-use Rattle.session_state.specs.declared.client.Client.{Client}
 use Rattle.session_state.proofs.Changing.{kept}
 use Rattle.session_state.proofs.clients.Clients.remove.Goals as goal
 

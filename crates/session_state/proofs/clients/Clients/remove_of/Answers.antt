@@ -1,10 +1,5 @@
-use Rattle.std.proofs.Common.{ap, not, rules}
-use Rattle.std.proofs.lemmas.Fn.{filter_same}
-use Rattle.acl.specs.declared.user_id.UserId.{UserId}
-use Rattle.acl.specs.Same.{same_user}
+use Rattle.session_state.proofs.Vocabulary.{ap, not, rules, filter_same, UserId, same_user, is_of, Client}
 use Rattle.session_model.specs.Tables as model
-use Rattle.session_model.specs.Deeds.{is_of}
-use Rattle.session_state.specs.declared.client.Client.{Client}
 use Rattle.session_state.proofs.Changing.{kept}
 use Rattle.session_state.proofs.clients.Clients.remove_of.Goals as goal
 

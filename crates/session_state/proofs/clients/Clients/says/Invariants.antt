@@ -1,5 +1,4 @@
-use Rattle.std.proofs.Common.{◌≡◌, map, take}
-use Rattle.session_state.specs.Moves.{said}
+use Rattle.session_state.proofs.Vocabulary.{◌≡◌, map, take, said}
 use Rattle.session_state.proofs.clients.Clients.says.Given as goal
 
 abbrev pub invariant-loop-client : goal.invariant-loop-client

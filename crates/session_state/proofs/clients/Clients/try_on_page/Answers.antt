@@ -1,10 +1,7 @@
-use Rattle.std.proofs.Common.{◌≡◌, ◌∙◌, ap, refl, subst, Ok, Err}
+use Rattle.session_state.proofs.Vocabulary.{◌≡◌, ◌∙◌, ap, refl, subst, FnOnceReturnsAtMut, Arrangement, with_row}
+use Rattle.session_state.proofs.Vocabulary.{Client, moved_to}
+use Rattle.std.proofs.Common.{Ok, Err}
 use Rattle.std.proofs.lemmas.Result.{err_from_is_err_and}
-use Rattle.std.specs.Fn.{FnOnceReturnsAtMut}
-use Rattle.regions.specs.Layouts.{Arrangement}
-use Rattle.session_model.specs.Tables.{with_row}
-use Rattle.session_state.specs.declared.client.Client.{Client}
-use Rattle.session_state.specs.Moves.{moved_to}
 use Rattle.session_state.proofs.Changing.{serial_of, lent_at}
 use Rattle.session_state.proofs.clients.Clients.try_on_page.Goals as goal
 

@@ -1,8 +1,4 @@
-use Rattle.std.proofs.Common.{refl, sym, subst, [], List}
-use Rattle.windows.specs.Standing.{StandFor}
-use Rattle.windows.specs.declared.window.Window.{Window}
-use Rattle.session_state.specs.Clients.{AreClients}
-use Rattle.session_state.specs.declared.client.Client.{Client}
+use Rattle.session_state.proofs.Vocabulary.{refl, sym, subst, [], List, StandFor, Window, AreClients, Client}
 use Rattle.session_state.proofs.state.State.new.Goals as goal
 
 pub returns : goal.returns

@@ -1,7 +1,4 @@
-use Rattle.std.proofs.Common.{◌≡◌, ◌∙◌, None, ap, false, refl, sym}
-use Rattle.web_client.specs.declared.client.SharedClient.{SharedClient}
-use Rattle.web_relay.specs.declared.streams.ReadOutcome.TheVariants.{End, More, Nothing}
-use Rattle.web_relay.specs.Tokens.{outcome}
+use Rattle.web_relay.proofs.Vocabulary.{◌≡◌, ◌∙◌, None, ap, false, refl, sym, SharedClient, End, More, Nothing, outcome}
 use Rattle.web_relay.proofs.Hearing.{nothing_heard, shared_heard}
 use Rattle.web_relay.proofs.hall.Hall.hear.Goals as goal
 

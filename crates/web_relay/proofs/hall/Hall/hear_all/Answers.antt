@@ -1,5 +1,4 @@
-use Rattle.std.proofs.Common.{arith, rules}
-use Rattle.web_relay.specs.Halls.{HallHears, IsHallToHear}
+use Rattle.web_relay.proofs.Vocabulary.{arith, rules, HallHears, IsHallToHear}
 use Rattle.web_relay.proofs.Steps.{all_done, stepped, stopped}
 use Rattle.web_relay.proofs.hall.Hall.hear_all.Goals as goal
 

@@ -1,7 +1,4 @@
-use Rattle.std.proofs.Common.{◌-◌}
-use Rattle.web_relay.specs.declared.hall.Hall.{Hall}
-use Rattle.web_relay.specs.Halls.{HallHears, IsHallToHear}
-use Rattle.web_relay.specs.Walking.{Repeats}
+use Rattle.web_relay.proofs.Vocabulary.{◌-◌, Hall, HallHears, IsHallToHear, Repeats}
 use Rattle.web_relay.proofs.hall.Hall.hear_all.Given as goal
 
 abbrev pub invariant-reads : goal.invariant-reads

@@ -1,6 +1,4 @@
-use Rattle.std.proofs.Common.{refl, ap, ◌∙◌, arith}
-use Rattle.web_relay.specs.declared.halls.Halls.{Halls}
-use Rattle.web_relay.specs.Halls.{Closes}
+use Rattle.web_relay.proofs.Vocabulary.{refl, ap, ◌∙◌, arith, Halls, Closes}
 use Rattle.web_relay.proofs.Turns.{done-more, rest-more, all-done}
 use Rattle.web_relay.proofs.halls.Halls.close.Goals as goal
 

@@ -1,6 +1,4 @@
-use Rattle.std.proofs.Common.{◌≡◌, ℕ, ◌<◌, ◌≤◌, length}
-use Rattle.slab.specs.Slab.{get}
-use Rattle.web_relay.specs.Halls.{Closes}
+use Rattle.web_relay.proofs.Vocabulary.{◌≡◌, ℕ, ◌<◌, ◌≤◌, length, get, Closes}
 use Rattle.web_relay.proofs.halls.Halls.close.Given as goal
 
 abbrev pub invariant-places : goal.invariant-places

@@ -1,5 +1,4 @@
-use Rattle.std.proofs.Common.{ℕ, ◌<◌, ◌≤◌, length}
-use Rattle.slab.specs.Slab.{get}
+use Rattle.web_relay.proofs.Vocabulary.{ℕ, ◌<◌, ◌≤◌, length, get}
 use Rattle.web_relay.specs.Halls.{HasSize}
 use Rattle.web_relay.proofs.halls.Halls.of_size.Given as goal
 

@@ -1,7 +1,4 @@
-use Rattle.std.proofs.Common.{refl, inl, ap, ◌∙◌, arith}
-use Rattle.slab.specs.Slab.{get}
-use Rattle.web_relay.specs.declared.halls.Halls.{Halls}
-use Rattle.web_relay.specs.Halls.{Renews}
+use Rattle.web_relay.proofs.Vocabulary.{refl, inl, ap, ◌∙◌, arith, get, Halls, Renews}
 use Rattle.web_relay.proofs.Turns.{done-more, rest-more, all-done, renews-later}
 use Rattle.web_relay.proofs.halls.Halls.renew.Goals as goal
 

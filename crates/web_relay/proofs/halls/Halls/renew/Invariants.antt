@@ -1,6 +1,4 @@
-use Rattle.std.proofs.Common.{◌≡◌, ℕ, ◌<◌, ◌≤◌, length}
-use Rattle.slab.specs.Slab.{get}
-use Rattle.web_relay.specs.Halls.{Renews}
+use Rattle.web_relay.proofs.Vocabulary.{◌≡◌, ℕ, ◌<◌, ◌≤◌, length, get, Renews}
 use Rattle.web_relay.proofs.halls.Halls.renew.Given as goal
 
 abbrev pub invariant-places : goal.invariant-places

@@ -1,7 +1,4 @@
-use Rattle.std.proofs.Common.{◌≡◌, ◌∙◌, None, ap}
-use Rattle.slab.specs.Slab.{Slab, get}
-use Rattle.web_relay.specs.declared.hall.Hall.{Hall}
-use Rattle.web_relay.specs.declared.halls.Halls.{Halls}
+use Rattle.web_relay.proofs.Vocabulary.{◌≡◌, ◌∙◌, None, ap, Slab, get, Hall, Halls}
 use Rattle.web_relay.proofs.Turns.{where-it-was, insert-others}
 use Rattle.web_relay.proofs.halls.Halls.renew_at.Goals as goal
 

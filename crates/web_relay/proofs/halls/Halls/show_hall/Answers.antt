@@ -1,6 +1,4 @@
-use Rattle.std.proofs.Common.{◌≡◌, refl, subst, sym}
-use Rattle.web_relay.specs.declared.hall.Hall.{Hall}
-use Rattle.web_relay.specs.Seeing.{Watches}
+use Rattle.web_relay.proofs.Vocabulary.{◌≡◌, refl, subst, sym, Hall, Watches}
 use Rattle.web_relay.proofs.Sitting.{watches_last, watches_on}
 use Rattle.web_relay.proofs.Turns.{hall-is}
 use Rattle.web_relay.proofs.halls.Halls.show_hall.Goals as goal

@@ -1,5 +1,4 @@
-use Rattle.std.proofs.Common.{◌≡◌, ◌+◌, ℕ, Option, None, rules, subst, sym}
-use Rattle.slab.specs.Slab.{get}
+use Rattle.web_relay.proofs.Vocabulary.{◌≡◌, ◌+◌, ℕ, Option, None, rules, subst, sym, get}
 use Rattle.web_relay.proofs.StandIn.{BestBelow, best_more, best_none}
 use Rattle.web_relay.proofs.halls.Halls.stand_in.Goals as goal
 use Rattle.web_relay.proofs.halls.Halls.stand_in.Goals.{in-Some, in_default}

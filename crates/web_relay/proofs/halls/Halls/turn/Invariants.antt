@@ -1,6 +1,4 @@
-use Rattle.std.proofs.Common.{◌≡◌, ℕ, ◌<◌, ◌≤◌, length}
-use Rattle.slab.specs.Slab.{get}
-use Rattle.web_relay.specs.Halls.{AtBoth, HallTurns}
+use Rattle.web_relay.proofs.Vocabulary.{◌≡◌, ℕ, ◌<◌, ◌≤◌, length, get, AtBoth, HallTurns}
 use Rattle.web_relay.proofs.halls.Halls.turn.Given as goal
 
 abbrev pub invariant-places : goal.invariant-places

@@ -1,9 +1,5 @@
-use Rattle.std.proofs.Common.{◌≡◌, ◌∙◌, None, ap, false, inr, sym, subst, rules}
-use Rattle.web_client.specs.declared.visitor.Visitor.{Visitor}
-use Rattle.web_relay.specs.declared.relay.Upstream.TheVariants.{Connected}
-use Rattle.web_relay.specs.declared.streams.ReadOutcome.TheVariants.{End, More, Nothing}
-use Rattle.web_relay.specs.Relaying.{IsConnected, LosesServer}
-use Rattle.web_relay.specs.Tokens.{outcome}
+use Rattle.web_relay.proofs.Vocabulary.{◌≡◌, ◌∙◌, None, ap, false, inr, sym, subst, rules, Visitor, Connected, End}
+use Rattle.web_relay.proofs.Vocabulary.{More, Nothing, IsConnected, LosesServer, outcome}
 use Rattle.web_relay.proofs.Hearing.{heard, nothing_heard}
 use Rattle.web_relay.proofs.relay.Relay.hear.Goals as goal
 

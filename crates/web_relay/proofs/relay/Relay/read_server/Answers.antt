@@ -1,5 +1,4 @@
-use Rattle.std.proofs.Common.{arith, rules}
-use Rattle.web_relay.specs.Relaying.{HearsOnce, IsToHear}
+use Rattle.web_relay.proofs.Vocabulary.{arith, rules, HearsOnce, IsToHear}
 use Rattle.web_relay.proofs.Steps.{all_done, stepped, stopped}
 use Rattle.web_relay.proofs.relay.Relay.read_server.Goals as goal
 

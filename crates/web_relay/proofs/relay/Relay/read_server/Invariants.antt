@@ -1,7 +1,5 @@
-use Rattle.std.proofs.Common.{◌-◌}
-use Rattle.web_relay.specs.declared.relay.Relay.{Relay}
-use Rattle.web_relay.specs.Relaying.{HearsOnce, HearsServer, IsToHear}
-use Rattle.web_relay.specs.Walking.{Repeats}
+use Rattle.web_relay.proofs.Vocabulary.{◌-◌, Relay, HearsOnce, IsToHear, Repeats}
+use Rattle.web_relay.specs.Relaying.{HearsServer}
 use Rattle.web_relay.proofs.relay.Relay.read_server.Given as goal
 
 abbrev pub invariant-reads : goal.invariant-reads

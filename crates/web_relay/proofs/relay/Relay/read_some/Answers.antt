@@ -1,6 +1,5 @@
-use Rattle.std.proofs.Common.{arith, rules}
+use Rattle.web_relay.proofs.Vocabulary.{arith, rules, IsToRead, ReadsOnce}
 use Rattle.web_client.proofs.Adding.{more, nothing}
-use Rattle.web_relay.specs.Relaying.{IsToRead, ReadsOnce}
 use Rattle.web_relay.proofs.Steps.{all_done, stepped, stopped}
 use Rattle.web_relay.proofs.relay.Relay.read_some.Goals as goal
 

@@ -1,8 +1,5 @@
-use Rattle.std.proofs.Common.{◌-◌}
+use Rattle.web_relay.proofs.Vocabulary.{◌-◌, Relay, IsToRead, ReadsOnce, Repeats}
 use Rattle.web_client.specs.Asking.{Asks}
-use Rattle.web_relay.specs.declared.relay.Relay.{Relay}
-use Rattle.web_relay.specs.Relaying.{IsToRead, ReadsOnce}
-use Rattle.web_relay.specs.Walking.{Repeats}
 use Rattle.web_relay.proofs.relay.Relay.read_some.Given as goal
 
 -- whatever comes of the other reads, it comes of all

@@ -1,7 +1,4 @@
-use Rattle.std.proofs.Common.{ap, inl, inr, subst, rules}
-use Rattle.web_client.specs.declared.visitor.Visitor.{Visitor}
-use Rattle.web_relay.specs.declared.relay.Upstream.TheVariants.{Connected}
-use Rattle.web_relay.specs.Relaying.{IsConnected, LosesServer}
+use Rattle.web_relay.proofs.Vocabulary.{ap, inl, inr, subst, rules, Visitor, Connected, IsConnected, LosesServer}
 use Rattle.web_relay.proofs.relay.Relay.write_server.Goals as goal
 
 pub returns-then-is_err : goal.returns-then-is_err
