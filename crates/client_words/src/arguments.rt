@@ -1,7 +1,10 @@
 //! The arguments of `mux`, and the first message that they make.
 
-ghost use Rattle.std.specs.Prelude.{◌≡◌, ◌↔◌, IsTrue};
-ghost use Rattle.client_words.specs.declared.arguments.Subcommand.TheVariants.{Attach, Window, Command};
+ghost use Rattle.std.specs.Prelude.{◌≡◌, ◌↔◌, IsTrue, IfOk, Err, Some};
+ghost use Rattle.attach_proto.specs.declared.fault.WriteFault.TheVariants as fault;
+ghost use Rattle.attach_proto.specs.declared.message.Message.TheVariants as message;
+ghost use Rattle.client_words.specs.Beginning.{first_message, IsFrameOf, HasNoFrame};
+ghost use Rattle.client_words.specs.declared.arguments.Subcommand.TheVariants.{Attach, Window, Command, Ping};
 
 use crate::scripts::tell_mistake;
 use attach_proto::{Bytes, Message, Text, Token, WriteFault, write_message};
@@ -49,7 +52,9 @@ impl Subcommand {
         matches!(self, Subcommand::Command)
     }
 
-    pub fn is_ping(self) -> bool {
+    pub fn is_ping(self) -> bool
+        ensures { IsTrue result ↔ (self ≡ Ping) }
+    {
         matches!(self, Subcommand::Ping)
     }
 }
@@ -126,7 +131,9 @@ impl<'a> Arguments<'a> {
         Some(Arguments::of_subcommand(Subcommand::of(name), matches))
     }
 
-    fn attach(&self, token: Token, name: Text) -> Message {
+    fn attach(&self, token: Token, name: Text) -> Message
+        ensures { result ≡ message.Attach self.now.rows self.now.columns token name }
+    {
         Message::Attach {
             rows: self.rows,
             columns: self.columns,
@@ -135,7 +142,9 @@ impl<'a> Arguments<'a> {
         }
     }
 
-    fn window(&self, token: Token, name: Text, title: Text) -> Message {
+    fn window(&self, token: Token, name: Text, title: Text) -> Message
+        ensures { result ≡ message.Window self.now.rows self.now.columns self.now.keep token name title }
+    {
         Message::Window {
             rows: self.rows,
             columns: self.columns,
@@ -146,7 +155,9 @@ impl<'a> Arguments<'a> {
         }
     }
 
-    fn command(&self, token: Token, name: Text, line: Bytes) -> Message {
+    fn command(&self, token: Token, name: Text, line: Bytes) -> Message
+        ensures { result ≡ message.Command self.now.window token name line }
+    {
         Message::Command {
             window: self.window,
             token,
@@ -164,7 +175,9 @@ impl<'a> Arguments<'a> {
     }
 
     // The first message, with this token. None for a ping.
-    fn first(&self, alloc: Global, token: Token) -> Result<Option<Message>, AllocError> {
+    fn first(&self, alloc: Global, token: Token) -> Result<Option<Message>, AllocError>
+        ensures { IfOk result (λ made. made ≡ first_message self.now token) }
+    {
         let name = Text::of(alloc, self.user)?;
         Ok(Some(match self.subcommand {
             Subcommand::Attach => self.attach(token, name),
@@ -180,7 +193,11 @@ impl<'a> Arguments<'a> {
 
     /// The frame of the first message, with this token. Empty if there is no such message; `Unspellable`
     /// if no frame is long enough for the arguments.
-    pub fn first_frame(&self, alloc: Global, token: Token) -> Result<Vec<u8>, WriteFault> {
+    pub fn first_frame(&self, alloc: Global, token: Token) -> Result<Vec<u8>, WriteFault>
+        ensures ok { IfOk result (λ frame. IsFrameOf (first_message self.now token) frame.items) }
+        ensures unspellable { result ≡ Err fault.Unspellable
+            → HasNoFrame (first_message self.now token) }
+    {
         match self.first(alloc, token) {
             Ok(Some(message)) => frame_of(alloc, &message),
             Ok(None) => Ok(Vec::new(alloc)),
@@ -206,8 +223,11 @@ impl fmt::Display for PeerPlace<'_> {
     }
 }
 
-/// The frame of a message.
-pub fn frame_of(alloc: Global, message: &Message) -> Result<Vec<u8>, WriteFault> {
+/// The frame of a message. `Unspellable` if no frame is long enough.
+pub fn frame_of(alloc: Global, message: &Message) -> Result<Vec<u8>, WriteFault>
+    ensures ok { IfOk result (λ frame. IsFrameOf (Some message.now) frame.items) }
+    ensures unspellable { result ≡ Err fault.Unspellable → HasNoFrame (Some message.now) }
+{
     let mut frame = Vec::new(alloc);
     write_message(alloc, message, &mut frame)?;
     Ok(frame)
