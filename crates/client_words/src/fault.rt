@@ -1,7 +1,9 @@
 //! What can go wrong for a peer, and how to say it.
 
 ghost use Rattle.std.specs.Prelude.{◌≡◌};
-ghost use Rattle.client_words.specs.Ending.{status_of, status_after};
+ghost use Rattle.client_words.specs.Ending.{fault_of, status_of, status_after};
+ghost use Rattle.client_words.specs.declared.fault.PeerFault.TheVariants as fault;
+ghost use Rattle.client_words.specs.declared.fault.RefusedPart.TheVariants as part;
 
 use crate::arguments::Arguments;
 use attach_proto::{Why, WriteFault};
@@ -213,6 +215,8 @@ impl fmt::Display for ToldFault<'_> {
 }
 
 impl From<WriteFault> for PeerFault {
+    ghost from_gives = { λ f e. e ≡ fault_of f };
+
     fn from(fault: WriteFault) -> PeerFault {
         match fault {
             WriteFault::Unspellable => PeerFault::TooLong,
@@ -222,18 +226,24 @@ impl From<WriteFault> for PeerFault {
 }
 
 impl From<io::Error> for PeerFault {
+    ghost from_gives = { λ error e. e ≡ fault.Refused part.Other error };
+
     fn from(error: io::Error) -> PeerFault {
         PeerFault::Refused(RefusedPart::Other, error)
     }
 }
 
 impl From<AllocError> for PeerFault {
+    ghost from_gives = { λ _ e. e ≡ fault.NoMemory };
+
     fn from(_error: AllocError) -> PeerFault {
         PeerFault::NoMemory
     }
 }
 
 impl<T: Drop> From<AllocFailed<T>> for PeerFault {
+    ghost from_gives = { λ _ e. e ≡ fault.NoMemory };
+
     fn from(_error: AllocFailed<T>) -> PeerFault {
         PeerFault::NoMemory
     }
