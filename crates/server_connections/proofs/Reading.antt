@@ -1,17 +1,17 @@
 -- What a read brought.
-use Rattle.std.proofs.Common.{◌≡◌, ◌≢◌, ◌∙◌, ℕ, Bool, true, false, ◌||◌, refl, ap, inl, ne_eqb}
+use Rattle.std.proofs.Common.{◌≡◌, ◌≢◌, ℕ, Bool, true, false, ◌||◌, refl, eq-eqb, ne_eqb}
 use Rattle.server_connections.specs.Peers.{is_stranger}
-use Rattle.server_connections.specs.Reading.{Fills, after_arrival, is_again, is_much, more_after}
+use Rattle.server_connections.specs.Reading.{after_arrival, arrival_of, is_again, is_much, more_after}
 use Rattle.server_connections.specs.declared.peer.Peer.{Peer}
-use Rattle.server_connections.specs.declared.stream.Arrival.{Arrival}
-use Rattle.server_connections.specs.declared.stream.Arrival.TheVariants as arrival
+use Rattle.server_connections.specs.declared.peer_stream.Arrival.{Arrival}
+use Rattle.server_connections.specs.declared.peer_stream.Arrival.TheVariants as arrival
 use Rattle.server_typing.specs.Typed.{Typed, after_read}
 
-pub none_came : (size : ℕ) (a : Arrival) → a ≢ arrival.Much → Fills size 0 a
-none_came size arrival.Much not = absurd (not refl)
-none_came size arrival.Some not = inl refl
-none_came size arrival.Nothing not = refl
-none_came size arrival.End not = refl
+pub much_came : (size n : ℕ) (a : Arrival) → (n ≡ 0 → ⊥) → n ≡ size → arrival.Much ≡ arrival_of size n a
+much_came size n a some all = rw (ne_eqb n 0 some, eq-eqb n size all) refl
+
+pub some_came : (size n : ℕ) (a : Arrival) → (n ≡ 0 → ⊥) → (n ≡ size → ⊥) → arrival.Some ≡ arrival_of size n a
+some_came size n a some few = rw (ne_eqb n 0 some, ne_eqb n size few) refl
 
 -- keys that wait know of a read that brought something
 pub typed_after : (now n : ℕ) (a : Arrival) (m : Bool) (t : Typed) → m ≡ is_much a → (n ≡ 0 → ⊥)

@@ -1,8 +1,7 @@
 -- A connection that read nothing, or nothing more.
-use Rattle.std.proofs.Common.{◌≡◌, ◌++◌, [], List, ℕ, Option, Some, None, refl, subst, sym, append-nil}
+use Rattle.std.proofs.Common.{◌≡◌, ◌++◌, [], List, ℕ, None, refl, subst, sym, append-nil}
 use Rattle.std.proofs.lemmas.Bool.{and_parts, false≢true}
 use Rattle.std.specs.Prelude.{Bool, true, false, not, ◌&&◌}
-use Rattle.std.specs.Io.KnownBytes.{Consumes}
 use Rattle.attach_proto.specs.Streams.{HasRead, Reading}
 use Rattle.attach_proto.specs.declared.message.Message.{Message}
 use Rattle.server_inbox.specs.Asking.{Stands}
@@ -27,10 +26,6 @@ pub quiet : (inbox : Inbox) (r : Reading) (taken : List Message) (stream : List 
     → Stands inbox r taken stream → Stands inbox r taken (stream ++ [])
 quiet inbox r taken stream h =
     subst (λ (xs : List ℕ). Stands inbox r taken xs) (sym (append-nil stream)) h
-
-pub none_read : (known : Option (List ℕ)) → Consumes known known []
-none_read None = tt
-none_read (Some xs) = refl
 
 not_so : (b : Bool) → not b ≡ true → b ≡ false
 not_so true e = absurd (false≢true e)

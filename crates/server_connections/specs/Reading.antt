@@ -1,11 +1,13 @@
 -- What a read of a connection brings, and whether more may be there after it.
-use Rattle.std.specs.Prelude.{◌≡◌, ◌⊎◌, ◌==◌, ◌&&◌, ◌||◌, ◌<◌, ℕ, Bool, true, false, [], if◌then◌else◌, is_some}
-use Rattle.server_inbox.specs.Asking.{is_taken}
+use Rattle.std.specs.Prelude.{◌≡◌, ◌==◌, ◌&&◌, ◌||◌, ◌++◌, ℕ, Bool, true, false, List, [], Some, if◌then◌else◌}
+use Rattle.std.specs.Prelude.{is_some, length}
+use Rattle.attach_proto.specs.declared.message.Message.{Message}
+use Rattle.server_inbox.specs.Asking.{Stands, is_taken}
 use Rattle.server_typing.specs.Typed.{Typed, after_read, may_read}
 use Rattle.server_connections.specs.Peers.{has_more, is_open, is_stranger}
 use Rattle.server_connections.specs.declared.peer.Peer.{Peer}
-use Rattle.server_connections.specs.declared.stream.Arrival.{Arrival}
-use Rattle.server_connections.specs.declared.stream.Arrival.TheVariants as arrival
+use Rattle.server_connections.specs.declared.peer_stream.Arrival.{Arrival}
+use Rattle.server_connections.specs.declared.peer_stream.Arrival.TheVariants as arrival
 
 -- a read that brought no byte is to be made again
 abbrev pub is_again : Arrival → Bool
@@ -26,11 +28,10 @@ abbrev pub after_arrival : ℕ → ℕ → Arrival → Typed → Typed
 after_arrival now count arrival t =
     if count == 0 then after_none now arrival t else after_read now (is_much arrival) t
 
--- so many bytes came into a buffer of this size: as many as it takes, fewer, or none
-abbrev pub Fills : ℕ → ℕ → Arrival → Type 0
-Fills size count arrival.Much = (0 < count) × (count ≡ size)
-Fills size count arrival.Some = (count ≡ 0) ⊎ (count < size)
-Fills size count other = count ≡ 0
+-- so many bytes came into a buffer of this size: as many as it takes, or fewer; of none it is known why
+abbrev pub arrival_of : ℕ → ℕ → Arrival → Arrival
+arrival_of size count came =
+    if count == 0 then came else if count == size then arrival.Much else arrival.Some
 
 module _ {S : Type 0} where
   -- it may be read at this time
@@ -56,3 +57,20 @@ module _ {S : Type 0} where
   pub record IsUnasked (old new : Peer S) : Type 0 where
     pub none : new.inbox.messages.items ≡ []
     pub same : new ≡ record old { inbox = record old.inbox { messages = new.inbox.messages } }
+
+  -- Its stream was read once. What came is taken in after all that came before, and it is known whether more may be
+  -- there. What was taken out before stays as it was.
+  pub record IsReadOnce (reads : S → List ℕ → Arrival → S → Type 0) (now size : ℕ) (old : Peer S) (arrival : Arrival)
+      (new : Peer S)
+      : Type 0 where
+    pub stream : S
+    pub left : S
+    pub piece : List ℕ
+    pub came : Arrival
+    pub was : old.stream ≡ Some stream
+    pub is : new.stream ≡ Some left
+    pub read : reads stream piece came left
+    pub arrives : arrival ≡ arrival_of size (length piece) came
+    pub notes : Notes now (length piece) arrival old new
+    pub stands : (taken : List Message) (all : List ℕ) → Stands old.inbox old.reader taken all
+        → Stands new.inbox new.reader taken (all ++ piece)

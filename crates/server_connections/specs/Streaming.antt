@@ -1,6 +1,6 @@
--- How a connection stands to the bytes that its stream gave, and to those that its stream holds.
-use Rattle.std.specs.Prelude.{◌≡◌, ◌⊎◌, ◌≤◌, ◌<◌, ℕ, Bool, true, false, List, [], Option, Some, None, MatchOption}
-use Rattle.std.specs.Prelude.{drop, is_none, length}
+-- How a connection is written to: what its stream holds of what was put, write after write.
+use Rattle.std.specs.Prelude.{◌≡◌, ◌⊎◌, ◌<◌, ◌≤◌, ℕ, zero, suc, Bool, true, false, List, Option, Some, None, MatchOption}
+use Rattle.std.specs.Prelude.{drop, if◌then◌else◌, length}
 use Rattle.server_inbox.specs.Joining.{IsGathered}
 use Rattle.server_inbox.specs.declared.inbox.Inbox.{Inbox}
 use Rattle.server_sending.specs.Written.{IsWritten, Waiting, unbegun}
@@ -9,6 +9,8 @@ use Rattle.server_connections.specs.Life.{given_up}
 use Rattle.server_connections.specs.declared.peer.Peer.{Peer}
 use Rattle.server_connections.specs.declared.peer.Stage.{Stage}
 use Rattle.server_connections.specs.declared.peer.Stage.TheVariants as stage
+use Rattle.server_connections.specs.declared.peer_stream.Wrote.{Wrote}
+use Rattle.server_connections.specs.declared.peer_stream.Wrote.TheVariants as wrote
 
 -- it is to be closed once all was written
 abbrev pub is_last : Stage → Bool
@@ -21,49 +23,76 @@ abbrev pub is_cut : Stage → Bool
 is_cut stage.Cut = true
 is_cut other = false
 
+-- how many bytes a write took
+abbrev pub count_of : Wrote → ℕ
+count_of (wrote.Some count) = count
+count_of other = 0
+
 -- what waits after this many of its bytes were written
 abbrev pub sent : ℕ → Waiting → Waiting
 sent count turn = record turn { unsent = drop count turn.unsent; typed = unbegun count turn.typed }
 
-module _ {S : Type 0} where
-  -- what a stream has left, if it is there and that is known
-  abbrev pub rest_of : (S → Option (List ℕ)) → Option S → Option (List ℕ)
-  rest_of remaining None = None
-  rest_of remaining (Some stream) = remaining stream
+-- after a write
+abbrev pub sent_by : Wrote → Waiting → Waiting
+sent_by (wrote.Some count) turn = sent count turn
+sent_by other turn = turn
 
+-- another write is made after it
+abbrev pub goes_on : Wrote → Bool
+goes_on (wrote.Some count) = true
+goes_on wrote.Nothing = true
+goes_on other = false
+
+module _ {S : Type 0} where
   -- of the bytes that were put, its stream holds those that were written; of one that was given up nothing is said
   abbrev pub IsWrittenTo : (S → Option (List ℕ)) → List ℕ → Peer S → Type 0
-  IsWrittenTo contents put peer =
-      MatchOption peer.stream (Unit {0}) (λ (stream : S). IsWritten put (contents stream) peer.turn)
-
-  -- nothing waits, and it isn't to go
-  abbrev pub IsIdle : Peer S → Type 0
-  IsIdle peer = (peer.turn.unsent ≡ []) × (is_last peer.stage ≡ false)
-
-  -- it after this many bytes were written, and whether it takes no more
-  abbrev pub wrote : ℕ → Bool → Peer S → Peer S
-  wrote count is_full peer = record peer { turn = sent count peer.turn; is_full = is_full }
-
-  -- the first of the bytes that wait were written, and it stays with its stream, or was given up after them
-  pub record IsWrittenOn (old new : Peer S) : Type 0 where
-    pub count : ℕ
-    pub within : count ≤ length old.turn.unsent
-    pub is_full : Bool
-    -- it becomes full only with bytes that wait
-    pub full : (is_full ≡ old.is_full) ⊎ ((is_full ≡ true) × (count < length old.turn.unsent))
-    pub outcome : ((new ≡ record (wrote count is_full old) { stream = new.stream })
-        × (is_none new.stream ≡ is_none old.stream)) ⊎ (new ≡ given_up (wrote count is_full old))
+  IsWrittenTo holds put peer =
+      MatchOption peer.stream (Unit {0}) (λ (stream : S). IsWritten put (holds stream) peer.turn)
 
   -- it takes no more for now, and isn't to be closed for that
   abbrev pub IsFull : Peer S → Type 0
   IsFull peer = (peer.is_full ≡ true) × (is_cut peer.stage ≡ false)
 
-  -- nothing is to be written to it for now: it has no stream, nothing waits, or it takes no more
-  abbrev pub IsThrough : Peer S → Type 0
-  IsThrough peer = (peer.stream ≡ None) ⊎ (IsIdle peer ⊎ IsFull peer)
+  -- if nothing waits, one that is to go is given up
+  abbrev pub emptied : Peer S → Peer S
+  emptied peer = if is_last peer.stage then given_up peer else peer
+
+  -- one that takes no more waits until it does, unless it is to be closed for that
+  abbrev pub filled : Peer S → Peer S
+  filled peer = if is_cut peer.stage then given_up peer else peer
+
+  -- after a write that came to this
+  abbrev pub after_write : Wrote → Peer S → Peer S
+  after_write wrote.Full peer = filled (record peer { is_full = true })
+  after_write wrote.Broken peer = given_up peer
+  after_write other peer = peer
 
   -- keys and sizes that come next were taken in, and then keys dropped that waited too long
   abbrev pub Gathers : ℕ → Peer S → Option Bool → Peer S → Type 0
   Gathers now old far new = (mid : Inbox)
       × IsGathered now old.inbox old.reader mid new.reader far
       × (new ≡ record old { inbox = record mid { typed = expired now mid.typed }; reader = new.reader })
+
+-- what is written through a stream, by what that says of its writes
+module _ {S : Type 0} (writes : S → List ℕ → Wrote → S → Type 0) where
+  -- of one with this stream: nothing waits, or one write of what waits was made
+  abbrev pub WritesTo : S → Peer S → Bool → Peer S → Type 0
+  WritesTo stream old goes new =
+      ((length old.turn.unsent ≡ 0) × (goes ≡ false) × (new ≡ emptied old))
+      ⊎ ((0 < length old.turn.unsent) × (took : Wrote) × (left : S) × writes stream old.turn.unsent took left
+      × (goes ≡ goes_on took)
+      × (new ≡ after_write took (record old { stream = Some left; turn = sent_by took old.turn })))
+
+  abbrev pub WritesOnce : Peer S → Bool → Peer S → Type 0
+  WritesOnce old goes new = ((old.stream ≡ None) × (goes ≡ false) × (new ≡ old))
+      ⊎ ((stream : S) × (old.stream ≡ Some stream) × WritesTo stream old goes new)
+
+  -- this many writes were made, one after the other, and after each it may take more
+  abbrev pub WritesFor : ℕ → Peer S → Peer S → Type 0
+  WritesFor zero old new = new ≡ old
+  WritesFor (suc count) old new = (mid : Peer S) × WritesFor count old mid × WritesOnce mid true new
+
+  -- write after write was made, until it takes no more for now; after 2 ^ 64 - 1 of them it is given up
+  abbrev pub WritesAll : Peer S → Peer S → Type 0
+  WritesAll old new = (count : ℕ) × (mid : Peer S) × WritesFor count old mid
+      × (WritesOnce mid false new ⊎ ((18446744073709551615 ≤ count) × (new ≡ given_up mid)))

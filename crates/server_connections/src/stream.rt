@@ -1,32 +1,17 @@
 //! Reads and writes of one connection.
 
-ghost use Rattle.std.specs.Prelude.{◌≡◌, ◌≢◌, ◌≤◌, ◌++◌, ◌∷◌, ◌||◌, ℕ, List, [], Some, None, IfSome};
-ghost use Rattle.std.specs.Prelude.{false, length, take, true};
-ghost use Rattle.std.specs.Io.KnownBytes.{Consumes};
-ghost use Rattle.attach_proto.specs.declared.message.Message.{Message};
+ghost use Rattle.std.specs.Prelude.{◌≡◌, ◌⊎◌, ◌∷◌, ◌||◌, ℕ, List, [], Some, None, IfSome, false, length, true};
 ghost use Rattle.server_connections.specs.Peers.{is_open, is_stranger};
-ghost use Rattle.server_connections.specs.Reading.{Fills, IsUnasked, Notes, after_none, is_again, is_readable};
-ghost use Rattle.server_connections.specs.Streaming.{IsFull, IsIdle, IsThrough, IsWrittenOn, IsWrittenTo, rest_of};
-ghost use Rattle.server_inbox.specs.Asking.{Gives, Stands, TakesIn, refilled};
+ghost use Rattle.server_connections.specs.Reading.{IsReadOnce, IsUnasked, after_none, is_again, is_readable};
+ghost use Rattle.server_connections.specs.Streaming.{IsFull, IsWrittenTo, WritesAll, WritesOnce, after_write};
+ghost use Rattle.server_connections.specs.Streaming.{goes_on};
+ghost use Rattle.server_inbox.specs.Asking.{Gives, TakesIn, refilled};
 
 use crate::peer::{Peer, Role, Stage};
+use crate::peer_stream::{Arrival, PeerStream, Wrote};
 use server_inbox::Asked;
-use std::io::{ErrorKind, Read, Write};
 
-/// What a read brought.
-#[derive(Clone, Copy, Debug, PartialEq, Eq)]
-pub enum Arrival {
-    /// As many bytes as the buffer takes: more may be there.
-    Much,
-    /// Fewer bytes.
-    Some,
-    /// Nothing is there for now.
-    Nothing,
-    /// The connection ended.
-    End,
-}
-
-impl<S: Read + Write + Drop> Peer<S> {
+impl<S: PeerStream + Drop> Peer<S> {
     // Adds the messages that these bytes complete; after them more may be there to read. A window's
     // output comes in long frames, so all of its messages are made at once.
     fn feed(&mut self, bytes: &[u8], has_more: bool)
@@ -98,15 +83,9 @@ impl<S: Read + Write + Drop> Peer<S> {
         // If it may not be read nothing is done.
         ensures held { is_readable now self.old ≡ false
             → (result ≡ Arrival.Nothing) × (self.new ≡ self.old) }
-        // What was read is taken in after all that was read before, and it is known whether more may be there. What
-        // was taken out before stays as it was.
-        ensures bytes { (piece : List ℕ)
-            × Consumes (rest_of S.remaining self.old.stream) (rest_of S.remaining self.new.stream) piece
-            × Fills (length buffer.old) (length piece) result
-            × (is_readable now self.old ≡ true → Notes now (length piece) result self.old self.new)
-            × ((taken : List Message) (stream : List ℕ)
-            → Stands self.old.inbox self.old.reader taken stream
-            → Stands self.new.inbox self.new.reader taken (stream ++ piece)) }
+        // Else its stream is read once, and what that brings is taken in after all that was read before.
+        ensures read { is_readable now self.old ≡ true
+            → IsReadOnce S.reads now (length buffer.old) self.old result self.new }
         ensures same { self.new ≡ record self.old {
           stream = self.new.stream;
           reader = self.new.reader;
@@ -120,7 +99,7 @@ impl<S: Read + Write + Drop> Peer<S> {
         let Some(stream) = &mut self.stream else {
             return Arrival::Nothing;
         };
-        let (count, arrival) = read_from(stream, buffer);
+        let (count, arrival) = stream.read_once(buffer);
         if count == 0 {
             self.note_none(now, arrival);
             return arrival;
@@ -136,16 +115,34 @@ impl<S: Read + Write + Drop> Peer<S> {
         }
     }
 
+    // What came of a write is noted. Returns whether another one is to be made.
+    fn note_write(&mut self, wrote: Wrote) -> bool
+        ensures after { self.new ≡ after_write wrote self.old }
+        ensures goes { result ≡ goes_on wrote }
+    {
+        match wrote {
+            Wrote::Some(_) => true,
+            Wrote::Nothing => true,
+            Wrote::Full => {
+                self.is_full = true;
+                if self.stage == Stage::Cut {
+                    self.close();
+                }
+                false
+            }
+            Wrote::Broken => {
+                self.close();
+                false
+            }
+        }
+    }
+
     // Makes one write of what waits, or closes a connection that is to go once all is written. Returns
     // whether it may take more.
     fn write_once(&mut self) -> bool
-        ensures written { (put : List ℕ) → IsWrittenTo S.contents put self.old
-            → IsWrittenTo S.contents put self.new }
-        ensures idle { IsIdle self.old → (result ≡ false) × (self.new ≡ self.old) }
-        ensures on { IsWrittenOn self.old self.new }
-        ensures none { self.old.stream ≡ None → self.new ≡ self.old }
-        ensures again { result ≡ true → self.new.is_full ≡ self.old.is_full }
-        ensures through { result ≡ false → IsThrough self.new }
+        ensures writes { WritesOnce S.writes self.old result self.new }
+        ensures written { (put : List ℕ) → IsWrittenTo S.holds put self.old
+            → IsWrittenTo S.holds put self.new }
     {
         let Some(stream) = &mut self.stream else {
             return false;
@@ -156,37 +153,19 @@ impl<S: Read + Write + Drop> Peer<S> {
             }
             return false;
         }
-        match self.turn.send(stream) {
-            Ok(0) => self.close(),
-            Ok(_) => {}
-            Err(error) => match error.kind() {
-                ErrorKind::WouldBlock => {
-                    self.is_full = true;
-                    if self.stage == Stage::Cut {
-                        self.close();
-                    }
-                    return false;
-                }
-                ErrorKind::Interrupted => {}
-                _ => self.close(),
-            },
-        }
-        true
+        let wrote = stream.write_once(&mut self.turn);
+        self.note_write(wrote)
     }
 
     /// Writes what waits, until the connection takes no more for now. Until an event tells of room it
     /// isn't tried again, but for the last time. It is given up if a write fails.
     pub fn write(&mut self)
-        // Of what was put, its stream holds what was written, and the rest waits, unless it is given up.
-        ensures written { (put : List ℕ) → IsWrittenTo S.contents put self.old
-            → IsWrittenTo S.contents put self.new }
-        // If nothing waits, and it isn't to go, nothing is done.
-        ensures idle { IsIdle self.old → self.new ≡ self.old }
         ensures full { IsFull self.old → self.new ≡ self.old }
-        // Nothing of it changes but what was written, unless it is given up.
-        ensures on { IsWrittenOn self.old self.new }
-        // It is written to until nothing is left to be written for now.
-        ensures through { IsThrough self.new }
+        // Else write after write is made of what waits, until nothing is left to be written for now.
+        ensures writes { IsFull self.old ⊎ WritesAll S.writes self.old self.new }
+        // Of what was put, its stream holds what was written, and the rest waits, unless it is given up.
+        ensures written { (put : List ℕ) → IsWrittenTo S.holds put self.old
+            → IsWrittenTo S.holds put self.new }
     {
         if self.is_full && self.stage != Stage::Cut {
             return;
@@ -198,23 +177,5 @@ impl<S: Read + Write + Drop> Peer<S> {
         }
         // In practice it never comes to this many writes.
         self.close();
-    }
-}
-
-// Reads once. Says how many bytes came; if none did, whether the stream ended, has nothing for now, or is
-// to be read again.
-fn read_from<S: Read>(stream: &mut S, buffer: &mut [u8]) -> (usize, Arrival)
-    ensures within { result.0 ≤ length buffer.new }
-    ensures none { result.0 ≡ 0 → result.1 ≢ Arrival.Much }
-    ensures bytes { Consumes (S.remaining stream.old) (S.remaining stream.new) (take result.0 buffer.new) }
-{
-    match stream.read(buffer) {
-        Ok(0) => (0, Arrival::End),
-        Ok(count) => (count, Arrival::Much),
-        Err(error) => match error.kind() {
-            ErrorKind::WouldBlock => (0, Arrival::Nothing),
-            ErrorKind::Interrupted => (0, Arrival::Some),
-            _ => (0, Arrival::End),
-        },
     }
 }

@@ -1,21 +1,19 @@
 -- What one connection is read, and which message of it comes next.
-use Rattle.std.specs.Prelude.{◌≡◌, ◌⊎◌, ◌&&◌, ◌||◌, ◌++◌, ◌∷◌, ℕ, Bool, true, false, not, List, [], Option, Some, None}
-use Rattle.std.specs.Prelude.{IfSome, length, nat_lt}
-use Rattle.std.specs.Io.KnownBytes.{Consumes}
+use Rattle.std.specs.Prelude.{◌≡◌, ◌⊎◌, ◌&&◌, ◌||◌, ◌∷◌, ℕ, Bool, true, false, not, [], Option, Some, None}
+use Rattle.std.specs.Prelude.{IfSome, nat_lt}
 use Rattle.slab.specs.Slab.{get}
-use Rattle.attach_proto.specs.declared.message.Message.{Message}
 use Rattle.server_connections.specs.Changing.{changed}
 use Rattle.server_connections.specs.Lending.{awoken, touched}
 use Rattle.server_connections.specs.Peers.{is_due, is_open}
-use Rattle.server_connections.specs.Reading.{Fills, IsUnasked, Notes, is_readable}
-use Rattle.server_connections.specs.Streaming.{rest_of}
+use Rattle.server_connections.specs.Reading.{IsReadOnce, IsUnasked, is_readable}
 use Rattle.server_connections.specs.declared.connections.Connections.{Connections}
 use Rattle.server_connections.specs.declared.peer.Peer.{Peer}
 use Rattle.server_connections.specs.declared.peer.Role.{Role}
 use Rattle.server_connections.specs.declared.peer.Role.TheVariants as role
-use Rattle.server_connections.specs.declared.stream.Arrival.{Arrival}
-use Rattle.server_connections.specs.declared.stream.Arrival.TheVariants as arrived
-use Rattle.server_inbox.specs.Asking.{Gives, Stands, is_empty, refilled}
+use Rattle.server_connections.specs.declared.peer_stream.Arrival.{Arrival}
+use Rattle.server_connections.specs.declared.peer_stream.Arrival.TheVariants as arrived
+use Rattle.server_connections.specs.declared.peer_stream.PeerStream.{Ghosts as Streams}
+use Rattle.server_inbox.specs.Asking.{Gives, is_empty, refilled}
 use Rattle.server_inbox.specs.declared.inbox.Asked.{Asked}
 use Rattle.server_typing.specs.Typed.{drains}
 use Rattle.server_steps.specs.declared.progress.Progress.{Progress}
@@ -107,17 +105,11 @@ module _ {S : Type 0} where
   is_faulty_at None = false
   is_faulty_at (Some peer) = is_open peer.stage && (peer.inbox.is_broken && is_empty peer.inbox)
 
-  -- It was read once, unless it may not be. What came is taken in after all that came before, and it is known whether
-  -- more may be there. What was taken out before stays as it was.
-  pub record IsRead (remaining : S → Option (List ℕ)) (now size : ℕ) (old : Peer S) (arrival : Arrival) (new : Peer S)
+  -- It was read once, unless it may not be. What came is taken in after all that came before.
+  pub record IsRead (streams : Streams S) (now size : ℕ) (old : Peer S) (arrival : Arrival) (new : Peer S)
       : Type 0 where
     pub not_read : is_readable now old ≡ false → (arrival ≡ arrived.Nothing) × (new ≡ old)
-    pub bytes : (piece : List ℕ)
-        × Consumes (rest_of remaining old.stream) (rest_of remaining new.stream) piece
-        × Fills size (length piece) arrival
-        × (is_readable now old ≡ true → Notes now (length piece) arrival old new)
-        × ((taken : List Message) (stream : List ℕ) → Stands old.inbox old.reader taken stream
-        → Stands new.inbox new.reader taken (stream ++ piece))
+    pub read : is_readable now old ≡ true → IsReadOnce streams.reads now size old arrival new
     pub same : new ≡ record old {
       stream = new.stream;
       reader = new.reader;
@@ -126,8 +118,8 @@ module _ {S : Type 0} where
     }
 
   -- the connection of a key was; no other one changed
-  abbrev pub ReadsAt : (S → Option (List ℕ)) → ℕ → ℕ → ℕ → Connections S → Arrival → Connections S → Type 0
-  ReadsAt remaining now size key old arrival new =
+  abbrev pub ReadsAt : Streams S → ℕ → ℕ → ℕ → Connections S → Arrival → Connections S → Type 0
+  ReadsAt streams now size key old arrival new =
       ((get old.peers key ≡ None) × (arrival ≡ arrived.Nothing) × (new ≡ awoken old key))
       ⊎ ((peer : Peer S) × (left : Peer S) × (get old.peers key ≡ Some peer)
-      × IsRead remaining now size peer arrival left × (new ≡ touched old key left))
+      × IsRead streams now size peer arrival left × (new ≡ touched old key left))

@@ -1,5 +1,5 @@
 -- How connections end, and the server.
-use Rattle.std.specs.Prelude.{◌≡◌, ◌⊎◌, ◌+◌, ◌<◌, ◌≤◌, ℕ, zero, suc, Bool, false, List, Option, Some, None, IfSome}
+use Rattle.std.specs.Prelude.{◌≡◌, ◌⊎◌, ◌+◌, ◌<◌, ◌≤◌, ℕ, zero, suc, Bool, false, Option, Some, None, IfSome}
 use Rattle.std.specs.Prelude.{if◌then◌else◌, is_some, nat_le}
 use Rattle.std.specs.Duration.{as_nanos}
 use Rattle.std.specs.declared.time.Duration.{Duration}
@@ -18,6 +18,7 @@ use Rattle.server_connections.specs.declared.peer.Awaits.TheVariants as awaited
 use Rattle.server_connections.specs.declared.peer.Peer.{Peer}
 use Rattle.server_connections.specs.declared.peer.Role.{Role}
 use Rattle.server_connections.specs.declared.peer.Role.TheVariants as role
+use Rattle.server_connections.specs.declared.peer_stream.PeerStream.{Ghosts as Streams}
 use Rattle.server_seat.specs.declared.news.Guest.{Guest}
 use Rattle.server_seat.specs.declared.seat.ServerEnd.{ServerEnd}
 use Rattle.server_seat.specs.declared.seat.ServerEnd.TheVariants as cause
@@ -110,8 +111,8 @@ module _ {S : Type 0} where
   }
 
   -- the connection of a key was told so, and was written to; no other one changed
-  abbrev pub FinishesAt : (S → Option (List ℕ)) → Why → ℕ → Connections S → Connections S → Type 0
-  FinishesAt contents why key old new =
+  abbrev pub FinishesAt : Streams S → Why → ℕ → Connections S → Connections S → Type 0
+  FinishesAt streams why key old new =
       ((get old.peers key ≡ None) × (new ≡ awoken old key))
       ⊎ ((peer : Peer S) × (left : Peer S) × (get old.peers key ≡ Some peer)
-      × IsWrittenOut contents (finished why peer) left × (new ≡ touched old key left))
+      × IsWrittenOut streams (finished why peer) left × (new ≡ touched old key left))

@@ -4,5 +4,6 @@ pub mod Meaning
 pub mod Sending
 pub mod Settling
 pub mod Submitted
+pub mod Telling
 pub mod Turns
 pub mod Typing

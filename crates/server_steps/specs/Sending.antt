@@ -5,28 +5,27 @@ use Rattle.slab.specs.Slab.{get}
 use Rattle.server_connections.specs.Lending.{awoken, touched}
 use Rattle.server_connections.specs.Life.{wanted_draw}
 use Rattle.server_connections.specs.Peers.{is_closed, listens}
-use Rattle.server_connections.specs.Streaming.{IsFull, IsIdle, IsThrough, IsWrittenOn, IsWrittenTo}
+use Rattle.server_connections.specs.Streaming.{IsFull, IsWrittenTo, WritesAll}
 use Rattle.server_connections.specs.declared.connections.Connections.{Connections}
 use Rattle.server_connections.specs.declared.peer.Peer.{Peer}
 use Rattle.server_connections.specs.declared.peer.Stage.TheVariants as stage
+use Rattle.server_connections.specs.declared.peer_stream.PeerStream.{Ghosts as Streams}
 use Rattle.server_sending.specs.Written.{without_typed}
 use Rattle.server_sending.specs.declared.typists.TypedFrame.{TypedFrame}
 
 module _ {S : Type 0} where
-  -- What waits was written until it takes no more for now: of what was put, its stream holds what was written. Nothing
-  -- is done if nothing is to be written.
-  pub record IsWrittenOut (contents : S → Option (List ℕ)) (old new : Peer S) : Type 0 where
-    pub written : (put : List ℕ) → IsWrittenTo contents put old → IsWrittenTo contents put new
-    pub idle : IsIdle old → new ≡ old
+  -- What waits was written, write after write, until it takes no more for now: of what was put, its stream holds what
+  -- was written. Nothing is done if it took no more before, and no event told of room since.
+  pub record IsWrittenOut (streams : Streams S) (old new : Peer S) : Type 0 where
     pub full : IsFull old → new ≡ old
-    pub on : IsWrittenOn old new
-    pub through : IsThrough new
+    pub writes : IsFull old ⊎ WritesAll streams.writes old new
+    pub written : (put : List ℕ) → IsWrittenTo streams.holds put old → IsWrittenTo streams.holds put new
 
   -- the connection of a key was written to, and no other one; it is known whether it was closed
-  abbrev pub WritesAt : (S → Option (List ℕ)) → ℕ → Connections S → Bool → Connections S → Type 0
-  WritesAt contents key old closed new =
+  abbrev pub WritesAt : Streams S → ℕ → Connections S → Bool → Connections S → Type 0
+  WritesAt streams key old closed new =
       ((get old.peers key ≡ None) × (closed ≡ false) × (new ≡ awoken old key))
-      ⊎ ((peer : Peer S) × (left : Peer S) × (get old.peers key ≡ Some peer) × IsWrittenOut contents peer left
+      ⊎ ((peer : Peer S) × (left : Peer S) × (get old.peers key ≡ Some peer) × IsWrittenOut streams peer left
       × (closed ≡ is_closed left.stage) × (new ≡ touched old key left))
 
   -- the frames that wait for it and that users typed

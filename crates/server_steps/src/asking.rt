@@ -8,14 +8,13 @@ ghost use Rattle.server_steps.specs.Asking.{is_due_at, is_faulty_at, is_much, is
 ghost use Rattle.server_steps.specs.Asking.{unheld};
 
 use crate::progress::Progress;
-use server_connections::{Arrival, Asked, Connections, Role};
-use std::io::{Read, Write};
+use server_connections::{Arrival, Asked, Connections, PeerStream, Role};
 
 // While fewer bytes of output may still be done in a turn, much of it is done.
 const MUCH: usize = 24_576;
 
 /// Takes out the next message of a connection, or what is left of one.
-pub fn next_asked<S: Read + Write + Drop>(
+pub fn next_asked<S: PeerStream + Drop>(
     connections: &mut Connections<S>,
     key: usize,
 ) -> Option<Asked>
@@ -147,13 +146,13 @@ pub fn is_faulty<S: Drop>(connections: &Connections<S>, key: usize) -> bool
 }
 
 /// Reads a connection once, if more of it is to be read at this time in milliseconds.
-pub fn read<S: Read + Write + Drop>(
+pub fn read<S: PeerStream + Drop>(
     connections: &mut Connections<S>,
     key: usize,
     buffer: &mut [u8],
     now: u64,
 ) -> Arrival
-    ensures { ReadsAt S.remaining now (length buffer.old) key connections.old result connections.new }
+    ensures { ReadsAt S.PeerStream now (length buffer.old) key connections.old result connections.new }
 {
     let Some(peer) = connections.touch(key) else {
         return Arrival::Nothing;

@@ -9,9 +9,8 @@ ghost use Rattle.server_steps.specs.Ending.{full_if, gone_at, looks_at, new_belo
 ghost use Rattle.server_steps.specs.Ending.{told_full};
 
 use attach_proto::Why;
-use server_connections::{Awaits, Connections, Guest, Peer, Role, ServerEnd};
+use server_connections::{Awaits, Connections, Guest, Peer, PeerStream, Role, ServerEnd};
 use session::Reason;
-use std::io::{Read, Write};
 use std::time::Duration;
 
 /// Why the server is to end, once the session ended a client or a window for this reason.
@@ -188,8 +187,8 @@ fn part<S: Drop>(peer: &mut Peer<S>, why: Why)
     }
 }
 
-fn finish_at<S: Read + Write + Drop>(connections: &mut Connections<S>, key: usize, why: Why)
-    ensures { FinishesAt S.contents why key connections.old connections.new }
+fn finish_at<S: PeerStream + Drop>(connections: &mut Connections<S>, key: usize, why: Why)
+    ensures { FinishesAt S.PeerStream why key connections.old connections.new }
 {
     let Some(peer) = connections.touch(key) else {
         return;
@@ -202,8 +201,8 @@ fn finish_at<S: Read + Write + Drop>(connections: &mut Connections<S>, key: usiz
 }
 
 /// All connections are told why the server ends, and written to.
-pub fn finish<S: Read + Write + Drop>(connections: &mut Connections<S>, why: Why)
-    ensures { EachKey (FinishesAt S.contents why) connections.old.peers.capacity 0
+pub fn finish<S: PeerStream + Drop>(connections: &mut Connections<S>, why: Why)
+    ensures { EachKey (FinishesAt S.PeerStream why) connections.old.peers.capacity 0
         connections.old connections.new }
 {
     'keys: for key in 0..connections.end() {

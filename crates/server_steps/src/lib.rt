@@ -5,6 +5,7 @@
 mod asking;
 mod ending;
 mod meaning;
+mod news;
 mod progress;
 mod sending;
 mod submitted;
@@ -23,6 +24,7 @@ pub use meaning::{
     Meaning, event_of, guest_of, is_extra, kind_of, make_guest, many_of, may_judge, meaning_of,
     news_of, quits, role_at, role_of, shown_in,
 };
+pub use news::{NewsList, filled_by, misfit};
 pub use progress::{Progress, came_of, is_judged, is_refused, settle, window_after};
 pub use sending::{cut_off, drop_typed, is_laggard, typist_after, wanting, write};
 pub use submitted::{Gate, Open, Submitted, entries_of, is_quit, kept_of};

@@ -7,12 +7,11 @@ ghost use Rattle.server_sending.specs.Typists.{HasNoTypist, IsNextTypist};
 ghost use Rattle.server_steps.specs.Sending.{IsLaggard, WritesAt, cut, frames_at, wanting, without_user};
 
 use acl::UserId;
-use server_connections::{Connections, Stage};
-use std::io::{Read, Write};
+use server_connections::{Connections, PeerStream, Stage};
 
 /// Writes what waits for a connection, until it takes no more for now. Returns whether it was closed.
-pub fn write<S: Read + Write + Drop>(connections: &mut Connections<S>, key: usize) -> bool
-    ensures { WritesAt S.contents key connections.old result connections.new }
+pub fn write<S: PeerStream + Drop>(connections: &mut Connections<S>, key: usize) -> bool
+    ensures { WritesAt S.PeerStream key connections.old result connections.new }
 {
     let Some(peer) = connections.touch(key) else {
         return false;

@@ -8,7 +8,7 @@ returns g c = inr (
   sym c.in-Some.ensures.value,
   record {
     not_read = c.read.ensures.held;
-    bytes = c.read.ensures.bytes;
+    read = c.read.ensures.read;
     same = c.read.ensures.same;
   },
   refl,

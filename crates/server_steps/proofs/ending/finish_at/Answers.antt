@@ -13,12 +13,10 @@ returns g c =
       c.in-Some.peer.now,
       c.write.new.self,
       sym c.in-Some.ensures.value,
-      subst (λ (p : Peer g.row.S.Denot). IsWrittenOut g.S.Write.contents p c.write.new.self) e (record {
-        written = c.write.ensures.written;
-        idle = c.write.ensures.idle;
+      subst (λ (p : Peer g.row.S.Denot). IsWrittenOut g.S.PeerStream p c.write.new.self) e (record {
         full = c.write.ensures.full;
-        on = c.write.ensures.on;
-        through = c.write.ensures.through;
+        writes = c.write.ensures.writes;
+        written = c.write.ensures.written;
       }),
       refl,
     )

@@ -7,11 +7,9 @@ returns g c = inr (
   c.write.new.self,
   sym c.in-Some.ensures.value,
   record {
-    written = c.write.ensures.written;
-    idle = c.write.ensures.idle;
     full = c.write.ensures.full;
-    on = c.write.ensures.on;
-    through = c.write.ensures.through;
+    writes = c.write.ensures.writes;
+    written = c.write.ensures.written;
   },
   c.is_closed.ensures,
   refl,
