@@ -1,6 +1,6 @@
 -- Bytes that are added for a browser.
 use Rattle.std.proofs.Common.{◌≡◌, ℕ, List, [], ◌++◌, Option, None, Some, Result, Ok, Err, OnOk, OnErr, sym, ap, ◌∙◌}
-use Rattle.std.proofs.Common.{append_assoc, append-nil, inl, inr, length}
+use Rattle.std.proofs.Common.{append_assoc, append-nil, inl, inr, length, ◌||◌}
 use Rattle.std.specs.Int.{w64, to_be_bytes}
 use Rattle.terminal_model.specs.Reading.{Terminal}
 use Rattle.emulator.specs.Standing.{StandsFor}
@@ -11,15 +11,18 @@ use Rattle.websocket.specs.declared.protocol.frame.coding.OpCode.TheVariants as 
 use Rattle.websocket.specs.declared.protocol.frame.coding.Data.TheVariants.{Text}
 use Rattle.websocket.specs.declared.protocol.frame.coding.Control.TheVariants.{Ping}
 use Rattle.websocket.specs.Connection.{Connection, Effect, Outgoing, Sends}
-use Rattle.websocket.specs.View.{Leaves}
+use Rattle.websocket.specs.View.{Leaves, ReadLeaves}
+use Rattle.websocket.specs.declared.protocol.frame.codec.FrameStatus.{FrameStatus}
+use Rattle.websocket.specs.declared.protocol.frame.codec.FrameStatus.TheVariants.{Partial, Complete}
+use Rattle.web_client.specs.declared.wire.SentPage.{SentPage}
 use Rattle.web_client.specs.declared.wire.Wire.{Wire}
 use Rattle.web_page.specs.Hearing.{WebDisplay}
 use Rattle.web_page.specs.Updates.{spelled}
 use Rattle.attach_proto.specs.declared.why.Told.{Told}
 use Rattle.attach_proto.specs.declared.why.Why.{Why}
 use Rattle.std.proofs.Common.{subst}
-use Rattle.web_client.specs.Rows.{SendsText, Asks, Adds, IsAsFar, SendsPage, Shows, counted}
-use Rattle.web_client.specs.Rows.{MayTell, MaySendRows, Explains, Ends, TellsLast, SendsAll, gone, welcomed}
+use Rattle.web_client.specs.Rows.{SendsText, Asks, Adds, IsAsFar, IsUpToDate, SendsPage, Shows, counted}
+use Rattle.web_client.specs.Rows.{MaySendRows, Welcomes, Explains, Ends, TellsLast, SendsAll, gone}
 
 -- what a reply adds
 pub adds : (role : Role) (reply : Option Outgoing) (old new : List ℕ) → Sends role reply old new
@@ -56,7 +59,7 @@ both_add a b c h k = (
 pub shows : {A E : Type 0} (result : Result A E) (old : WebDisplay) (since : ℕ) (before v w : Wire) (new : WebDisplay)
     (later : ℕ) (after : Wire) → Adds before v → OnOk result (Adds w after)
     → ((t : Terminal) (b : Shown) → StandsFor old.sheet.terminal t → IsAsFar since old.sheet b
-    → SendsPage t b v w × StandsFor new.sheet.terminal t × IsAsFar later new.sheet (page_of t.screen))
+    → SendsPage t b v w × StandsFor new.sheet.terminal t × IsUpToDate later new.sheet (page_of t.screen))
     → OnOk result (Shows old since before new later after)
 shows (Ok x) old since before v w new later after h k f = λ t b s a.
     let sent = f t b s a in (v, w, h, sent.0, k, sent.1, sent.2)
@@ -80,10 +83,28 @@ rows_add old new h =
     ]
 
 -- that it is let in, rows, and the end, one after another
-pub then_all : {A E : Type 0} (r : Result A E) (told : Told) (old v w new : Wire) → MayTell welcomed old v
-    → MaySendRows v w → OnOk r (Ends told.refusal told.gone w new) → OnOk r (SendsAll told old new)
-then_all (Ok u) told old v w new h k e = (v, w, h, k, e)
-then_all (Err u) told old v w new h k e = tt
+pub then_all : {A E : Type 0} (r : Result A E) (told : Told) (before after : SentPage) (old v w new : Wire)
+    → Welcomes told.is_welcome before.is_welcomed old v
+    → after.is_welcomed ≡ (told.is_welcome || before.is_welcomed) → MaySendRows v w
+    → OnOk r (Ends told.refusal told.gone w new) → OnOk r (SendsAll told before after old new)
+then_all (Ok u) told before after old v w new h o k e =
+    record { let_in = v; welcomes = h; once = o; shown = w; shows = k; ends = e }
+then_all (Err u) told before after old v w new h o k e = tt
+
+pub on_ok : {A E : Type 0} (r : Result A E) (P : Type 0) → P → OnOk r P
+on_ok (Ok u) P h = h
+on_ok (Err e) P h = tt
+
+pub then_same : {A E : Type 0} (r : Result A E) (a b c : ℕ) → b ≡ a → c ≡ b → OnOk r (c ≡ a)
+then_same (Ok u) a b c h k = k ∙ h
+then_same (Err e) a b c h k = tt
+
+-- what a read adds
+pub read_adds : (r : Result (FrameStatus (ℕ × Effect)) Error) (before after : Connection) (old new : List ℕ)
+    → ReadLeaves r before after old new → (more : List ℕ) × (new ≡ old ++ more)
+read_adds (Err e) before after old new h = absurd h
+read_adds (Ok (Partial n)) before after old new h = ([], h.1 ∙ sym (append-nil old))
+read_adds (Ok (Complete p)) before after old new h = leaves_adds (Ok p.1) after old new h
 
 pub ends : {A E : Type 0} (r : Result A E) (refusal : Option (List ℕ)) (told : Option Why) (why : Why)
     (old v new : Wire) → told ≡ Some why → Explains refusal old v → OnOk r (TellsLast (gone why) v new)

@@ -11,6 +11,8 @@ use Rattle.websocket.specs.Connection.{Connection, Effect, read_step, StartsWith
 use Rattle.web_client.specs.declared.identity.Identity.{Identity}
 use Rattle.web_client.specs.declared.identity.Identity.TheVariants.{Nobody, Own, Watching, Link, Unknown, Left}
 use Rattle.web_client.specs.declared.wire.Wire.{Wire}
+use Rattle.web_client.specs.declared.wire.WireFault.{WireFault}
+use Rattle.web_client.specs.declared.wire.WireFault.TheVariants.{TooFarBehind}
 use Rattle.web_client.specs.declared.wire.Phase.{Phase}
 use Rattle.web_client.specs.declared.wire.Phase.TheVariants.{Request, Socket, Last}
 use Rattle.web_client.specs.declared.frame.PageFrame.{PageFrame}
@@ -22,6 +24,7 @@ use Rattle.web_requests.specs.declared.requests.Response.TheVariants as answer
 use Rattle.web_requests.specs.Serving.{AnswersBytes}
 use Rattle.web_client.specs.Asking.{IfOwn, Takes, Keeps}
 use Rattle.web_client.specs.Judging.{IsAllowed}
+use Rattle.web_client.specs.Rows.{Adds}
 
 -- how far a page's connection is, its WebSocket, the bytes that came and weren't read, its identity, and how many bytes
 -- of rows it has answered for
@@ -189,31 +192,44 @@ TakesSome watcher old new more =
     (n : ℕ) × (last : Page) × TakesFrames n old last
     × MatchBool more ((n ≡ 64) × (new ≡ last)) (IsDone watcher last new)
 
+-- What a browser sends changes how far its connection is, what waits of it, and who it is. Bytes come after those on
+-- their way to it. How many bytes of rows it was sent stays, and so do what it was sent of a page, and its address.
+pub record Leaves (old new : Visitor) : Type 0 where
+  pub adds : Adds old.wire new.wire
+  pub sent : new.wire.sent ≡ old.wire.sent
+  pub rest : new ≡ record old { wire = new.wire; input = new.input; identity = new.identity }
+
+-- an answer comes after what is on its way, and the connection comes this far
+abbrev pub replies : Phase → Visitor → Visitor → Visitor
+replies phase old new = record old { wire = record old.wire { phase = phase; output = new.wire.output } }
+
 -- What an answer does: nothing if the request isn't whole yet; it is the last one; or a WebSocket begins after the
 -- bytes of the request.
 abbrev pub Answers : Response → Visitor → Visitor → Type 0
 Answers answer.Part old new = new ≡ old
 Answers (answer.Page bytes) old new =
-    (new.wire.phase ≡ Last) × (new.identity ≡ old.identity)
-    × (new.wire.output.items ≡ old.wire.output.items ++ bytes.items)
+    (new.wire.output.items ≡ old.wire.output.items ++ bytes.items) × (new ≡ replies Last old new)
 Answers (answer.Socket upgrade) old new =
-    (page new ≡ record (page old) { phase = Socket; waiting = drop upgrade.request old.input.items })
-    × (new.wire.output.items ≡ old.wire.output.items ++ upgrade.answer.items) × (new.address ≡ upgrade.address)
+    (new.wire.output.items ≡ old.wire.output.items ++ upgrade.answer.items)
+    × (new.input.items ≡ drop upgrade.request old.input.items)
+    × (new ≡ record (replies Socket old new) { input = new.input; address = upgrade.address })
+
+-- frames that are whole were taken, and what isn't the browser's to change is left
+abbrev pub TakesOpen : Site → Visitor → Visitor → Bool → Type 0
+TakesOpen site old new more = TakesSome site.watcher (page old) (page new) more × Leaves old new
 
 -- the answer was given, and the frames that came after the request were taken
 abbrev pub TakesRequest : Site → Response → Visitor → Visitor → Bool → Type 0
-TakesRequest site answer.Part old new more = new ≡ old
-TakesRequest site (answer.Page bytes) old new more = Answers (answer.Page bytes) old new
 TakesRequest site (answer.Socket upgrade) old new more =
-    TakesSome site.watcher (record (page old) { phase = Socket; waiting = drop upgrade.request old.input.items })
-    (page new) more
+    (opened : Visitor) × Answers (answer.Socket upgrade) old opened × TakesOpen site opened new more
+TakesRequest site a old new more = Answers a old new
 
 -- what came of a browser is taken, and more may be left
 abbrev pub TakesBytes : Site → Phase → Visitor → Visitor → Bool → Type 0
 TakesBytes site Request old new more =
     (a : Response) × AnswersBytes site old.input.items a × TakesRequest site a old new more
-TakesBytes site Socket old new more = TakesSome site.watcher (page old) (page new) more
-TakesBytes site Last old new more = page new ≡ page old
+TakesBytes site Socket old new more = TakesOpen site old new more
+TakesBytes site Last old new more = new ≡ old
 
 -- ---- bounds
 
@@ -226,6 +242,10 @@ abbrev pub CanRead : Visitor → Type 0
 CanRead v =
     (v.wire.phase ≡ Last → ⊥) × (length v.wire.output.items ≤ 65536)
     × IfOwn v.identity (λ c. length c.outgoing ≤ 65536)
+
+-- one is given up if more waits than may, and for nothing else
+abbrev pub IsGivenUp : Type 0 → WireFault → Type 0
+IsGivenUp Bounded fault = (fault ≡ TooFarBehind) × ¬ Bounded
 
 -- what is kept for a browser: bytes that it sent, and bytes on their way to it
 abbrev pub IsBounded : Visitor → Type 0

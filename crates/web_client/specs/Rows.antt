@@ -1,6 +1,6 @@
 -- The texts and the rows that a browser is sent.
 use Rattle.std.specs.Prelude.{◌≡◌, ◌⊎◌, ℕ, ◌+◌, ◌-◌, ◌^◌, ◌≤◌, min, true, List, [], ◌++◌, length, codes}
-use Rattle.std.specs.Prelude.{Option, Some, None, IsSome, decimal}
+use Rattle.std.specs.Prelude.{Option, Some, None, IsSome, decimal, Bool, ◌&&◌, ◌||◌, not, MatchBool}
 use Rattle.std.specs.Str.{chars}
 use Rattle.std.specs.Int.{w64, to_be_bytes}
 use Rattle.websocket.specs.declared.protocol.frame.coding.OpCode.TheVariants as code
@@ -12,6 +12,7 @@ use Rattle.emulator.specs.Standing.{StandsFor}
 use Rattle.web_page.specs.Updates.{Update, spelled}
 use Rattle.web_page.specs.Laying.{Shown, laid, page_of}
 use Rattle.web_page.specs.Showing.{Sheet, IsShown}
+use Rattle.web_client.specs.declared.wire.SentPage.{SentPage}
 use Rattle.web_client.specs.declared.wire.Wire.{Wire}
 use Rattle.web_page.specs.Hearing.{WebDisplay}
 use Rattle.web_page.specs.Json.{spelled_text}
@@ -41,6 +42,10 @@ pub record Asks (old new : Wire) : Type 0 where
 -- a browser was sent nothing of a page, or all before a moment
 abbrev pub IsAsFar : ℕ → Sheet → Shown → Type 0
 IsAsFar since sheet b = (since ≡ 0) ⊎ IsShown since sheet b
+
+-- it was sent all before the next moment: it shows the whole sheet, and needs nothing until that changes
+abbrev pub IsUpToDate : ℕ → Sheet → Shown → Type 0
+IsUpToDate since sheet b = (since ≡ sheet.moment) × IsShown since sheet b
 
 -- these bytes count as rows
 abbrev pub counted : ℕ → Wire → Wire
@@ -101,9 +106,6 @@ Refuses reason old new = (v : Wire) × SendsText (said reason) old v × TellsLas
 abbrev pub TellsHere : Wire → Wire → Type 0
 TellsHere old new = (v : Wire) × SendsText here old v × Asks v new
 
-abbrev pub MayTell : List ℕ → Wire → Wire → Type 0
-MayTell text old new = (new ≡ old) ⊎ SendsText text old new
-
 -- ---- all that a browser is sent
 
 -- an update that it is asked to answer for
@@ -121,14 +123,24 @@ abbrev pub Ends : Option (List ℕ) → Option Why → Wire → Wire → Type 0
 Ends refusal None old new = new ≡ old
 Ends refusal (Some why) old new = (v : Wire) × Explains refusal old v × TellsLast (gone why) v new
 
--- That it is let in, rows, and its end: these come after what is on its way, in this order, and nothing else does.
-abbrev pub SendsAll : Told → Wire → Wire → Type 0
-SendsAll told old new =
-    (v : Wire) × (w : Wire) × MayTell welcomed old v × MaySendRows v w × Ends told.refusal told.gone w new
+-- that it is let in is told if the server has let it in, and it wasn't told before
+abbrev pub Welcomes : (is_welcome was_told : Bool) → Wire → Wire → Type 0
+Welcomes is_welcome was_told old new =
+    MatchBool (is_welcome && not was_told) (SendsText welcomed old new) (new ≡ old)
+
+-- That it is let in, which is told once; rows; and its end: these come after what is on its way, in this order, and
+-- nothing else does.
+pub record SendsAll (told : Told) (before after : SentPage) (old new : Wire) : Type 0 where
+  pub let_in : Wire
+  pub welcomes : Welcomes told.is_welcome before.is_welcomed old let_in
+  pub once : after.is_welcomed ≡ (told.is_welcome || before.is_welcomed)
+  pub shown : Wire
+  pub shows : MaySendRows let_in shown
+  pub ends : Ends told.refusal told.gone shown new
 
 -- What is sent makes the page of a terminal that has read all draws, of what the browser shows.
 abbrev pub Shows : (old : WebDisplay) (since : ℕ) (before : Wire) (new : WebDisplay) (later : ℕ) (after : Wire) → Type 0
 Shows old since before new later after =
     (t : Terminal) (b : Shown) → StandsFor old.sheet.terminal t → IsAsFar since old.sheet b
     → (v : Wire) × (w : Wire) × Adds before v × SendsPage t b v w × Adds w after
-    × StandsFor new.sheet.terminal t × IsAsFar later new.sheet (page_of t.screen)
+    × StandsFor new.sheet.terminal t × IsUpToDate later new.sheet (page_of t.screen)

@@ -14,5 +14,5 @@ pub use client::{SharedClient, WebClient, tokens_change_no_display};
 pub use identity::{Identity, fitted};
 pub use visitor::Visitor;
 pub use web_page::{ClientFault, WebDisplay};
-pub use web_requests::{Site, SiteFile, Watcher, refusal};
+pub use web_requests::{Loopback, Site, SiteFile, Watcher, refusal};
 pub use wire::WireFault;

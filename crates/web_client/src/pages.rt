@@ -1,7 +1,7 @@
 //! A browser's own client, and which page a browser is shown.
 
 ghost use Rattle.std.specs.IoError.{error_kind};
-ghost use Rattle.std.specs.Prelude.{◌≡◌, ◌≢◌, ◌↔◌, ℕ, List, OnOk, IfErr, IsTrue, false};
+ghost use Rattle.std.specs.Prelude.{◌≡◌, ◌≢◌, ◌↔◌, ◌≤◌, ℕ, List, OnOk, IfErr, IsTrue, false};
 ghost use Rattle.web_client.specs.Asking.{AsksOnly, Keeps, IsOwn, IfOwn, IsWatcher};
 ghost use Rattle.web_client.specs.Sending.{IsSent, HearsNext};
 ghost use Rattle.web_client.specs.Rows.{Adds, IsDue, Shows, SendsAll};
@@ -71,16 +71,20 @@ impl Visitor {
         ensures later { (IsDue shared.old.client.display self.old.wire → ⊥)
             → (self.new.view.since ≡ self.old.view.since) × (shared.new ≡ shared.old) }
         ensures sends { self.old.wire.phase ≡ Phase.Socket → IsWatcher self.old.identity
-            → OnOk result (SendsAll shared.old.client.display.told self.old.wire self.new.wire) }
+            → OnOk result (SendsAll shared.old.client.display.told self.old.view self.new.view self.old.wire
+            self.new.wire) }
+        ensures needed { shared.new.client.display.sheet.moment ≤ self.old.view.since
+            → OnOk result (self.new.wire.sent ≡ self.old.wire.sent) }
         ensures adds { OnOk result (Adds self.old.wire self.new.wire) }
         ensures bound { self.old.wire.phase ≡ Phase.Socket → IsWatcher self.old.identity
             → OnOk result (IsWithin self.new.wire) }
-        ensures identity { self.new.identity ≡ self.old.identity }
+        ensures same { self.new ≡ record self.old { wire = self.new.wire; view = self.new.view } }
     {
         if !self.is_open() || !self.is_watcher() {
             return Ok(());
         }
-        self.wire.show(&mut self.view, &mut shared.client.display)
+        self.wire.show(&mut self.view, &mut shared.client.display)?;
+        self.wire.check_bound()
     }
 
     /// Shows the page of its own client: what the browser is sent is made from the display alone.
@@ -95,16 +99,24 @@ impl Visitor {
         ensures later { IfOwn self.old.identity (λ old. (IsDue old.display self.old.wire → ⊥)
             → (self.new.view.since ≡ self.old.view.since) × IsOwn self.new.identity (λ new. new ≡ old)) }
         ensures sends { self.old.wire.phase ≡ Phase.Socket
-            → IfOwn self.old.identity (λ old. OnOk result (SendsAll old.display.told self.old.wire self.new.wire)) }
+            → IfOwn self.old.identity (λ old. OnOk result (SendsAll old.display.told self.old.view self.new.view
+            self.old.wire self.new.wire)) }
+        ensures needed { IfOwn self.new.identity (λ new. new.display.sheet.moment ≤ self.old.view.since
+            → OnOk result (self.new.wire.sent ≡ self.old.wire.sent)) }
         ensures adds { OnOk result (Adds self.old.wire self.new.wire) }
         ensures bound { self.old.wire.phase ≡ Phase.Socket → OnOk result (IsWithin self.new.wire) }
         ensures keeps { Keeps self.old.identity self.new.identity }
+        ensures same { self.new
+            ≡ record self.old { wire = self.new.wire; view = self.new.view; identity = self.new.identity } }
     {
         if !self.is_open() {
             return Ok(());
         }
         match &mut self.identity {
-            Identity::Own(client) => self.wire.show(&mut self.view, &mut client.display),
+            Identity::Own(client) => {
+                self.wire.show(&mut self.view, &mut client.display)?;
+                self.wire.check_bound()
+            }
             _ => self.wire.check_bound(),
         }
     }

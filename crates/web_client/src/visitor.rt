@@ -1,13 +1,13 @@
 //! A browser's connection: its request, its messages, and who it is.
 
-ghost use Rattle.std.specs.Prelude.{◌≡◌, ◌↔◌, ◌⊎◌, ℕ, List, drop, IfOk, OnOk, OnErr, IsTrue, ◌<◌, ◌≤◌, []};
+ghost use Rattle.std.specs.Prelude.{◌≡◌, ◌↔◌, ◌⊎◌, ℕ, List, drop, IfOk, OnOk, OnErr, IfErr, IsTrue, ◌<◌, ◌≤◌, []};
 ghost use Rattle.std.specs.Prelude.{length, false, true, codes, vec_len};
 ghost use Rattle.web_client.specs.Asking.{Asks};
 ghost use Rattle.web_client.specs.Sending.{IsReceived, IsMore, IsSent, IsRest};
 ghost use Rattle.web_client.specs.Rows.{TellsLast, TellsHere, Refuses, said, handed};
 ghost use Rattle.web_requests.specs.Serving.{refusal};
-ghost use Rattle.web_client.specs.Frames.{page, page_after, begun, Reads, Answers, TakesMessage, TakesSome};
-ghost use Rattle.web_client.specs.Frames.{TakesBytes, CanRead, IsBounded};
+ghost use Rattle.web_client.specs.Frames.{page, page_after, begun, Reads, Answers, Leaves, TakesMessage};
+ghost use Rattle.web_client.specs.Frames.{TakesBytes, TakesOpen, CanRead, IsBounded, IsGivenUp};
 
 use crate::frame::PageFrame;
 use crate::identity::{Identity, MessageFault};
@@ -48,7 +48,7 @@ impl Visitor {
     /// A connection that has sent nothing.
     pub fn new(alloc: Global) -> Visitor
         ensures page { page result ≡ begun }
-        ensures output { result.wire.output.items ≡ [] }
+        ensures output { (result.wire.output.items ≡ []) × (result.wire.sent ≡ 0) }
         ensures view { result.view ≡ record { is_welcomed = false; since = 0 } }
         ensures address { result.address.items ≡ [] }
     {
@@ -117,6 +117,7 @@ impl Visitor {
             (page_after taken.new self.new)) }
         ensures within { taken.new ≤ vec_len self.new.input }
         ensures identity { self.new.identity ≡ self.old.identity }
+        ensures leaves { OnOk result (Leaves self.old self.new) }
     {
         let read = self.wire.read(&mut self.input.as_mut_slice()[*taken..])?;
         *taken += read.1;
@@ -128,6 +129,7 @@ impl Visitor {
         ensures takes { OnOk result (TakesMessage site.now.watcher message.now (page self.old)
             (page self.new)) }
         ensures input { self.new.input.items ≡ self.old.input.items }
+        ensures leaves { OnOk result (Leaves self.old self.new) }
         ensures asks { Asks self.old.identity self.new.identity }
     {
         match self.identity.take(self.wire.alloc, site, message) {
@@ -151,7 +153,7 @@ impl Visitor {
     // Takes frames that are whole. Returns whether more may be left.
     fn read_frames(&mut self, site: &Site) -> Result<bool, WireFault>
         requires { self.old.wire.phase ≡ Phase.Socket }
-        ensures takes { IfOk result (TakesSome site.now.watcher (page self.old) (page self.new)) }
+        ensures takes { IfOk result (TakesOpen site.now self.old self.new) }
         ensures asks { Asks self.old.identity self.new.identity }
     {
         let mut taken = 0;
@@ -215,7 +217,8 @@ impl Visitor {
 
     // Whether what is kept for it is within its bounds.
     fn check_bounds(&self) -> Result<(), WireFault>
-        ensures { OnOk result (IsBounded self.now) }
+        ensures bounded { OnOk result (IsBounded self.now) }
+        ensures fault { IfErr result (IsGivenUp (IsBounded self.now)) }
     {
         if self.input.len() > MOST_INPUT {
             return Err(WireFault::TooFarBehind);
@@ -239,8 +242,7 @@ impl Visitor {
         }
     }
 
-    /// Takes what came of the browser, up to 64 frames at once. Returns whether more may be left. For its own client
-    /// it adds frames that the browser may ask for, and nothing else.
+    /// Takes what came of the browser, up to 64 frames at once. Returns whether more may be left.
     pub fn take(&mut self, site: &Site) -> Result<bool, WireFault>
         ensures takes { IfOk result (TakesBytes site.now self.old.wire.phase self.old self.new) }
         ensures asks { Asks self.old.identity self.new.identity }

@@ -1,15 +1,14 @@
 //! What a browser is sent over its connection.
 
-ghost use Rattle.std.specs.Prelude.{◌≡◌, ◌↔◌, ◌+◌, ◌≤◌, [], length, drop, None, IfOk, OnOk, IfSome, IsTrue};
-ghost use Rattle.std.specs.Prelude.{true, false};
+ghost use Rattle.std.specs.Prelude.{◌≡◌, ◌↔◌, ◌+◌, ◌≤◌, [], length, drop, None, IfOk, OnOk, IfErr, IfSome, IsTrue, ◌||◌};
 ghost use Rattle.terminal_model.specs.Reading.{Terminal};
 ghost use Rattle.emulator.specs.Standing.{StandsFor};
 ghost use Rattle.web_page.specs.Laying.{Shown, page_of};
 ghost use Rattle.web_client.specs.Judging.{end_of};
-ghost use Rattle.web_client.specs.Frames.{fresh, stands, Reads, IsWithin};
+ghost use Rattle.web_client.specs.Frames.{fresh, stands, Reads, IsGivenUp, IsWithin};
 ghost use Rattle.web_client.specs.declared.identity.Identity.{Identity};
-ghost use Rattle.web_client.specs.Rows.{SendsText, Asks, IsAsFar, SendsPage, Adds, HasRoom, IsDue, Shows};
-ghost use Rattle.web_client.specs.Rows.{said, welcomed, gone, handed, TellsLast, MayTell, MaySendRows};
+ghost use Rattle.web_client.specs.Rows.{SendsText, Asks, IsAsFar, IsUpToDate, SendsPage, Adds, HasRoom, IsDue, Shows};
+ghost use Rattle.web_client.specs.Rows.{said, welcomed, gone, handed, TellsLast, MaySendRows, Welcomes};
 ghost use Rattle.web_client.specs.Rows.{Explains, Ends, SendsAll};
 ghost use Rattle.web_client.specs.declared.wire.WireFault.TheVariants as end;
 
@@ -104,7 +103,7 @@ impl Wire {
         ensures phase { result.phase ≡ Phase.Request }
         ensures output { result.output.items ≡ [] }
         ensures context { result.context ≡ fresh }
-        ensures answered { result.answered ≡ 0 }
+        ensures counts { (result.sent ≡ 0) × (result.answered ≡ 0) }
     {
         let config = WebSocketConfig {
             max_message_size: Some(LONGEST),
@@ -126,6 +125,8 @@ impl Wire {
         ensures reads { (s : Identity) → IfOk result (λ read. Reads (stands self.old rest.old s) read.0
             (stands self.new (drop read.1 rest.new) s)) }
         ensures within { IfOk result (λ read. read.1 ≤ length rest.old) }
+        ensures adds { OnOk result (Adds self.old self.new) }
+        ensures sent { self.new.sent ≡ self.old.sent }
     {
         let step = match self.context.read(rest, &mut self.output, &mut NoMask) {
             Ok(FrameStatus::Partial(_)) => return Ok((PageFrame::None, 0)),
@@ -233,8 +234,10 @@ impl Wire {
         ensures rows { (t : Terminal) (b : Shown) → StandsFor display.old.sheet.terminal t
             → IsAsFar view.old.since display.old.sheet b
             → OnOk result (SendsPage t b self.old self.new × StandsFor display.new.sheet.terminal t
-            × IsAsFar view.new.since display.new.sheet (page_of t.screen)) }
+            × IsUpToDate view.new.since display.new.sheet (page_of t.screen)) }
         ensures sends { OnOk result (MaySendRows self.old self.new) }
+        ensures needed { display.new.sheet.moment ≤ view.old.since → OnOk result (self.new ≡ self.old) }
+        ensures welcomed { view.new.is_welcomed ≡ view.old.is_welcomed }
         ensures told { display.new.told ≡ display.old.told }
     {
         match display.update(view.since)? {
@@ -245,7 +248,10 @@ impl Wire {
                 view.since = display.moment();
                 Ok(())
             }
-            None => Ok(()),
+            None => {
+                view.since = display.moment();
+                Ok(())
+            }
         }
     }
 
@@ -265,10 +271,8 @@ impl Wire {
 
     // Tells once that the server let the browser's client in.
     fn welcome(&mut self, view: &mut SentPage, display: &WebDisplay) -> Result<(), WireFault>
-        ensures tells { OnOk result (MayTell welcomed self.old self.new) }
-        ensures told { display.now.told.is_welcome ≡ true → view.old.is_welcomed ≡ false
-            → OnOk result (SendsText welcomed self.old self.new) }
-        ensures once { view.old.is_welcomed ≡ true → self.new ≡ self.old }
+        ensures welcomes { OnOk result (Welcomes display.now.told.is_welcome view.old.is_welcomed self.old self.new) }
+        ensures once { view.new.is_welcomed ≡ (display.now.told.is_welcome || view.old.is_welcomed) }
         ensures adds { OnOk result (Adds self.old self.new) }
         ensures since { view.new.since ≡ view.old.since }
         ensures sent { self.new.sent ≡ self.old.sent }
@@ -309,9 +313,10 @@ impl Wire {
         }
     }
 
-    // Sends what is new of a display.
-    fn send_new(&mut self, view: &mut SentPage, display: &mut WebDisplay) -> Result<(), WireFault>
-        ensures sends { OnOk result (SendsAll display.old.told self.old self.new) }
+    /// Sends what is new of a display. Rows wait until the browser has answered for the last ones.
+    pub fn show(&mut self, view: &mut SentPage, display: &mut WebDisplay) -> Result<(), WireFault>
+        ensures sends { OnOk result (SendsAll display.old.told view.old view.new self.old self.new) }
+        ensures needed { display.new.sheet.moment ≤ view.old.since → OnOk result (self.new.sent ≡ self.old.sent) }
         // Nothing that is on its way is lost.
         ensures adds { OnOk result (Adds self.old self.new) }
         ensures due { IsDue display.old self.old → OnOk result (Shows display.old view.old.since self.old
@@ -331,28 +336,12 @@ impl Wire {
 
     /// Whether what waits for the browser is within its bound: it isn't given up.
     pub fn check_bound(&self) -> Result<(), WireFault>
-        ensures { OnOk result (IsWithin self.now) }
+        ensures within { OnOk result (IsWithin self.now) }
+        ensures fault { IfErr result (IsGivenUp (IsWithin self.now)) }
     {
         if self.output.len() > MOST_OUTPUT {
             return Err(WireFault::TooFarBehind);
         }
         Ok(())
-    }
-
-    /// Sends what is new of a display. Rows wait until the browser has answered for the last ones: what is
-    /// sent then is what the page shows then.
-    pub fn show(&mut self, view: &mut SentPage, display: &mut WebDisplay) -> Result<(), WireFault>
-        ensures sends { OnOk result (SendsAll display.old.told self.old self.new) }
-        ensures adds { OnOk result (Adds self.old self.new) }
-        ensures due { IsDue display.old self.old → OnOk result (Shows display.old view.old.since self.old
-            display.new view.new.since self.new) }
-        ensures later { (IsDue display.old self.old → ⊥)
-            → (view.new.since ≡ view.old.since) × (display.new ≡ display.old)
-            × (self.new.sent ≡ self.old.sent) }
-        ensures gone { IfSome display.old.told.gone (λ _. OnOk result (self.new.phase ≡ Phase.Last)) }
-        ensures bound { OnOk result (IsWithin self.new) }
-    {
-        self.send_new(view, display)?;
-        self.check_bound()
     }
 }

@@ -1,7 +1,7 @@
 //! What the server has told a client: whether it is in, its page, and why it ended. A browser is shown
 //! this alone, and no token is in it.
 
-ghost use Rattle.std.specs.Prelude.{◌≡◌, ◌↔◌, IsTrue, Some, None, ◌⊎◌};
+ghost use Rattle.std.specs.Prelude.{◌≡◌, ◌↔◌, ◌<◌, IsTrue, Some, None, ◌⊎◌};
 ghost use Rattle.std.specs.Prelude.{IfOk, IfErr, IfSome, OnOk, Err, MatchOption};
 ghost use Rattle.std.specs.String.{string_bytes};
 ghost use Rattle.terminal_model.specs.Reading.{Terminal, reads};
@@ -160,8 +160,9 @@ impl WebDisplay {
         ensures browsers { OnOk result (AreAsFar self.old.sheet self.new.sheet) }
         ensures fault { IfErr result (FailsAt self.old.sheet.moment) }
         ensures moment { IsNext self.old.sheet.moment self.new.sheet.moment }
-        ensures reading { self.new.reading ≡ self.old.reading }
-        ensures told { self.new.told ≡ self.old.told }
+        // One that was sent all changes is sent nothing.
+        ensures needed { IfOk result (λ made. IfSome made (λ _. since < self.new.sheet.moment)) }
+        ensures same { self.new ≡ record self.old { sheet = self.new.sheet } }
     {
         self.sheet.update(since)
     }
@@ -197,8 +198,7 @@ impl WebDisplay {
             → StandsFor self.new.sheet.terminal (reads t bytes.now).terminal) }
         ensures sent { KeepsSent self.old.sheet self.new.sheet }
         ensures fault { IfErr result (λ e. e ≡ ClientFault.NoMemory) }
-        ensures reading { self.new.reading ≡ self.old.reading }
-        ensures told { self.new.told ≡ self.old.told }
+        ensures same { self.new ≡ record self.old { sheet = self.new.sheet } }
     {
         match self.sheet.read(bytes) {
             Ok(()) => Ok(()),
@@ -212,7 +212,7 @@ impl WebDisplay {
             → StandsFor self.new.sheet.terminal (drawn t message.now)) }
         ensures sent { KeepsSent self.old.sheet self.new.sheet }
         ensures fault { IfErr result (λ e. e ≡ ClientFault.NoMemory) }
-        ensures reading { self.new.reading ≡ self.old.reading }
+        ensures same { self.new ≡ record self.old { sheet = self.new.sheet; told = self.new.told } }
         ensures told { OnOk result (self.new.told ≡ noted self.old.told message.now) }
     {
         self.told.note(self.alloc, message)?;
@@ -228,7 +228,7 @@ impl WebDisplay {
             → StandsFor self.new.sheet.terminal (all_drawn t messages.now)) }
         ensures sent { KeepsSent self.old.sheet self.new.sheet }
         ensures fault { IfErr result (λ e. e ≡ ClientFault.NoMemory) }
-        ensures reading { self.new.reading ≡ self.old.reading }
+        ensures same { self.new ≡ record self.old { sheet = self.new.sheet; told = self.new.told } }
         ensures told { OnOk result (self.new.told ≡ all_noted self.old.told messages.now) }
     {
         for message in messages {
@@ -241,6 +241,7 @@ impl WebDisplay {
     pub fn hear_all(&mut self, bytes: &[u8]) -> Result<(), ClientFault>
         ensures hears { (result ≡ Err ClientFault.NoMemory → ⊥) → Hears self.old bytes.now self.new }
         ensures fault { IfErr result (FailsToHear self.new.reading) }
+        ensures name { self.new.name ≡ self.old.name }
         ensures sent { KeepsSent self.old.sheet self.new.sheet }
     {
         let mut messages = Vec::new(self.alloc);

@@ -1,6 +1,6 @@
 //! The page of a terminal, for browsers that were sent more or less of it.
 
-ghost use Rattle.std.specs.Prelude.{◌≡◌, ◌⊎◌, ◌≤◌, ℕ, OnOk, OnErr, ◌↔◌};
+ghost use Rattle.std.specs.Prelude.{◌≡◌, ◌⊎◌, ◌<◌, ◌≤◌, ℕ, OnOk, OnErr, ◌↔◌};
 ghost use Rattle.std.specs.Prelude.{IsTrue, IfOk, IfErr, IfSome, MatchOption, length, Err, false};
 ghost use Rattle.std.specs.List.{list_all};
 ghost use Rattle.std.specs.String.{string_bytes};
@@ -318,6 +318,7 @@ impl Sheet {
         // It fails for memory, or after 2^64 - 2 updates.
         ensures fault { IfErr result (FailsAt self.old.moment) }
         ensures moment { IsNext self.old.moment self.new.moment }
+        ensures needed { IfOk result (λ made. IfSome made (λ _. since < self.new.moment)) }
     {
         self.look()?;
         if since >= self.moment {

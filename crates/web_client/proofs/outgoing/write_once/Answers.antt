@@ -1,4 +1,4 @@
-use Rattle.std.proofs.Common.{◌≡◌, ℕ, List, take, ◌∙◌, subst}
+use Rattle.std.proofs.Common.{◌≡◌, ℕ, List, take, subst}
 use Rattle.std.specs.Io.KnownBytes.{Appends}
 use Rattle.web_client.proofs.Writing.{kept, moved, first_written}
 use Rattle.web_client.proofs.outgoing.write_once.Goals as goal

@@ -2,6 +2,7 @@ use Rattle.std.proofs.Common.{List, ℕ, ◌≤◌, length, drop, refl, sym, ap,
 use Rattle.web_client.specs.declared.frame.PageFrame.{PageFrame}
 use Rattle.web_client.specs.Frames.{page, page_after, Reads, TakesMessage}
 use Rattle.web_client.proofs.Adding.{then_same, then_more, nothing}
+use Rattle.web_client.proofs.Answering.{leaves_all, leaves_both}
 use Rattle.web_client.proofs.Frames.{started, after_other, after_message, shifted}
 use Rattle.web_client.proofs.visitor.Visitor.read_frames.Goals as goal
 
@@ -11,6 +12,7 @@ frames-init c = record {
   within = omega arith;
   few = omega arith;
   asks = nothing c.args.self.now.identity;
+  leaves = leaves_all c.args.self.now;
 }
 
 pub frames-preserved-in-Other : goal.frames-preserved-in-Other
@@ -26,6 +28,7 @@ frames-preserved-in-Other c =
       asks = then_same c.args.self.now.identity c.frames.self.identity c.read_frame.new.self.identity
           c.frames.invariant.asks
           c.read_frame.ensures.identity;
+      leaves = leaves_both _ _ _ c.frames.invariant.leaves c.in_ok-read_frame.ensures.leaves;
     }
 
 pub frames-preserved : goal.frames-preserved
@@ -51,6 +54,8 @@ frames-preserved c =
       asks = then_more c.args.self.now.identity c.frames.self.identity c.read_frame.new.self.identity
           c.take_message.new.self.identity c.frames.invariant.asks
           c.read_frame.ensures.identity c.take_message.ensures.asks;
+      leaves = leaves_both _ _ _ (leaves_both _ _ _ c.frames.invariant.leaves c.in_ok-read_frame.ensures.leaves)
+          c.in_ok-take_message-in-Message.ensures.leaves;
     }
 
 pub returns-in_err-take_message-in-Message-clause-asks : goal.returns-in_err-take_message-in-Message-clause-asks

@@ -1,6 +1,6 @@
 use Rattle.std.proofs.Common.{◌≤◌, ◌-◌, length}
 use Rattle.web_client.specs.Asking.{Asks}
-use Rattle.web_client.specs.Frames.{page, page_after}
+use Rattle.web_client.specs.Frames.{page, page_after, Leaves}
 use Rattle.web_client.proofs.Frames.{Went}
 use Rattle.web_client.proofs.visitor.Visitor.read_frames.Given as goal
 
@@ -10,6 +10,7 @@ invariant-frames l = record {
   within : l.taken ≤ length l.self.input.items;
   few : l.count ≤ 64;
   asks : Asks l.fn.self.identity l.self.identity;
+  leaves : Leaves l.fn.self l.self;
 }
 
 abbrev pub decreases-frames : goal.decreases-frames

@@ -1,12 +1,14 @@
 use Rattle.std.proofs.Common.{ap}
 use Rattle.web_page.specs.declared.display.WebDisplay.{WebDisplay}
+use Rattle.web_client.proofs.Rows.{on_ok}
 use Rattle.web_client.proofs.visitor.Visitor.show_own.Goals as goal
 
-pub returns-in-Own-clause-shows : goal.returns-in-Own-clause-shows
-returns-in-Own-clause-shows c = λ is_open. rw c.in-Own.is c.show.ensures.due
+pub returns-in_ok-show-in-Own-clause-shows : goal.returns-in_ok-show-in-Own-clause-shows
+returns-in_ok-show-in-Own-clause-shows c =
+    λ is_open. rw c.in-Own.is (λ due. on_ok c.check_bound.result _ (c.in_ok-show-in-Own.ensures.due due))
 
-pub returns-in-Own-clause-later : goal.returns-in-Own-clause-later
-returns-in-Own-clause-later c =
+pub returns-in_ok-show-in-Own-clause-later : goal.returns-in_ok-show-in-Own-clause-later
+returns-in_ok-show-in-Own-clause-later c =
     rw c.in-Own.is (λ not_due.
     let kept = c.show.ensures.later not_due in
     (kept.0, ap (λ (d : WebDisplay). record c.in-Own.client { display = d }) kept.1))

@@ -1,5 +1,5 @@
 use Rattle.std.proofs.Common.{◌≡◌, ℕ, ◌+◌, ◌-◌, ◌^◌, min, List, length, inl, inr, refl, sym, ap, ◌∙◌, subst}
-use Rattle.web_page.specs.Laying.{Shown, page_of}
+use Rattle.web_page.specs.Laying.{page_of}
 use Rattle.web_page.specs.Showing.{IsShown, newer}
 use Rattle.web_page.specs.Updates.{Update, spelled}
 use Rattle.web_client.specs.Rows.{SendsText, Asks}
@@ -43,7 +43,10 @@ returns-in_ok-ask-in-Some-clause-rows c = λ t b w h.
             c.in_ok-ask-in-Some.ensures,
       ),
       then.0,
-      inr (subst (λ (n : ℕ). IsShown n c.update.new.self.sheet (page_of t.screen)) (sym c.moment-view.ensures) then.1),
+      (
+        c.moment-view.ensures,
+        subst (λ (n : ℕ). IsShown n c.update.new.self.sheet (page_of t.screen)) (sym c.moment-view.ensures) then.1,
+      ),
     )
 
 pub returns-in-None-clause-rows : goal.returns-in-None-clause-rows
@@ -52,9 +55,9 @@ returns-in-None-clause-rows c = λ t b w h.
     let then = c.in_ok-text.ensures.then t w in (
       inl (refl, same),
       then.0,
-      elim h [
-        | inl e ↦ inl e
-        | inr s ↦ inr (subst (λ (x : Shown). IsShown c.args.view.now.since c.update.new.self.sheet x) same
-            (c.in_ok-text.ensures.browsers c.args.view.now.since b s))
-      ],
+      (
+        c.moment-view-in-None.ensures,
+        subst (λ (n : ℕ). IsShown n c.update.new.self.sheet (page_of t.screen)) (sym c.moment-view-in-None.ensures)
+            then.1,
+      ),
     )

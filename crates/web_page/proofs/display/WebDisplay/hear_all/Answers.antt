@@ -15,7 +15,7 @@ returns-clause-hears c = λ n.
     subst (λ (d : WebDisplay). Hears d c.args.bytes.now c.hear_each.new.self) c.self.view_is
     (heard old c.hear_each.new.self c.args.bytes.now c.feed-fed.new.self c.new-messages.result.items
     c.feed-fed.new.out.items c.deref.result.now (c.in_ok-fed.ensures.reads (λ z. cc))
-    c.new-messages.ensures.items c.deref.ensures.value c.hear_each.ensures.reading
+    c.new-messages.ensures.items c.deref.ensures.value (ap (λ (d : WebDisplay). d.reading) c.hear_each.ensures.same)
     c.in_ok-hear_each.ensures.sheet c.in_ok-hear_each.ensures.told)
 
 pub returns-in_err-fed-clause-hears : goal.returns-in_err-fed-clause-hears
@@ -31,7 +31,7 @@ returns-in_err-fed-clause-hears c = λ n.
     (heard old c.hear_each.new.self c.args.bytes.now c.feed-fed.new.self c.new-messages.result.items
     c.feed-fed.new.out.items c.deref.result.now (c.in_err-fed.ensures.reads
     (λ z. not_memory c.in_err-fed.field-0.0 p.0 p.2 (λ q. n (p.1 ∙ ap Err q)) (cc z)))
-    c.new-messages.ensures.items c.deref.ensures.value c.hear_each.ensures.reading
+    c.new-messages.ensures.items c.deref.ensures.value (ap (λ (d : WebDisplay). d.reading) c.hear_each.ensures.same)
     c.in_ok-hear_each.ensures.sheet c.in_ok-hear_each.ensures.told)
 
 pub returns-clause-sent : goal.returns-clause-sent

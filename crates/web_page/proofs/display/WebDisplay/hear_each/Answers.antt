@@ -4,7 +4,7 @@ use Rattle.terminal_model.specs.Reading.{Terminal}
 use Rattle.emulator.specs.Standing.{StandsFor}
 use Rattle.attach_proto.specs.declared.why.Told.{Told}
 use Rattle.attach_proto.specs.Table.{noted}
-use Rattle.web_page.specs.Hearing.{drawn, all_drawn, all_noted}
+use Rattle.web_page.specs.Hearing.{WebDisplay, drawn, all_drawn, all_noted}
 use Rattle.web_page.proofs.Hearing.{one_more, none_more, one_told, none_told, kept_on}
 use Rattle.web_page.proofs.display.WebDisplay.hear_each.Goals as goal
 
@@ -21,7 +21,10 @@ loop-message-preserved c = record {
       );
   sent = kept_on c.args.self.now.sheet c.loop-message.self.sheet c.hear.new.self.sheet c.loop-message.invariant.sent
       c.hear.ensures.sent;
-  reading = c.hear.ensures.reading ∙ c.loop-message.invariant.reading;
+  same =
+      c.hear.ensures.same
+      ∙ ap (λ (d : WebDisplay). record d { sheet = c.hear.new.self.sheet; told = c.hear.new.self.told })
+      c.loop-message.invariant.same;
   told =
       c.loop-message.invariant.told
       ∙ one_told c.args.messages.now c.loop-message.message-index c.message-item.result c.loop-message.self.told

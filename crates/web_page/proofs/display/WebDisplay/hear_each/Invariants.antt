@@ -10,6 +10,6 @@ invariant-loop-message l = record {
       → s ≡ all_drawn t l.messages → (u : Terminal) × StandsFor l.self.sheet.terminal u
       × (s ≡ all_drawn u (drop l.message-index l.messages));
   sent : KeepsSent l.fn.self.sheet l.self.sheet;
-  reading : l.self.reading ≡ l.fn.self.reading;
+  same : l.self ≡ record l.fn.self { sheet = l.self.sheet; told = l.self.told };
   told : all_noted l.fn.self.told l.messages ≡ all_noted l.self.told (drop l.message-index l.messages);
 }

@@ -1,12 +1,14 @@
-use Rattle.std.proofs.Common.{◌≡◌, ℕ, Option, IfSome, OnOk, inl, refl, sym, ap, ◌∙◌, subst}
+use Rattle.std.proofs.Common.{◌≡◌, ◌≤◌, ℕ, Option, IfSome, OnOk, inl, refl, sym, ap, ◌∙◌, subst}
 use Rattle.attach_proto.specs.declared.why.Why.{Why}
 use Rattle.web_client.specs.declared.wire.Phase.TheVariants.{Last}
 use Rattle.attach_proto.specs.declared.why.Told.{Told}
 use Rattle.web_page.specs.Hearing.{WebDisplay}
 use Rattle.web_client.specs.Rows.{IsAsFar, Ends, MaySendRows}
-use Rattle.web_client.proofs.Rows.{both_add, rows_add, shows, then_adds, then_all}
-use Rattle.web_client.proofs.wire.Wire.send_new.Goals as goal
-use Rattle.web_client.proofs.wire.Wire.send_new.Goals.{then-is_due+in_ok-send_rows, else-is_due}
+use Rattle.web_client.specs.declared.wire.SentPage.{SentPage}
+use Rattle.web_client.specs.declared.wire.Wire.{Wire}
+use Rattle.web_client.proofs.Rows.{both_add, rows_add, shows, then_adds, then_all, then_same}
+use Rattle.web_client.proofs.wire.Wire.show.Goals as goal
+use Rattle.web_client.proofs.wire.Wire.show.Goals.{then-is_due+in_ok-send_rows, else-is_due}
 
 pub returns-clause-due : goal.returns-clause-due
 returns-clause-due c = λ due.
@@ -32,10 +34,31 @@ returns-clause-sends c =
       | then-is_due+in_ok-send_rows w ↦ rw w.self-is w.in_ok-send_rows.ensures.sends
       | else-is_due w ↦ inl w.self-is
     ] in
-    then_all c.end.result c.args.display.now.told c.args.self.now c.welcome.new.self c.if-is_due.self c.end.new.self
-    c.in_ok-welcome.ensures.tells rows
+    let view : c.if-is_due.view.is_welcomed ≡ c.welcome.new.view.is_welcomed =
+    elim c.if-is_due.branch [
+      | then-is_due+in_ok-send_rows w ↦ rw w.view-is w.send_rows.ensures.welcomed
+      | else-is_due w ↦ ap (λ (v : SentPage). v.is_welcomed) w.view-is
+    ] in
+    then_all c.end.result c.args.display.now.told c.args.view.now c.if-is_due.view c.args.self.now c.welcome.new.self
+    c.if-is_due.self c.end.new.self c.in_ok-welcome.ensures.welcomes (view ∙ c.welcome.ensures.once) rows
     (subst (λ (t : Told). OnOk c.end.result (Ends t.refusal t.gone c.if-is_due.self c.end.new.self)) same
     c.end.ensures.ends)
+
+pub returns-clause-needed : goal.returns-clause-needed
+returns-clause-needed c = λ least.
+    elim c.if-is_due.branch [
+      | then-is_due+in_ok-send_rows w ↦
+          let d : c.if-is_due.display.sheet.moment ≤ c.welcome.new.view.since =
+          rw c.welcome.ensures.since least in
+          let same : w.send_rows.new.self ≡ c.welcome.new.self =
+          w.in_ok-send_rows.ensures.needed (subst (λ (x : WebDisplay). x.sheet.moment ≤ c.welcome.new.view.since) w.display-is d) in
+          let sent : c.if-is_due.self.sent ≡ c.args.self.now.sent =
+          rw w.self-is (ap (λ (x : Wire). x.sent) same ∙ c.welcome.ensures.sent) in
+          then_same c.end.result _ _ _ sent c.end.ensures.sent
+      | else-is_due w ↦
+          let sent : c.if-is_due.self.sent ≡ c.args.self.now.sent = rw w.self-is c.welcome.ensures.sent in
+          then_same c.end.result _ _ _ sent c.end.ensures.sent
+    ]
 
 pub returns-clause-adds : goal.returns-clause-adds
 returns-clause-adds c =
