@@ -23,7 +23,8 @@ module _ {S J : Type 0} (calls : Calls J) where
   EndsBy s end = (has_stopped : Bool) × calls.stops s.seat has_stopped × (end ≡ option_or s.end (full_if has_stopped))
 
 module _ {S J : Type 0} where
-  -- one of so many loops: it has no connection, knows no other users' file, and counted, submitted and refused nothing
+  -- one of so many loops: it has no connection, knows no other users' file, and counted, submitted, refused
+  -- and told nothing
   abbrev pub IsFresh : ℕ → J → State S J → Type 0
   IsFresh loops seat s = (s.connections.peers.slots ≡ []) × ((key : ℕ) → ¬ (IsMarked s.connections.awake key))
       × ((user : UserId) → end_of s.rations.list.items user ≡ None) × (as_nanos s.rations.period ≡ loops * 1000000)
@@ -38,6 +39,7 @@ module _ {S J : Type 0} where
         draws = record { is_told = false; from = None; made = 0 };
         may_have_lost = false;
         end = None;
+        news = [];
       })
 
   -- a connection that is awake waits for this

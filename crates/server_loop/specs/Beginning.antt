@@ -12,14 +12,15 @@ use Rattle.session.specs.Trace.{EventValue, Reply}
 use Rattle.session.specs.event.Done.{Done}
 use Rattle.server_connections.specs.Changing.{told_to_go}
 use Rattle.server_seat.specs.Ending.{why_of_fault}
+use Rattle.server_seat.specs.declared.news.News.TheVariants as news
 use Rattle.server_seat.specs.declared.seat.GuestKind.{GuestKind}
 use Rattle.server_seat.specs.declared.seat.ServerEnd.TheVariants as cause
 use Rattle.server_seat.specs.declared.seat.SeatAnswer.{SeatAnswer}
 use Rattle.server_seat.specs.declared.seat.SeatFault.{SeatFault}
 use Rattle.server_seat.specs.declared.seat.SessionSeat.{Ghosts as Calls}
 use Rattle.server_sending.specs.Frames.{PutsMessage}
-use Rattle.server_steps.specs.Meaning.{event_of, guest_of, is_extra_at, joined, kind_of, many_of, may_judge, role_of}
-use Rattle.server_steps.specs.Meaning.{shown_in}
+use Rattle.server_steps.specs.Meaning.{event_of, guest_of, is_extra_at, joined, kind_of, many_of, may_judge, news_of}
+use Rattle.server_steps.specs.Meaning.{role_of, shown_in}
 use Rattle.server_steps.specs.Submitted.{IsQuit}
 use Rattle.server_steps.specs.declared.progress.Progress.{Progress}
 use Rattle.server_steps.specs.declared.progress.Progress.TheVariants as progress
@@ -27,7 +28,7 @@ use Rattle.server_users.specs.Entries.{Entry}
 use Rattle.server_users.specs.declared.user.Shown.{Shown}
 use Rattle.server_loop.specs.Handing.{Faults, SendsTo}
 use Rattle.server_loop.specs.Leaving.{IfBool}
-use Rattle.server_loop.specs.Submitting.{State, peer_at, with_peer}
+use Rattle.server_loop.specs.Submitting.{State, peer_at, told, with_peer}
 use Rattle.server_loop.specs.Trying.{HasToWait, IsTried}
 
 -- this user is the one whose name and token these are
@@ -58,10 +59,11 @@ module _ {S J : Type 0} (calls : Calls J) where
   abbrev pub SendsAway : List ℕ → ℕ → State S J → State S J → Type 0
   SendsAway text key old new = TurnsAway text key old new ⊎ Dismisses why.Fault key old new
 
-  -- it became the client or the window that the session made, and was welcomed by its number
+  -- it became the client or the window that the session made, which is told to the log, and was welcomed by its number
   abbrev pub LetsIn : Shown → GuestKind → Done → ℕ → State S J → State S J → Type 0
   LetsIn shown kind done key old new = Tells (message.Welcome done.number) key
-      (with_peer (joined shown (role_of kind done) (guest_of kind shown done)) key old) new
+      (told (news.Came (guest_of kind shown done))
+      (with_peer (joined shown (role_of kind done) (guest_of kind shown done)) key old)) new
 
   -- it was told what its command lists, if that lists something
   abbrev pub Lists : Option (List ℕ) → ℕ → State S J → State S J → Type 0
@@ -92,13 +94,14 @@ module _ {S J : Type 0} (calls : Calls J) where
       × IsTried calls user event old (Err fault) mid × Dismisses (why_of_fault fault) key mid new
   Attempts user event key old (Err progress.Part) new = ⊥
 
-  -- Without memory to look whether a command is `quit`, it was told to go. Else its event was tried, and it was told the
-  -- answer.
-  abbrev pub Commands : UserId → EventValue → ℕ → State S J → Progress → State S J → Type 0
-  Commands user event key old far new = ((far ≡ progress.Done) × Dismisses why.Fault key old new)
-      ⊎ (Attempts user event key old (Err far) new
+  -- Without memory to look whether a command is `quit`, it was told to go. Else its event was tried, and it and the log
+  -- were told the answer.
+  abbrev pub Commands : Shown → EventValue → ℕ → State S J → Progress → State S J → Type 0
+  Commands shown event key old far new = ((far ≡ progress.Done) × Dismisses why.Fault key old new)
+      ⊎ (Attempts shown.user event key old (Err far) new
       ⊎ ((far ≡ progress.Done) × (quits : Bool) × (IsTrue quits ↔ IsQuit event) × (answer : SeatAnswer)
-      × (mid : State S J) × Attempts user event key old (Ok answer) mid × Answers quits answer.reply key mid new))
+      × (mid : State S J) × Attempts shown.user event key old (Ok answer) mid
+      × Answers quits answer.reply key (told (news_of shown answer.reply) mid) new))
 
   -- what came of it by the answer to its event: it was let in; or it was told why not, and isn't counted any more
   abbrev pub Enters : Shown → GuestKind → Reply → ℕ → State S J → State S J → Type 0
@@ -128,18 +131,18 @@ module _ {S J : Type 0} (calls : Calls J) where
   abbrev pub BeginsBy : Shown → Option GuestKind → Option EventValue → ℕ
       → State S J → Progress → State S J → Type 0
   BeginsBy shown kind None key old far new = (far ≡ progress.Done) × (new ≡ old)
-  BeginsBy shown None (Some event) key old far new = Commands shown.user event key old far new
+  BeginsBy shown None (Some event) key old far new = Commands shown event key old far new
   BeginsBy shown (Some kind) (Some event) key old far new = Joins shown kind event key old far new
 
   abbrev pub BeginsAs : Shown → Message → ℕ → State S J → Progress → State S J → Type 0
   BeginsAs shown m = BeginsBy shown (kind_of m) (event_of shown m)
 
-  -- Nobody has this name and this token, and it was told so, without a step. Or somebody has, and is the user for whom
-  -- its event was tried.
+  -- Nobody has this name and this token, and it and the log were told so, without a step. Or somebody has, and is the
+  -- user for whom its event was tried.
   abbrev pub Judges : List Entry → Entry → Message → ℕ → State S J → Progress → State S J → Type 0
   Judges users entry m key old far new =
       (¬ (Contains users entry) × (far ≡ progress.Done)
-      × TurnsAway (codes "unknown user or wrong token") key old new)
+      × TurnsAway (codes "unknown user or wrong token") key (told news.WrongToken old) new)
       ⊎ ((shown : Shown) × IsShown users entry shown × BeginsAs shown m key old far new)
 
   -- the users who may connect, by the users' file as it was read last

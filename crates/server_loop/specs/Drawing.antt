@@ -1,11 +1,12 @@
 -- Whose draws a loop asks for.
-use Rattle.std.specs.Prelude.{◌≡◌, ◌⊎◌, ◌+◌, ◌-◌, ◌<◌, ℕ, zero, suc, Bool, true, false, List, Option, Some, None}
+use Rattle.std.specs.Prelude.{◌≡◌, ◌⊎◌, ◌+◌, ◌-◌, ◌<◌, ℕ, zero, suc, Bool, true, false, Option, Some, None}
 use Rattle.std.specs.Prelude.{Err, MatchOption, Ok, min}
 use Rattle.slab.specs.Slab.{get}
 use Rattle.session.specs.Trace.{EventValue, Draw}
 use Rattle.server_connections.specs.Changing.{drawn}
 use Rattle.server_connections.specs.Telling.{told_if_any}
 use Rattle.server_connections.specs.declared.connections.Connections.{Connections}
+use Rattle.server_connections.specs.declared.peer_stream.PeerStream.{Ghosts as Streams}
 use Rattle.server_seat.specs.declared.seat.SeatFault.TheVariants as fault
 use Rattle.server_seat.specs.declared.seat.SessionSeat.{Ghosts as Calls}
 use Rattle.server_steps.specs.Sending.{wanting}
@@ -68,11 +69,11 @@ module _ {S J : Type 0} where
       × (new ≡ record old { connections = new.connections; draws = record old.draws { is_told = false } }))
       (new ≡ old)
 
-module _ {S J : Type 0} (calls : Calls J) (contents : S → Option (List ℕ)) where
+module _ {S J : Type 0} (calls : Calls J) (streams : Streams S) where
   -- what came of steps went to its connections, and was written
   abbrev pub HandsOn : State S J → State S J → Type 0
   HandsOn old new = IfBool old.is_behind
-      ((mid : State S J) × HandsOut calls old mid × VisitsAll (Writes calls contents) mid new)
+      ((mid : State S J) × HandsOut calls old mid × VisitsAll (Writes calls streams) mid new)
       (new ≡ old)
 
   -- Of the clients from a key on, those were drawn that want it, 16 at most, and were sent that. If some are left, it

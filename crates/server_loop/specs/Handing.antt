@@ -21,6 +21,8 @@ use Rattle.server_sending.specs.Causes.{told_of}
 use Rattle.server_sending.specs.Frames.{PutsFrames, PutsFront, PutsMessage}
 use Rattle.server_sending.specs.Written.{Waiting}
 use Rattle.server_steps.specs.Ending.{end_after}
+use Rattle.server_steps.specs.Meaning.{role_at}
+use Rattle.server_steps.specs.Telling.{misfit, with_any}
 use Rattle.server_steps.specs.Typing.{is_open_at}
 
 -- an effect, with the user who typed it
@@ -32,6 +34,10 @@ module _ {S J : Type 0} where
   abbrev pub Ends : Role → Reason → State S J → State S J → Type 0
   Ends role reason old new = LetsGo old.connections role (told_of reason) new.connections
       × (new ≡ record old { connections = new.connections; end = end_after reason old.end })
+
+  -- it sent something else than a first message, if none came from it
+  abbrev pub misfit_told : ℕ → State S J → State S J
+  misfit_told key s = record s { news = with_any (misfit (role_at (peer_at key s))) s.news }
 
 module _ {S J : Type 0} (calls : Calls J) where
   -- Something was put for a role, into the first connection that has it and into no other. If only the front of it
@@ -85,8 +91,10 @@ module _ {S J : Type 0} (calls : Calls J) where
       may_have_lost = mid.may_have_lost || is_told;
     }
 
-  -- What it sent before was answered, and it was told to go, if it wasn't before.
+  -- What it sent before was answered, and it was told to go, if it wasn't before. If it sent no first message, that is
+  -- told to the log.
   pub record Faults (key : ℕ) (old new : State S J) : Type 0 where
     pub mid : State S J
     pub handed : HandsOut old mid
-    pub goes : IfBool (is_open_at (peer_at key mid)) (Expels calls why.Fault key mid new) (new ≡ mid)
+    pub goes : IfBool (is_open_at (peer_at key mid)) (Expels calls why.Fault key (misfit_told key mid) new)
+        (new ≡ mid)

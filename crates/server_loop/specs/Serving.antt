@@ -1,12 +1,13 @@
 -- What a connection asked for is done: its messages in order, and what isn't done of one is put back, to come first.
-use Rattle.std.specs.Prelude.{◌≡◌, ◌⊎◌, ◌+◌, ℕ, Bool, true, false, not, List, Option, Some, None}
+use Rattle.std.specs.Prelude.{◌≡◌, ◌⊎◌, ◌+◌, ℕ, Bool, true, false, not, Option, Some, None}
 use Rattle.std.specs.Prelude.{◌||◌, is_some, min, nat_le, nat_lt}
 use Rattle.slab.specs.Slab.{get}
 use Rattle.server_connections.specs.declared.connections.Connections.{Connections}
 use Rattle.server_connections.specs.declared.peer.Role.{Role}
 use Rattle.server_connections.specs.declared.peer.Role.TheVariants as role
-use Rattle.server_connections.specs.declared.stream.Arrival.{Arrival}
-use Rattle.server_connections.specs.declared.stream.Arrival.TheVariants as arrived
+use Rattle.server_connections.specs.declared.peer_stream.Arrival.{Arrival}
+use Rattle.server_connections.specs.declared.peer_stream.Arrival.TheVariants as arrived
+use Rattle.server_connections.specs.declared.peer_stream.PeerStream.{Ghosts as Streams}
 use Rattle.server_inbox.specs.declared.inbox.Asked.{Asked}
 use Rattle.server_steps.specs.Asking.{AsksAt, ReadsAt, drains_at, goes_on, has_asked_at, held_after, is_due_at}
 use Rattle.server_steps.specs.Asking.{is_faulty_at, is_much, is_window_at, left_over, prints_at, unheld}
@@ -85,11 +86,11 @@ module _ {S J : Type 0} (calls : Calls J) where
   ServesAfter arrived.Much key old goes new = (goes ≡ false)
       × (is_done : Bool) × ObeysSome key (with_much (not (drains_at (peer_at key old))) old) is_done new
 
-module _ {S J : Type 0} (calls : Calls J) (remaining : S → Option (List ℕ)) where
+module _ {S J : Type 0} (calls : Calls J) (streams : Streams S) where
   -- a connection was read once, unless it may not be, and served
   abbrev pub ServesOnce : ℕ → State S J → Bool → State S J → Type 0
   ServesOnce key old goes new = (arrival : Arrival) × (taken : Connections S)
-      × ReadsAt remaining (millis_of old.now) old.room key old.connections arrival taken
+      × ReadsAt streams (millis_of old.now) old.room key old.connections arrival taken
       × ServesAfter calls arrival key (record old { connections = taken }) goes new
 
   -- one that has something to read or to do was served, 16 times at most; what was held is tried again

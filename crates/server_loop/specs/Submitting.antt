@@ -6,12 +6,14 @@ use Rattle.session.specs.Trace.{EventValue}
 use Rattle.server_connections.specs.Changing.{changed}
 use Rattle.server_connections.specs.declared.connections.Connections.{Connections}
 use Rattle.server_connections.specs.declared.peer.Peer.{Peer}
+use Rattle.server_seat.specs.declared.news.News.{News}
 use Rattle.server_seat.specs.declared.seat.SeatAnswer.{SeatAnswer}
 use Rattle.server_seat.specs.declared.seat.SeatFault.{SeatFault}
 use Rattle.server_seat.specs.declared.seat.SeatFault.TheVariants as fault
 use Rattle.server_seat.specs.declared.seat.ServerEnd.{ServerEnd}
 use Rattle.server_seat.specs.declared.seat.SessionSeat.{Ghosts as Calls}
 use Rattle.server_steps.specs.Submitted.{noted}
+use Rattle.server_steps.specs.Telling.{filled_by, with_any, with_news}
 use Rattle.server_steps.specs.declared.submitted.Submitted.{Submitted}
 use Rattle.server_users.specs.Entries.{Entry}
 use Rattle.server_users.specs.declared.ration.Rations.{Rations}
@@ -43,6 +45,8 @@ pub record State (S J : Type 0) : Type 0 where
   pub draws : Drawn
   pub may_have_lost : Bool
   pub end : Option ServerEnd
+  -- what is to be told to the log
+  pub news : List News
 
 abbrev pub state_of : {S G J : Type 0} → Loop S G J → State S J
 state_of own = record {
@@ -63,6 +67,7 @@ state_of own = record {
   draws = own.draws;
   may_have_lost = own.may_have_lost;
   end = own.end;
+  news = own.news;
 }
 
 -- why the server is to end, after an answer
@@ -79,13 +84,18 @@ module _ {S J : Type 0} where
   abbrev pub with_peer : (Peer S → Peer S) → ℕ → State S J → State S J
   with_peer change key s = record s { connections = changed change key s.connections }
 
-  -- after a step with this event: effects may wait
+  -- this is to be told to the log
+  abbrev pub told : News → State S J → State S J
+  told one s = record s { news = with_news one s.news }
+
+  -- after a step with this event: effects may wait, and how full the trail is, is told if it is news
   abbrev pub after_step : EventValue → Answer → J → State S J → State S J
   after_step event answer seat s = record s {
     seat = seat;
     submitted = noted event s.submitted;
     is_behind = true;
     end = end_by answer s.end;
+    news = with_any (filled_by answer) s.news;
   }
 
   -- one step was made, with this event; no connection changed

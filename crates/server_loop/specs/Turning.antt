@@ -1,5 +1,5 @@
 -- What a turn of a loop leaves behind, and how connections go.
-use Rattle.std.specs.Prelude.{◌≡◌, ◌⊎◌, ◌<◌, ◌≤◌, ℕ, Bool, true, false, List, Option, Some, None, IfSome, if◌then◌else◌}
+use Rattle.std.specs.Prelude.{◌≡◌, ◌⊎◌, ◌<◌, ◌≤◌, ℕ, Bool, true, false, Option, Some, None, IfSome, if◌then◌else◌}
 use Rattle.std.specs.declared.time.Duration.{Duration}
 use Rattle.attach_proto.specs.declared.why.Why.TheVariants as why
 use Rattle.slab.specs.Slab.{Updates, get}
@@ -8,6 +8,7 @@ use Rattle.server_connections.specs.Life.{without_guest}
 use Rattle.server_connections.specs.Marked.{without_mark}
 use Rattle.server_connections.specs.Peers.{goes, rests}
 use Rattle.server_connections.specs.declared.connections.Connections.{Connections}
+use Rattle.server_connections.specs.declared.peer_stream.PeerStream.{Ghosts as Streams}
 use Rattle.server_seat.specs.Ending.{why_of_end}
 use Rattle.server_seat.specs.declared.seat.ServerEnd.{ServerEnd}
 use Rattle.server_seat.specs.declared.seat.SessionSeat.{Ghosts as Calls}
@@ -15,6 +16,7 @@ use Rattle.server_steps.specs.Ending.{EachKey, FinishesAt, IsOldest, expired, fu
 use Rattle.server_steps.specs.Ending.{new_number, told_full}
 use Rattle.server_steps.specs.Sending.{WritesAt}
 use Rattle.server_steps.specs.Submitted.{nothing_submitted}
+use Rattle.server_steps.specs.Telling.{went, with_any}
 use Rattle.server_steps.specs.declared.turns.Writes.{Writes as Written}
 use Rattle.server_loop.specs.Awaiting.{EndsBy}
 use Rattle.server_loop.specs.Drawing.{DrawsAll}
@@ -38,11 +40,13 @@ module _ {S : Type 0} where
     pub same : new ≡ record old { peers = new.peers; awake = new.awake }
 
 module _ {S J : Type 0} (calls : Calls J) where
-  -- its guest, if it was one and went, is counted no more, and is told of once
+  -- its guest, if it was one and went, is counted no more, and the log is told of it once
   abbrev pub PartsWith : ℕ → State S J → State S J → Type 0
   PartsWith key old new =
       IfSome (gone_at (peer_at key old)) (λ gone. calls.uncounts old.seat gone.0.user gone.0.kind)
-      × (new ≡ with_peer without_guest key old)
+      × (new ≡ record (with_peer without_guest key old) {
+        news = with_any (went (gone_at (peer_at key old))) old.news;
+      })
 
   -- If it is news whether its window is full, all loops were told.
   abbrev pub TellsFull : ℕ → State S J → State S J → Type 0
@@ -65,11 +69,11 @@ module _ {S J : Type 0} (calls : Calls J) where
       (VisitsAll (DropsAt calls) (record old { may_have_lost = false }) new)
       (new ≡ old)
 
-module _ {S J : Type 0} (calls : Calls J) (contents : S → Option (List ℕ)) where
+module _ {S J : Type 0} (calls : Calls J) (streams : Streams S) where
   -- it was told to go, if it wasn't before, and given up; what is closed went
   abbrev pub Closes : ℕ → State S J → State S J → Type 0
   Closes key old new = (closed : Bool) × (written : Connections S)
-      × WritesAt contents key (changed (told_to_go why.Fault) key old.connections) closed written
+      × WritesAt streams key (changed (told_to_go why.Fault) key old.connections) closed written
       × (lost : State S J) × Loses calls key (record old { connections = written }) lost
       × VisitsAll (Settles calls) lost new
 
@@ -86,7 +90,7 @@ module _ {S J : Type 0} (calls : Calls J) (contents : S → Option (List ℕ)) w
     pub mid : State S J
     pub handed : HandsOut calls old mid
     pub told : Connections S
-    pub finished : EachKey (FinishesAt contents (why_of_end end)) mid.connections.peers.capacity 0
+    pub finished : EachKey (FinishesAt streams (why_of_end end)) mid.connections.peers.capacity 0
         mid.connections told
     pub settled : VisitsAll (Settles calls) (record mid { connections = told }) new
 
@@ -104,11 +108,11 @@ module _ {S J : Type 0} (calls : Calls J) (contents : S → Option (List ℕ)) w
     pub kept : State S J
     pub dropped : DropsLost calls out kept
     pub sent : State S J
-    pub written : VisitsAll (Writes calls contents) kept sent
+    pub written : VisitsAll (Writes calls streams) kept sent
     pub drawn : State S J
-    pub draws : DrawsAll calls contents holds_draws sent drawn
+    pub draws : DrawsAll calls streams holds_draws sent drawn
     pub timely : State S J
-    pub laggards : VisitsAll (DropsLaggard calls contents) drawn timely
+    pub laggards : VisitsAll (DropsLaggard calls streams) drawn timely
     pub mid : State S J
     pub settled : VisitsAll (Settles calls) timely mid
     pub made : result.drawn ≡ mid.draws.made

@@ -1,10 +1,11 @@
 -- What is written to connections, and what of that which waits for them goes unwritten.
-use Rattle.std.specs.Prelude.{◌≡◌, ◌⊎◌, ℕ, zero, suc, Bool, List, Option, Some, None, IsSomeAnd}
+use Rattle.std.specs.Prelude.{◌≡◌, ◌⊎◌, ℕ, zero, suc, Bool, Option, Some, None, IsSomeAnd}
 use Rattle.acl.specs.declared.user_id.UserId.{UserId}
 use Rattle.attach_proto.specs.declared.why.Why.TheVariants as why
 use Rattle.server_connections.specs.declared.connections.Connections.{Connections}
 use Rattle.server_connections.specs.declared.peer.Role.{Role}
 use Rattle.server_connections.specs.declared.peer.Role.TheVariants as role
+use Rattle.server_connections.specs.declared.peer_stream.PeerStream.{Ghosts as Streams}
 use Rattle.server_sending.specs.Typists.{HasNoTypist, IsNextTypist}
 use Rattle.server_steps.specs.Meaning.{role_at}
 use Rattle.server_steps.specs.Sending.{IsLaggard, WritesAt, cut, frames_at, without_user}
@@ -39,12 +40,12 @@ module _ {S J : Type 0} (calls : Calls J) where
   abbrev pub DropsAt : ℕ → State S J → State S J → Type 0
   DropsAt key old new = DropsTyped (role_at (peer_at key old)) key old new
 
-module _ {S J : Type 0} (calls : Calls J) (contents : S → Option (List ℕ)) where
+module _ {S J : Type 0} (calls : Calls J) (streams : Streams S) where
   -- what waits for a connection was written as far as it takes it; if it was closed, the session was told that it left
   pub record Writes (key : ℕ) (old new : State S J) : Type 0 where
     pub closed : Bool
     pub mid : Connections S
-    pub written : WritesAt contents key old.connections closed mid
+    pub written : WritesAt streams key old.connections closed mid
     pub told : IfBool closed ((told : Bool) × TellsLeaving calls key (record old { connections = mid }) told new)
         (new ≡ record old { connections = mid })
 

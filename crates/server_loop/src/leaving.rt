@@ -3,6 +3,8 @@
 ghost use Rattle.std.specs.Prelude.{◌≡◌, IfSome, option_map};
 ghost use Rattle.slab.specs.Slab.{get};
 ghost use Rattle.session.specs.Trace.{happening};
+ghost use Rattle.server_steps.specs.Meaning.{role_at};
+ghost use Rattle.server_steps.specs.Telling.{misfit, with_any};
 ghost use Rattle.server_connections.specs.Changing.{changed, told_to_go};
 ghost use Rattle.server_loop.specs.Handing.{Faults};
 ghost use Rattle.server_loop.specs.Leaving.{Detaches, Expels, LeavesBy, Loses, TellsLeaving, TriesLeaving, leaving};
@@ -13,16 +15,15 @@ ghost use Rattle.server_loop.specs.Walking.{VisitsAll};
 
 use crate::own::Loop;
 use attach_proto::Why;
-use server_connections::{News, SeatFault, ServerEnd, SessionSeat, each_awake};
+use server_connections::{News, PeerStream, SeatFault, ServerEnd, SessionSeat, each_awake};
 use server_steps::{
-    Gate, count_new, expire, finish, is_open_at, oldest_new, role_at, take_fullness, take_guest,
-    write,
+    Gate, count_new, expire, finish, is_open_at, misfit, oldest_new, role_at, take_fullness,
+    take_guest, write,
 };
 use session::Event;
-use std::io::{Read, Write};
 use std::sync::Wait;
 
-impl<S: Read + Write + Drop, G: Gate + Drop, J: SessionSeat + Drop> Loop<S, G, J> {
+impl<S: PeerStream + Drop, G: Gate + Drop, J: SessionSeat + Drop> Loop<S, G, J> {
     // The event by which a connection leaves the session, if it left and the session wasn't told.
     fn leaving<'a>(&self, key: usize) -> Option<Event<'a>>
         ensures event { option_map happening result ≡ leaving (get self.entry.now.connections.peers key) }
@@ -90,11 +91,12 @@ impl<S: Read + Write + Drop, G: Gate + Drop, J: SessionSeat + Drop> Loop<S, G, J
 
     // A connection that is no guest sent something else than a first message.
     fn note_misfit(&mut self, key: usize)
-        ensures { state_of self.new ≡ state_of self.old }
+        ensures { self.new ≡ record self.old {
+          news = with_any (misfit (role_at (get self.old.connections.peers key))) self.old.news;
+        } }
     {
-        if role_at(&self.connections, key).is_stranger() {
-            self.tell(News::Misfit);
-        }
+        let role = role_at(&self.connections, key);
+        self.news.put_any(misfit(role));
     }
 
     // A connection sent what it mustn't: it is told to go, after all that came of what it sent before.
@@ -130,7 +132,7 @@ impl<S: Read + Write + Drop, G: Gate + Drop, J: SessionSeat + Drop> Loop<S, G, J
 
     /// If the first message of `most` connections or more isn't done, the one that came first is told to go and closed.
     pub fn let_oldest_go(&mut self, rt: &impl Wait, most: usize)
-        ensures { LetsOldestGo J.SessionSeat S.contents most (state_of self.old) (state_of self.new) }
+        ensures { LetsOldestGo J.SessionSeat S.PeerStream most (state_of self.old) (state_of self.new) }
     {
         if count_new(&self.connections) < most {
             return;
@@ -191,7 +193,7 @@ impl<S: Read + Write + Drop, G: Gate + Drop, J: SessionSeat + Drop> Loop<S, G, J
 
     /// The server ends: guests are told so, and strangers are closed.
     pub fn finish(&mut self, rt: &impl Wait, end: ServerEnd)
-        ensures { Finishes J.SessionSeat S.contents end (state_of self.old) (state_of self.new) }
+        ensures { Finishes J.SessionSeat S.PeerStream end (state_of self.old) (state_of self.new) }
     {
         self.hand_out(rt);
         finish(&mut self.connections, end.why());

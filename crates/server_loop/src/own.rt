@@ -1,21 +1,19 @@
 //! One loop: its connections, its seat in the session, and what it still has to do.
 
-ghost use Rattle.std.specs.Prelude.{◌≡◌, ◌⊎◌, ◌<◌, ◌++◌, ◌∷◌, [], IfOk, false, true, vec_capacity, vec_len};
+ghost use Rattle.std.specs.Prelude.{◌≡◌, [], IfOk};
 ghost use Rattle.server_loop.specs.Awaiting.{EndsBy, HasWaiting, IsDue, IsFresh, Pends};
 ghost use Rattle.server_loop.specs.Submitting.{state_of};
+ghost use Rattle.server_steps.specs.Telling.{with_news};
 
 use crate::turn::OUTPUT;
 use server_connections::{Awaits, Connections, HasConnections, News, ServerEnd, SessionSeat};
-use server_steps::{Gate, Pending, Submitted, full_if};
+use server_steps::{Gate, NewsList, Pending, Submitted, full_if};
 use server_users::{Rations, Users};
 use std::alloc::{AllocError, Global};
 use std::time::Duration;
 
 // A read takes at most four of the longest frames. Half as much costs a flood a tenth more time, twice as much a fifth.
 const READ_SIZE: usize = 32_768;
-
-// At most this many news wait until they are taken. Later ones are left out.
-const MOST_NEWS: usize = 1_024;
 
 // The reads of a turn.
 #[derive(Drop)]
@@ -64,9 +62,8 @@ pub struct Loop<S, G, J> {
     // A step other than a draw was made since it was looked who may still type.
     pub(crate) may_have_lost: bool,
     pub(crate) end: Option<ServerEnd>,
-    /// Whether news is told.
-    pub tells: bool,
-    news: Vec<News>,
+    // What is to be told to the log.
+    pub(crate) news: NewsList,
 }
 
 impl<S, G, J> HasConnections<S> for Loop<S, G, J> {
@@ -80,8 +77,7 @@ impl<S, G, J> HasConnections<S> for Loop<S, G, J> {
 impl<S: Drop, G: Gate + Drop, J: SessionSeat + Drop> Loop<S, G, J> {
     /// One of this many loops.
     pub fn new(alloc: Global, seat: J, gate: G, loops: usize) -> Result<Loop<S, G, J>, AllocError>
-        ensures fresh { IfOk result (λ own. IsFresh loops seat (state_of own)) }
-        ensures silent { IfOk result (λ own. (own.tells ≡ false) × (own.news.items ≡ [])) }
+        ensures { IfOk result (λ own. IsFresh loops seat (state_of own)) }
     {
         Ok(Loop {
             alloc,
@@ -109,8 +105,7 @@ impl<S: Drop, G: Gate + Drop, J: SessionSeat + Drop> Loop<S, G, J> {
             },
             may_have_lost: false,
             end: None,
-            tells: false,
-            news: Vec::new(alloc),
+            news: NewsList::new(alloc)?,
         })
     }
 
@@ -166,26 +161,24 @@ impl<S: Drop, G: Gate + Drop, J: SessionSeat + Drop> Loop<S, G, J> {
         self.end.or(full_if(self.seat.has_stopped()))
     }
 
-    // Notes what happened. It is left out if there is no memory for it, if many wait, or if news aren't told.
+    // Puts down what happened, to be told to the log. It is left out if many news wait.
     pub(crate) fn tell(&mut self, news: News)
-        ensures same { self.new ≡ record self.old { news = self.new.news } }
-        ensures told { (self.new.news.items ≡ self.old.news.items)
-            ⊎ (self.new.news.items ≡ self.old.news.items ++ news ∷ []) }
-        ensures room { self.old.tells ≡ true → vec_len self.old.news < 1024
-            → vec_len self.old.news < vec_capacity self.old.news
-            → self.new.news.items ≡ self.old.news.items ++ news ∷ [] }
+        ensures { self.new ≡ record self.old { news = with_news news self.old.news } }
     {
-        if self.tells && self.news.len() < MOST_NEWS {
-            let _ = self.news.push(news);
-        }
+        self.news.put(news);
     }
 
-    /// Takes the news since the last call.
-    pub fn take_news(&mut self) -> Vec<News>
-        ensures taken { result.items ≡ self.old.news.items }
-        ensures rest { (self.new ≡ record self.old { news = self.new.news }) × (self.new.news.items ≡ []) }
+    /// What happened since it was last told, in order.
+    pub fn news(&self) -> &[News]
+        ensures { result.now ≡ self.entry.now.news }
     {
-        let none = Vec::new(self.alloc);
-        std::mem::replace(&mut self.news, none)
+        self.news.as_slice()
+    }
+
+    /// What happened by now was told.
+    pub fn note_told(&mut self)
+        ensures { self.new ≡ record self.old { news = [] } }
+    {
+        self.news.clear();
     }
 }

@@ -14,7 +14,9 @@ ghost use Rattle.server_steps.specs.Meaning.{meaning_of, role_at};
 
 use crate::own::Loop;
 use attach_proto::{Message, Text, Token, Why};
-use server_connections::{Asked, GuestKind, News, SeatAnswer, SeatFault, Sending, SessionSeat};
+use server_connections::{
+    Asked, GuestKind, News, PeerStream, SeatAnswer, SeatFault, Sending, SessionSeat,
+};
 use server_steps::{
     Gate, Meaning, Progress, event_of, guest_of, is_extra, kind_of, make_guest, many_of, may_judge,
     meaning_of, news_of, quit_if, quits, role_at, role_of, shown_in,
@@ -22,7 +24,6 @@ use server_steps::{
 use server_users::{Shown, Users, authenticate};
 use session::{Done, Event, Refusal, Reply, push_decimal};
 use std::alloc::AllocError;
-use std::io::{Read, Write};
 use std::sync::Wait;
 
 const UNKNOWN: &[u8] = b"unknown user or wrong token";
@@ -48,7 +49,7 @@ fn say_most(newcomer: Newcomer, most: u8, out: &mut Vec<u8>) -> Result<(), Alloc
     push_decimal(u64::from(most), out)
 }
 
-impl<S: Read + Write + Drop, G: Gate + Drop, J: SessionSeat + Drop> Loop<S, G, J> {
+impl<S: PeerStream + Drop, G: Gate + Drop, J: SessionSeat + Drop> Loop<S, G, J> {
     /// Does a message of a connection, or a step of it, as what it means.
     pub(crate) fn obey(&mut self, rt: &impl Wait, key: usize, asked: &mut Asked) -> Progress
         ensures { ObeysBy J.SessionSeat (meaning_of (role_at (get self.old.connections.peers key))
@@ -267,7 +268,7 @@ impl<S: Read + Write + Drop, G: Gate + Drop, J: SessionSeat + Drop> Loop<S, G, J
     // No effect tells of a `quit` if no window is open and nobody is attached, so its line is read here too.
     fn command(&mut self, rt: &impl Wait, key: usize, user: Shown, event: Event) -> Progress
         requires { IsOf user.user (happening event) }
-        ensures { Commands J.SessionSeat user.user (happening event.entry) key
+        ensures { Commands J.SessionSeat user (happening event.entry) key
             (state_of self.old) result (state_of self.new) }
     {
         let Ok(is_quit) = quits(self.alloc, event) else {

@@ -14,19 +14,18 @@ ghost use Rattle.server_loop.specs.Writing.{DropsLaggard, DropsOf, DropsTyped, W
 use crate::own::Loop;
 use acl::UserId;
 use attach_proto::{Message, Why};
-use server_connections::{Role, SeatFault, Sending, SessionSeat, each_awake, why_of};
+use server_connections::{PeerStream, Role, SeatFault, Sending, SessionSeat, each_awake, why_of};
 use server_steps::{
     Gate, cut_off, drawn_from, drop_typed, end_after, is_laggard, next_from, role_at, typist_after,
     wanting, write,
 };
 use session::{Effect, Event, Reason};
-use std::io::{Read, Write};
 use std::sync::Wait;
 
 // At most this many draws are asked for in a turn. The others follow in the next turns, and keys are read between.
 const DRAWS: usize = 16;
 
-impl<S: Read + Write + Drop, G: Gate + Drop, J: SessionSeat + Drop> Loop<S, G, J> {
+impl<S: PeerStream + Drop, G: Gate + Drop, J: SessionSeat + Drop> Loop<S, G, J> {
     // Puts something after what waits for a connection, which is told to go if that can't be done.
     pub(crate) fn send(&mut self, rt: &impl Wait, key: usize, sending: Sending)
         ensures { SendsTo J.SessionSeat key (Sends sending.entry) (SendsFront sending.entry)
@@ -156,7 +155,7 @@ impl<S: Read + Write + Drop, G: Gate + Drop, J: SessionSeat + Drop> Loop<S, G, J
 
     // Writes what waits for a connection, until it takes no more for now.
     fn write_to(&mut self, rt: &impl Wait, key: usize)
-        ensures { Writes J.SessionSeat S.contents key (state_of self.old) (state_of self.new) }
+        ensures { Writes J.SessionSeat S.PeerStream key (state_of self.old) (state_of self.new) }
     {
         if !write(&mut self.connections, key) {
             return;
@@ -165,7 +164,7 @@ impl<S: Read + Write + Drop, G: Gate + Drop, J: SessionSeat + Drop> Loop<S, G, J
     }
 
     pub(crate) fn write_all(&mut self, rt: &impl Wait)
-        ensures { VisitsAll (Writes J.SessionSeat S.contents) (state_of self.old) (state_of self.new) }
+        ensures { VisitsAll (Writes J.SessionSeat S.PeerStream) (state_of self.old) (state_of self.new) }
     {
         each_awake(self, |own, key| own.write_to(rt, key));
     }
@@ -226,7 +225,7 @@ impl<S: Read + Write + Drop, G: Gate + Drop, J: SessionSeat + Drop> Loop<S, G, J
 
     // What came of steps is handed out and written.
     fn hand_on(&mut self, rt: &impl Wait)
-        ensures { HandsOn J.SessionSeat S.contents (state_of self.old) (state_of self.new) }
+        ensures { HandsOn J.SessionSeat S.PeerStream (state_of self.old) (state_of self.new) }
     {
         if !self.is_behind {
             return;
@@ -237,7 +236,7 @@ impl<S: Read + Write + Drop, G: Gate + Drop, J: SessionSeat + Drop> Loop<S, G, J
 
     // Asks for draws from a key on, and hands them out.
     fn draw_round(&mut self, rt: &impl Wait, from: usize, is_held: bool)
-        ensures { DrawsRound J.SessionSeat S.contents from is_held (state_of self.old) (state_of self.new) }
+        ensures { DrawsRound J.SessionSeat S.PeerStream from is_held (state_of self.old) (state_of self.new) }
     {
         self.tell_all();
         let next = self.draw_some(rt, from);
@@ -247,7 +246,7 @@ impl<S: Read + Write + Drop, G: Gate + Drop, J: SessionSeat + Drop> Loop<S, G, J
 
     // Asks for draws unless they are held, or goes on with those that were begun, and hands them out.
     pub(crate) fn draw_all(&mut self, rt: &impl Wait, is_held: bool)
-        ensures { DrawsAll J.SessionSeat S.contents is_held (state_of self.old) (state_of self.new) }
+        ensures { DrawsAll J.SessionSeat S.PeerStream is_held (state_of self.old) (state_of self.new) }
     {
         let Some(from) = drawn_from(self.draws.from, is_held) else {
             return;
@@ -257,7 +256,7 @@ impl<S: Read + Write + Drop, G: Gate + Drop, J: SessionSeat + Drop> Loop<S, G, J
 
     // A connection for which too much waits is told so, and closed once it takes no more.
     fn drop_laggard(&mut self, rt: &impl Wait, key: usize)
-        ensures { DropsLaggard J.SessionSeat S.contents key (state_of self.old) (state_of self.new) }
+        ensures { DropsLaggard J.SessionSeat S.PeerStream key (state_of self.old) (state_of self.new) }
     {
         if !is_laggard(&self.connections, key) {
             return;
@@ -268,7 +267,7 @@ impl<S: Read + Write + Drop, G: Gate + Drop, J: SessionSeat + Drop> Loop<S, G, J
     }
 
     pub(crate) fn drop_laggards(&mut self, rt: &impl Wait)
-        ensures { VisitsAll (DropsLaggard J.SessionSeat S.contents) (state_of self.old) (state_of self.new) }
+        ensures { VisitsAll (DropsLaggard J.SessionSeat S.PeerStream) (state_of self.old) (state_of self.new) }
     {
         each_awake(self, |own, key| own.drop_laggard(rt, key));
     }

@@ -8,8 +8,8 @@ ghost use Rattle.server_loop.specs.Submitting.{Submits, end_by, state_of};
 ghost use Rattle.server_loop.specs.Trying.{Tries};
 
 use crate::own::Loop;
-use server_connections::{News, SeatAnswer, SeatFault, SessionSeat};
-use server_steps::{Gate, Submitted, came_of, entries_of, kept_of};
+use server_connections::{SeatAnswer, SeatFault, SessionSeat};
+use server_steps::{Gate, Submitted, came_of, entries_of, filled_by, kept_of};
 use server_users::{Shown, UNIT, price};
 use session::Event;
 use std::sync::Wait;
@@ -32,20 +32,17 @@ impl<S: Drop, G: Gate + Drop, J: SessionSeat + Drop> Loop<S, G, J> {
         self.gate.after();
         self.is_behind = true;
         self.submitted.note(event);
-        self.note_answer(&answer);
+        self.news.put_any(filled_by(&answer));
+        self.note_end(&answer);
         answer
     }
 
-    // Tells how full the trail is, if that is news, and notes how the server ends, if it does.
-    fn note_answer(&mut self, answer: &Result<SeatAnswer, SeatFault>)
+    // Notes how the server ends, if it does.
+    fn note_end(&mut self, answer: &Result<SeatAnswer, SeatFault>)
         ensures { state_of self.new ≡ record (state_of self.old) { end = end_by answer.now self.old.end } }
     {
         match answer {
-            Ok(answer) => {
-                if let Some(percent) = answer.filled {
-                    self.tell(News::Filled(percent));
-                }
-            }
+            Ok(_) => {}
             Err(SeatFault::Over(end)) => self.end = Some(*end),
             Err(SeatFault::NoMemory) => {}
         }

@@ -12,12 +12,11 @@ ghost use Rattle.server_loop.specs.Typing.{millis_of};
 ghost use Rattle.server_loop.specs.Walking.{Repeats};
 
 use crate::own::Loop;
-use server_connections::{Arrival, PIECE, Role, SessionSeat, each_awake};
+use server_connections::{Arrival, PIECE, PeerStream, Role, SessionSeat, each_awake};
 use server_steps::{
     Gate, Progress, Reads, Writes, drains, go_on, has_asked, is_due_again, is_faulty, is_much,
     is_window, may_print, next_asked, put_back, read, role_at,
 };
-use std::io::{Read, Write};
 use std::sync::Wait;
 
 // A connection is read at most this many times before the others have their turn.
@@ -29,7 +28,7 @@ const STEPS: usize = 8;
 /// At most this many bytes of windows' output are done in a turn, but the last step may go beyond.
 pub(crate) const OUTPUT: usize = 4 * PIECE;
 
-impl<S: Read + Write + Drop, G: Gate + Drop, J: SessionSeat + Drop> Loop<S, G, J> {
+impl<S: PeerStream + Drop, G: Gate + Drop, J: SessionSeat + Drop> Loop<S, G, J> {
     // Does the message of a connection that comes next, or a step of it, if there is one.
     fn obey_next(&mut self, rt: &impl Wait, key: usize) -> Option<Progress>
         ensures { ObeysNext J.SessionSeat key (state_of self.old) result (state_of self.new) }
@@ -119,7 +118,7 @@ impl<S: Read + Write + Drop, G: Gate + Drop, J: SessionSeat + Drop> Loop<S, G, J
 
     // Reads a connection once all that it asked for is done or is late, and does some of it. Returns whether to go on.
     fn serve_once(&mut self, rt: &impl Wait, key: usize) -> bool
-        ensures { ServesOnce J.SessionSeat S.remaining key (state_of self.old) result (state_of self.new) }
+        ensures { ServesOnce J.SessionSeat S.PeerStream key (state_of self.old) result (state_of self.new) }
     {
         let now = self.millis();
         let buffer = self.reading.buffer.as_mut_slice();
@@ -128,7 +127,7 @@ impl<S: Read + Write + Drop, G: Gate + Drop, J: SessionSeat + Drop> Loop<S, G, J
     }
 
     fn serve_often(&mut self, rt: &impl Wait, key: usize)
-        ensures { Repeats (ServesOnce J.SessionSeat S.remaining key) 16 (state_of self.old) (state_of self.new) }
+        ensures { Repeats (ServesOnce J.SessionSeat S.PeerStream key) 16 (state_of self.old) (state_of self.new) }
     {
         'reads: for _ in 0..READS {
             if !self.serve_once(rt, key) {
@@ -140,7 +139,7 @@ impl<S: Read + Write + Drop, G: Gate + Drop, J: SessionSeat + Drop> Loop<S, G, J
     // A connection has its turn, if it has something to read or to do. Returns whether it has.
     fn serve(&mut self, rt: &impl Wait, key: usize) -> bool
         ensures due { result ≡ is_due_at (get self.old.connections.peers key) }
-        ensures serves { Serves J.SessionSeat S.remaining key (state_of self.old) (state_of self.new) }
+        ensures serves { Serves J.SessionSeat S.PeerStream key (state_of self.old) (state_of self.new) }
     {
         if !is_due_again(&mut self.connections, key) {
             return false;
@@ -151,7 +150,7 @@ impl<S: Read + Write + Drop, G: Gate + Drop, J: SessionSeat + Drop> Loop<S, G, J
 
     // A client or a stranger has its turn.
     fn serve_other(&mut self, rt: &impl Wait, key: usize)
-        ensures { ServesOther J.SessionSeat S.remaining key (state_of self.old) (state_of self.new) }
+        ensures { ServesOther J.SessionSeat S.PeerStream key (state_of self.old) (state_of self.new) }
     {
         if is_window(&self.connections, key) {
             return;
@@ -161,7 +160,7 @@ impl<S: Read + Write + Drop, G: Gate + Drop, J: SessionSeat + Drop> Loop<S, G, J
 
     // A window has its turn if it is its turn by now, and if output may still be done.
     fn serve_window(&mut self, rt: &impl Wait, key: usize, is_next: bool)
-        ensures { ServesWindow J.SessionSeat S.remaining is_next key (state_of self.old) (state_of self.new) }
+        ensures { ServesWindow J.SessionSeat S.PeerStream is_next key (state_of self.old) (state_of self.new) }
     {
         if !may_print(&self.connections, key, is_next, self.reading.output_left) {
             return;
@@ -173,12 +172,12 @@ impl<S: Read + Write + Drop, G: Gate + Drop, J: SessionSeat + Drop> Loop<S, G, J
 
     // All connections have their turn, keys before output. Windows take turns, and wait while a crowd is drawn.
     fn serve_all(&mut self, rt: &impl Wait)
-        ensures { ServesAll J.SessionSeat S.remaining (state_of self.old) (state_of self.new) }
+        ensures { ServesAll J.SessionSeat S.PeerStream (state_of self.old) (state_of self.new) }
     {
         each_awake(
             self,
             |own, key|
-                ensures { ServesOther J.SessionSeat S.remaining key (state_of own.old) (state_of own.new) }
+                ensures { ServesOther J.SessionSeat S.PeerStream key (state_of own.old) (state_of own.new) }
             { own.serve_other(rt, key) },
         );
         if self.draws.from.is_some() {
@@ -189,14 +188,14 @@ impl<S: Read + Write + Drop, G: Gate + Drop, J: SessionSeat + Drop> Loop<S, G, J
         each_awake(
             self,
             |own, key|
-                ensures { ServesWindow J.SessionSeat S.remaining (nat_le first key) key
+                ensures { ServesWindow J.SessionSeat S.PeerStream (nat_le first key) key
                     (state_of own.old) (state_of own.new) }
             { own.serve_window(rt, key, first <= key) },
         );
         each_awake(
             self,
             |own, key|
-                ensures { ServesWindow J.SessionSeat S.remaining (nat_lt key first) key
+                ensures { ServesWindow J.SessionSeat S.PeerStream (nat_lt key first) key
                     (state_of own.old) (state_of own.new) }
             { own.serve_window(rt, key, key < first) },
         );
@@ -204,7 +203,7 @@ impl<S: Read + Write + Drop, G: Gate + Drop, J: SessionSeat + Drop> Loop<S, G, J
 
     /// Reads what is there to be read and does it, so much of each connection that the others have their turn.
     pub fn read_all(&mut self, rt: &impl Wait) -> Reads
-        ensures { ReadsAll J.SessionSeat S.remaining (state_of self.old) result (state_of self.new) }
+        ensures { ReadsAll J.SessionSeat S.PeerStream (state_of self.old) result (state_of self.new) }
     {
         self.reading.has_typed = false;
         self.reading.has_much = false;
@@ -219,7 +218,7 @@ impl<S: Read + Write + Drop, G: Gate + Drop, J: SessionSeat + Drop> Loop<S, G, J
     /// Ends a turn: hands out what came of it, writes, asks for draws unless they are held, and lets
     /// go what is closed. It goes on with a crowd's draws that were begun, even if draws are held.
     pub fn end_turn(&mut self, rt: &impl Wait, holds_draws: bool) -> Writes
-        ensures { EndsTurn J.SessionSeat S.contents holds_draws (state_of self.old) result (state_of self.new) }
+        ensures { EndsTurn J.SessionSeat S.PeerStream holds_draws (state_of self.old) result (state_of self.new) }
     {
         self.has_refused = false;
         self.draws.made = 0;

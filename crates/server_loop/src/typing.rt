@@ -6,7 +6,7 @@ ghost use Rattle.server_loop.specs.Typing.{FaultsIf, Judges, JudgesKeys, JudgesO
 ghost use Rattle.server_loop.specs.Typing.{Stops, TellsDropped, Types, TypesOn, millis_of};
 
 use crate::own::Loop;
-use server_connections::{Sending, SessionSeat};
+use server_connections::{PeerStream, Sending, SessionSeat};
 use server_steps::{
     Gate, Gathered, Progress, Target, answer_keys, free_keys, free_strayed, gather, has_keys,
     hold_keys, idle_at, is_judged, is_refused, next_size, take_keys, take_news, target_at, user_at,
@@ -14,12 +14,11 @@ use server_steps::{
 };
 use server_users::Shown;
 use session::Event;
-use std::io::{Read, Write};
 use std::sync::Wait;
 
 const DROPPED: &str = "keys were dropped: they waited for a second";
 
-impl<S: Read + Write + Drop, G: Gate + Drop, J: SessionSeat + Drop> Loop<S, G, J> {
+impl<S: PeerStream + Drop, G: Gate + Drop, J: SessionSeat + Drop> Loop<S, G, J> {
     // The time of this turn in milliseconds.
     pub(crate) fn millis(&self) -> u64
         ensures { result ≡ millis_of self.entry.now.now }

@@ -11,7 +11,7 @@ returns g c =
       next = c.draw_some-next.result;
       asked = asked;
       draws = c.draw_some-next.ensures;
-      handed = subst (λ (from : Option ℕ). HandsOn g.J.SessionSeat g.S.Write.contents
+      handed = subst (λ (from : Option ℕ). HandsOn g.J.SessionSeat g.S.PeerStream
           (record asked { draws = record asked.draws { from = from } }) (state_of c.hand_on.new.self))
           c.next_from-self.ensures c.hand_on.ensures;
     }

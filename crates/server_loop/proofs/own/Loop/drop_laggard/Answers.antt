@@ -18,7 +18,7 @@ returns g c =
         (
           state_of c.expel.new.self,
           c.expel.ensures,
-          subst (λ (s : Connections g.row.S.Denot). Writes g.J.SessionSeat g.S.Write.contents c.args.key
+          subst (λ (s : Connections g.row.S.Denot). Writes g.J.SessionSeat g.S.PeerStream c.args.key
               (record (state_of c.expel.new.self) { connections = s }) (state_of c.write_to.new.self))
               c.cut_off.ensures c.write_to.ensures,
         ),

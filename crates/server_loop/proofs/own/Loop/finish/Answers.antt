@@ -9,7 +9,7 @@ returns g c =
       mid = mid;
       handed = c.hand_out.ensures;
       told = c.finish.new.connections;
-      finished = subst (λ (why : Why). EachKey (FinishesAt g.S.Write.contents why) mid.connections.peers.capacity 0
+      finished = subst (λ (why : Why). EachKey (FinishesAt g.S.PeerStream why) mid.connections.peers.capacity 0
           mid.connections c.finish.new.connections) c.why.ensures c.finish.ensures;
       settled = c.sweep.ensures;
     }

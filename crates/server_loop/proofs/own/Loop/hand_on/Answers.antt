@@ -10,5 +10,5 @@ returns g c =
     let new = state_of c.write_all.new.self in
     if_true old.is_behind ((mid : State g.row.S.Denot g.row.J.Denot)
     × HandsOut g.J.SessionSeat old mid
-    × VisitsAll (Writes g.J.SessionSeat g.S.Write.contents) mid new) (new ≡ old) yes
+    × VisitsAll (Writes g.J.SessionSeat g.S.PeerStream) mid new) (new ≡ old) yes
     (state_of c.hand_out.new.self, c.hand_out.ensures, c.write_all.ensures)

@@ -14,7 +14,7 @@ returns g c = inr (inr (
   (
     c.write.result,
     c.write.new.connections,
-    subst (λ (l : Loop g.row.S.Denot g.row.G.Denot g.row.J.Denot). WritesAt g.S.Write.contents c.in-Some.key
+    subst (λ (l : Loop g.row.S.Denot g.row.G.Denot g.row.J.Denot). WritesAt g.S.PeerStream c.in-Some.key
         l.connections c.write.result c.write.new.connections) c.dismiss.ensures c.write.ensures,
     state_of c.lose.new.self,
     subst (λ (s : State g.row.S.Denot g.row.J.Denot). Loses g.J.SessionSeat c.in-Some.key s

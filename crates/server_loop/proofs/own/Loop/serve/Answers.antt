@@ -10,7 +10,7 @@ returns-then-not-is_due_again-clause-serves g c =
     let old = state_of c.args.self.now in
     let new : State g.row.S.Denot g.row.J.Denot = record old { connections = c.is_due_again.new.connections } in
     if_false (is_due_at (peer_at c.args.key old))
-    (Repeats (ServesOnce g.J.SessionSeat g.S.Read.remaining c.args.key) 16 (with_peer unheld c.args.key old) new)
+    (Repeats (ServesOnce g.J.SessionSeat g.S.PeerStream c.args.key) 16 (with_peer unheld c.args.key old) new)
     (new ≡ with_peer unheld c.args.key old) (sym c.is_due_again.ensures.due ∙ no)
     (ap (λ (s : Connections g.row.S.Denot). record old { connections = s }) c.is_due_again.ensures.again)
 
@@ -20,7 +20,7 @@ returns-clause-serves g c =
     let old = state_of c.args.self.now in
     let new = state_of c.serve_often.new.self in
     if_true (is_due_at (peer_at c.args.key old))
-    (Repeats (ServesOnce g.J.SessionSeat g.S.Read.remaining c.args.key) 16 (with_peer unheld c.args.key old) new)
+    (Repeats (ServesOnce g.J.SessionSeat g.S.PeerStream c.args.key) 16 (with_peer unheld c.args.key old) new)
     (new ≡ with_peer unheld c.args.key old) (sym c.is_due_again.ensures.due ∙ yes)
-    (subst (λ (s : Connections g.row.S.Denot). Repeats (ServesOnce g.J.SessionSeat g.S.Read.remaining c.args.key) 16
+    (subst (λ (s : Connections g.row.S.Denot). Repeats (ServesOnce g.J.SessionSeat g.S.PeerStream c.args.key) 16
     (record old { connections = s }) new) c.is_due_again.ensures.again c.serve_often.ensures)

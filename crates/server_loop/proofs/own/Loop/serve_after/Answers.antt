@@ -1,5 +1,5 @@
 use Rattle.server_loop.proofs.Vocabulary.{◌≡◌, ◌∙◌, Bool, false, not, refl, sym, subst, rules, peer_at, state_of}
-use Rattle.server_connections.specs.declared.stream.Arrival.{Arrival}
+use Rattle.server_connections.specs.declared.peer_stream.Arrival.{Arrival}
 use Rattle.server_steps.specs.Asking.{has_asked_at}
 use Rattle.server_loop.specs.Serving.{ObeysSome, ServesAfter, with_much}
 use Rattle.server_loop.proofs.Telling.{if_false}

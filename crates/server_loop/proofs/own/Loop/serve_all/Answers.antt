@@ -9,11 +9,11 @@ pub returns-then-is_some : goal.returns-then-is_some
 returns-then-is_some g c = (
   state_of c.each_awake.new.holder,
   passed (λ (l : Loop g.row.S.Denot g.row.G.Denot g.row.J.Denot). state_of l)
-      (ServesOther g.J.SessionSeat g.S.Read.remaining) _ _ _ _ _ _ c.each_awake.ensures
+      (ServesOther g.J.SessionSeat g.S.PeerStream) _ _ _ _ _ _ c.each_awake.ensures
       (λ shown left key p. search rules),
   if_true (is_some c.each_awake.new.holder.draws.from)
       (state_of c.each_awake.new.holder ≡ state_of c.each_awake.new.holder)
-      (ServesWindows g.J.SessionSeat g.S.Read.remaining (state_of c.each_awake.new.holder)
+      (ServesWindows g.J.SessionSeat g.S.PeerStream (state_of c.each_awake.new.holder)
       (state_of c.each_awake.new.holder)) (search rules) refl,
 )
 
@@ -21,19 +21,19 @@ pub returns : goal.returns
 returns g c = (
   state_of c.each_awake.new.holder,
   passed (λ (l : Loop g.row.S.Denot g.row.G.Denot g.row.J.Denot). state_of l)
-      (ServesOther g.J.SessionSeat g.S.Read.remaining) _ _ _ _ _ _ c.each_awake.ensures
+      (ServesOther g.J.SessionSeat g.S.PeerStream) _ _ _ _ _ _ c.each_awake.ensures
       (λ shown left key p. search rules),
   if_false (is_some c.each_awake.new.holder.draws.from)
       (state_of c.each_awake-3.new.holder ≡ state_of c.each_awake.new.holder)
-      (ServesWindows g.J.SessionSeat g.S.Read.remaining (state_of c.each_awake.new.holder)
+      (ServesWindows g.J.SessionSeat g.S.PeerStream (state_of c.each_awake.new.holder)
       (state_of c.each_awake-3.new.holder)) (search rules) (
         state_of c.each_awake-2.new.holder,
         passed (λ (l : Loop g.row.S.Denot g.row.G.Denot g.row.J.Denot). state_of l)
-            (λ (key : ℕ). ServesWindow g.J.SessionSeat g.S.Read.remaining
+            (λ (key : ℕ). ServesWindow g.J.SessionSeat g.S.PeerStream
             (nat_le c.each_awake.new.holder.reading.next key) key) _ _ _ _ _ _ c.each_awake-2.ensures
             (λ shown left key p. search rules),
         passed (λ (l : Loop g.row.S.Denot g.row.G.Denot g.row.J.Denot). state_of l)
-            (λ (key : ℕ). ServesWindow g.J.SessionSeat g.S.Read.remaining
+            (λ (key : ℕ). ServesWindow g.J.SessionSeat g.S.PeerStream
             (nat_lt key c.each_awake.new.holder.reading.next) key) _ _ _ _ _ _ c.each_awake-3.ensures
             (λ shown left key p. search rules),
       ),

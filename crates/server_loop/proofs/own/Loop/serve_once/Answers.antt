@@ -6,9 +6,9 @@ pub returns : goal.returns
 returns g c = (
   c.read-arrival.result,
   c.read-arrival.new.connections,
-  subst (λ (n : ℕ). ReadsAt g.S.Read.remaining n c.args.self.now.reading.buffer.len c.args.key
+  subst (λ (n : ℕ). ReadsAt g.S.PeerStream n c.args.self.now.reading.buffer.len c.args.key
       c.args.self.now.connections c.read-arrival.result c.read-arrival.new.connections) c.millis-now.ensures
-      (subst (λ (n : ℕ). ReadsAt g.S.Read.remaining c.millis-now.result n c.args.key
+      (subst (λ (n : ℕ). ReadsAt g.S.PeerStream c.millis-now.result n c.args.key
       c.args.self.now.connections c.read-arrival.result c.read-arrival.new.connections) c.as_mut_slice-buffer.ensures.len
       c.read-arrival.ensures),
   c.serve_after.ensures,

@@ -9,7 +9,7 @@ returns-then-is_window g c =
     let old = state_of c.args.self.now in
     record {
       outcome = if_true (is_window_at (peer_at c.args.key old)) (old ≡ old)
-          (Serves g.J.SessionSeat g.S.Read.remaining c.args.key old old) (sym c.is_window.ensures ∙ yes) refl;
+          (Serves g.J.SessionSeat g.S.PeerStream c.args.key old old) (sym c.is_window.ensures ∙ yes) refl;
     }
 
 pub returns : goal.returns
@@ -19,5 +19,5 @@ returns g c =
     let new = state_of c.serve.new.self in
     record {
       outcome = if_false (is_window_at (peer_at c.args.key old)) (new ≡ old)
-          (Serves g.J.SessionSeat g.S.Read.remaining c.args.key old new) (sym c.is_window.ensures ∙ no) c.serve.ensures.serves;
+          (Serves g.J.SessionSeat g.S.PeerStream c.args.key old new) (sym c.is_window.ensures ∙ no) c.serve.ensures.serves;
     }

@@ -12,7 +12,7 @@ returns-then-not-may_print g c =
     record {
       outcome = if_false (prints_at c.args.is_next old.output_left (peer_at c.args.key old))
           ((mid : State g.row.S.Denot g.row.J.Denot)
-          × Serves J g.S.Read.remaining c.args.key old mid
+          × Serves J g.S.PeerStream c.args.key old mid
           × IfBool (is_due_at (peer_at c.args.key old))
           (old ≡ record mid { next = min (c.args.key + 1) 18446744073709551615 }) (old ≡ mid))
           (old ≡ old) (sym c.may_print.ensures ∙ no) refl;
@@ -29,7 +29,7 @@ returns-then-serve g c =
     record {
       outcome = if_true (prints_at c.args.is_next old.output_left (peer_at c.args.key old))
           ((mid : State g.row.S.Denot g.row.J.Denot)
-          × Serves J g.S.Read.remaining c.args.key old mid
+          × Serves J g.S.PeerStream c.args.key old mid
           × IfBool (is_due_at (peer_at c.args.key old))
           (new ≡ record mid { next = min (c.args.key + 1) 18446744073709551615 }) (new ≡ mid))
           (new ≡ old) (sym c.may_print.ensures ∙ may) (
@@ -51,7 +51,7 @@ returns-else-serve g c =
     record {
       outcome = if_true (prints_at c.args.is_next old.output_left (peer_at c.args.key old))
           ((mid : State g.row.S.Denot g.row.J.Denot)
-          × Serves J g.S.Read.remaining c.args.key old mid
+          × Serves J g.S.PeerStream c.args.key old mid
           × IfBool (is_due_at (peer_at c.args.key old))
           (new ≡ record mid { next = min (c.args.key + 1) 18446744073709551615 }) (new ≡ mid))
           (new ≡ old) (sym c.may_print.ensures ∙ may) (
