@@ -90,7 +90,7 @@ LeavesAs said (Some relay) =
 -- a browser that has just come: nothing was read of it, and it was sent nothing
 pub record IsNew (browser : Browser) (now : Duration) (relay : Relay) : Type 0 where
   pub page : page relay.visitor ≡ begun
-  pub output : relay.visitor.wire.output.items ≡ []
+  pub output : (relay.visitor.wire.output.items ≡ []) × (relay.visitor.wire.sent ≡ 0)
   pub view : relay.visitor.view ≡ record { is_welcomed = false; since = 0 }
   pub address : relay.visitor.address.items ≡ []
   pub rest : relay ≡ record {

@@ -1,5 +1,5 @@
 -- What browsers see: of their own client, or of a hall.
-use Rattle.std.specs.Prelude.{◌≡◌, ◌≢◌, ◌⊎◌, ◌+◌, ◌-◌, ◌^◌, ℕ, Bool, true, false, min, MatchBool}
+use Rattle.std.specs.Prelude.{◌≡◌, ◌≢◌, ◌⊎◌, ◌+◌, ◌-◌, ◌^◌, ◌≤◌, ℕ, Bool, true, false, min, MatchBool}
 use Rattle.std.specs.Prelude.{Option, Some, None, is_none}
 use Rattle.std.specs.declared.time.Duration.{Duration}
 use Rattle.slab.specs.Slab.{with_value}
@@ -51,10 +51,14 @@ pub record SeesOwn (old new : Visitor) : Type 0 where
   pub shows : IsOpen old → IfOwn old.identity (λ before. IsDue before.display old.wire
       → IsOwn new.identity (λ after.
       Shows before.display old.view.since old.wire after.display new.view.since new.wire))
-  pub sends : IsOpen old → IfOwn old.identity (λ before. SendsAll before.display.told old.wire new.wire)
+  pub sends : IsOpen old
+      → IfOwn old.identity (λ before. SendsAll before.display.told old.view new.view old.wire new.wire)
+  pub needed : IfOwn new.identity (λ after. after.display.sheet.moment ≤ old.view.since
+      → new.wire.sent ≡ old.wire.sent)
   pub later : IfOwn old.identity (λ before. (IsDue before.display old.wire → ⊥)
       → (new.view.since ≡ old.view.since) × IsOwn new.identity (λ after. after ≡ before))
   pub apart : (HasClient old.identity → ⊥) → new ≡ old
+  pub rest : new ≡ record old { wire = new.wire; view = new.view; identity = new.identity }
 
 -- the same; it is over if memory is refused, or too much waits
 pub record ShowsOwn (old new : Relay) : Type 0 where
@@ -67,10 +71,12 @@ pub record ShowsOwn (old new : Relay) : Type 0 where
 pub record SeesHall (hall after : Hall) (old new : Visitor) : Type 0 where
   pub shows : IsOpen old → IsDue hall.client.client.display old.wire
       → Shows hall.client.client.display old.view.since old.wire after.client.client.display new.view.since new.wire
-  pub sends : IsOpen old → SendsAll hall.client.client.display.told old.wire new.wire
+  pub sends : IsOpen old → SendsAll hall.client.client.display.told old.view new.view old.wire new.wire
+  pub needed : after.client.client.display.sheet.moment ≤ old.view.since → new.wire.sent ≡ old.wire.sent
   pub later : (IsDue hall.client.client.display old.wire → ⊥)
       → (new.view.since ≡ old.view.since) × (after.client ≡ hall.client)
   pub closed : (IsOpen old → ⊥) → (new ≡ old) × (after.client ≡ hall.client)
+  pub rest : new ≡ record old { wire = new.wire; view = new.view }
 
 -- the same, and it counts as the hall's audience
 pub record ShowsHall (hall after : Hall) (old new : Relay) : Type 0 where

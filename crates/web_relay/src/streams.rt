@@ -9,9 +9,10 @@ use mio::net::{TcpListener, TcpStream, UnixListener, UnixStream};
 use mio::{Interest, Registry, Token};
 use std::io;
 use std::io::{ErrorKind, Read, Write};
-use std::net::{Net, SocketAddr};
+use std::net::Net;
 use std::time::Duration;
 use web_client::Site;
+use web_requests::Loopback;
 
 /// What an event is for: a listener of this number; a browser, or the own client of a browser, at this place; a hall.
 #[derive(Clone, Copy, Debug, PartialEq, Eq)]
@@ -98,9 +99,9 @@ pub enum Browser {
 }
 
 impl WebListener {
-    /// Listens on an address.
-    pub fn tcp<R: Net>(rt: &R, address: SocketAddr) -> io::Result<WebListener> {
-        Ok(WebListener::Tcp(TcpListener::bind(rt, address)?))
+    /// Listens on an address of this machine.
+    pub fn tcp<R: Net>(rt: &R, address: Loopback) -> io::Result<WebListener> {
+        Ok(WebListener::Tcp(TcpListener::bind(rt, address.address())?))
     }
 
     /// Waits for connections.

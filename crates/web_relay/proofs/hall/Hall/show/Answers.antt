@@ -1,4 +1,5 @@
 use Rattle.std.proofs.Common.{ℕ, ap, refl}
+use Rattle.web_client.specs.declared.visitor.Visitor.{Visitor}
 use Rattle.web_relay.proofs.hall.Hall.show.Goals as goal
 
 pub returns-in-Ok : goal.returns-in-Ok
@@ -7,9 +8,11 @@ returns-in-Ok c = record {
     shows = λ is_open due. c.in-Ok.ensures.shows is_open c.requires due;
     sends = λ is_open. c.in-Ok.ensures.sends is_open c.requires;
     later = λ not_due. c.in-Ok.ensures.later not_due;
+    needed = c.in-Ok.ensures.needed;
     closed = λ closed. c.in-Ok.ensures.closed closed;
+    rest = c.in-Ok.ensures.same;
   };
-  identity = c.in-Ok.ensures.identity;
+  identity = ap (λ (v : Visitor). v.identity) c.in-Ok.ensures.same;
   over = λ e. e;
   rest = refl;
   counted = ap (λ (n : ℕ). record c.args.self.now { client = c.show_shared.new.shared; audience = n })
