@@ -37,11 +37,11 @@ sends_assisted old second third new t keys sent out a same sends is told asks st
     }
 
 -- keys are pressed after they were read
-pub presses_read : (old new : Peer) (t : Typing) (times : Timers) (typed : List ℕ)
-    → t ≡ record old.typing { leave = t.leave; reads = t.reads }
+pub presses_read : (old new : Peer) (t : Typing) (reads : ℕ) (times : Timers) (typed : List ℕ)
+    → t ≡ record old.typing { leave = t.leave; reads = reads }
     → Presses (record old { typing = t; times = times }) new typed → Presses old new typed
-presses_read old new t times typed same p =
-    let middle : Peer = record old { typing = record old.typing { leave = t.leave; reads = t.reads }; times = times } in
+presses_read old new t reads times typed same p =
+    let middle : Peer = record old { typing = record old.typing { leave = t.leave; reads = reads }; times = times } in
     let q : Presses middle new typed =
     subst (λ (s : Typing). Presses (record old { typing = s; times = times }) new typed) same p in record {
       sends = λ seat none. q.sends (record { client = seat.client; here = seat.here; shown = seat.shown }) none;

@@ -1,5 +1,6 @@
 -- How a peer ends.
-use Rattle.std.specs.Prelude.{Result, Ok, Err, Option, Some, None, ◌≡◌, ◌||◌, ◌++◌, [], is_some}
+use Rattle.std.specs.Prelude.{Bool, true, false, Result, Ok, Err, Option, Some, None, ◌≡◌, ◌&&◌, ◌||◌, ◌++◌, [], is_some}
+use Rattle.std.specs.Prelude.{if◌then◌else◌}
 use Rattle.std.specs.Option.{option_or}
 use Rattle.attach_proto.specs.declared.why.Why.{Why}
 use Rattle.attach_proto.specs.declared.why.Why.TheVariants.{Detached, Quit, Killed}
@@ -10,6 +11,10 @@ use Rattle.client_words.specs.declared.arguments.Subcommand.TheVariants.{Window}
 use Rattle.client_words.specs.declared.fault.PeerFault.{PeerFault}
 use Rattle.client_words.specs.declared.fault.PeerFault.TheVariants.{Ended, Gone}
 use Rattle.client_peer.specs.declared.peer.Peer.{Peer}
+
+abbrev pub is_window : Subcommand → Bool
+is_window Window = true
+is_window other = false
 
 -- how a peer ends that the server lets go: a window's end is a good one even if the window was killed
 abbrev pub end_for : Subcommand → Why → Result Why PeerFault
@@ -26,6 +31,19 @@ pub record EndsInput (old : Peer) (fault : Option PeerFault) (new : Peer) : Type
     fault = option_or fault old.fault;
     is_final = old.is_final || is_some old.loss;
     times = record old.times { again = 0 };
+  }
+
+-- A peer whose output can't be written ends for good, and unless it has ended before, by that fault. A window that has
+-- ended may have a program that reads no more: that is no fault.
+pub record EndsOutput (old : Peer) (f : PeerFault) (new : Peer) : Type 0 where
+  pub end : new.end ≡ option_or old.end (Some (Err f))
+  pub fault : new.fault ≡ (if is_some old.end && is_window old.subcommand then old.fault else Some f)
+  pub rest : new ≡ record old {
+    bytes = new.bytes;
+    is_writing = false;
+    is_final = true;
+    fault = new.fault;
+    end = new.end;
   }
 
 -- how the peer ended: a fault of its input or output replaces a good end

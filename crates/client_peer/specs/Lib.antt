@@ -1,3 +1,4 @@
+pub mod Beginning
 pub mod Ending
 pub mod Hearing
 pub mod Looking

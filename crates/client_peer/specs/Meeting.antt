@@ -1,9 +1,9 @@
 -- Which session a peer comes back to.
-use Rattle.std.specs.Prelude.{◌≡◌, ◌≢◌, ◌↔◌, ◌+◌, ◌%◌, ◌<◌, Bool, true, false, MatchBool, [], ◌++◌, ◌⊎◌, Some, None, Err, IsSome}
-use Rattle.client_words.specs.declared.fault.PeerFault.TheVariants.{OtherSession}
+use Rattle.std.specs.Prelude.{◌≡◌, ◌≢◌, ◌↔◌, ◌+◌, ◌%◌, Bool, true, false, MatchBool, [], ◌++◌, ◌⊎◌, Some, None, Err}
+use Rattle.client_words.specs.declared.fault.PeerFault.TheVariants.{Ended, OtherSession}
+use Rattle.std.specs.Option.{option_or}
 use Rattle.client_words.specs.declared.arguments.Subcommand.TheVariants.{Window}
 use Rattle.client_typing.specs.Following.{IsUnread, IsSet}
-use Rattle.client_peer.specs.declared.meeting.Comeback.{Comeback}
 use Rattle.client_peer.specs.declared.meeting.Meeting.{Meeting}
 use Rattle.client_peer.specs.declared.meeting.Meeting.TheVariants.{Same, Another, Older, Unnamed}
 use Rattle.client_peer.specs.declared.meeting.SessionMark.{SessionMark}
@@ -34,6 +34,14 @@ pub record Meets (p : Peer) (m : SessionMark) (x : Meeting) : Type 0 where
 abbrev pub IsThere : Peer → Bool → Type 0
 IsThere p is_here = (p.end ≡ None) × (is_here ≡ true)
 
+-- a server has let the window in, which isn't opened again yet
+abbrev pub WaitsToOpen : Peer → Type 0
+WaitsToOpen p = (p.is_welcome ≡ true) × (p.is_reopening ≡ true) × (p.end ≡ None)
+
+-- and that server was still there after the mark was read
+abbrev pub IsToOpen : Peer → Bool → Type 0
+IsToOpen p is_here = WaitsToOpen p × (is_here ≡ true)
+
 -- The mark is that of the server which let the peer in: it isn't older than its socket.
 abbrev pub IsOwn : Peer → SessionMark → Bool → Type 0
 IsOwn p m is_here = IsThere p is_here × (m.is_current ≡ true)
@@ -45,34 +53,39 @@ pub record Learns (old : Peer) (m : SessionMark) (is_here : Bool) (new : Peer) :
   pub keeps : old.subcommand ≡ Window → (IsOwn old m is_here → ⊥) → new ≡ old
   pub rest : new ≡ record old { session = new.session }
 
--- Another connection begins: nothing of the last one is left, but for what was put down for standard output.
+-- Another connection begins: nothing of the last one is left, but for what was put down for standard output and what is
+-- held.
 pub record IsFresh (old new : Peer) : Type 0 where
-  pub frames : (new.frames.items ≡ []) × (new.sent ≡ 0) × (new.is_stuck ≡ false) × (new.is_shut ≡ false)
+  pub frames : new.frames.items ≡ []
   pub connection : new.connection ≡ (old.connection + 1) % 4294967296
   pub typing : IsUnread new.typing × IsSet old.typing new.typing
-  pub out : (new.is_welcome ≡ false) × (new.is_reopening ≡ false) × (new.said ≡ None) × (new.end ≡ None)
-  pub whole : (new.is_cut ≡ false) × (new.is_covered ≡ false) × (new.is_helping ≡ false)
   pub input : new.early.items ≡ []
+  pub rest : new ≡ record old {
+    bytes = new.bytes;
+    early = new.early;
+    draws = new.draws;
+    has_drawn = new.has_drawn;
+    is_cut = false;
+    is_covered = false;
+    is_helping = false;
+    frames = new.frames;
+    sent = 0;
+    is_stuck = false;
+    is_shut = false;
+    connection = new.connection;
+    typing = new.typing;
+    is_welcome = false;
+    is_reopening = false;
+    said = None;
+    end = None;
+  }
 
--- the peer ends, and is never let in again
+-- The peer ends for good: by what it lost, unless another session is there.
 pub record StaysAway (old : Peer) (x : Meeting) (new : Peer) : Type 0 where
-  pub last : (new.is_final ≡ true) × IsSome new.end
   pub another : x ≡ Another → new.end ≡ Some (Err OtherSession)
+  pub other : x ≢ Another → new.end ≡ option_or (option_or old.loss old.end) (Some (Err Ended))
+  pub unsure : new.is_unsure ≡ true ↔ x ≢ Another
   pub rest : new ≡ record old { is_final = true; is_unsure = new.is_unsure; end = new.end }
-
--- A client lets at most 60 tries pass while windows are pending, and counts anew after that.
-pub record LetsPass (old : Comeback) (is_pending passes : Bool) (new : Comeback) : Type 0 where
-  pub lets : passes ≡ true ↔ ((is_pending ≡ true) × (old.held < 60))
-  pub counts : passes ≡ true → new.held ≡ old.held + 1
-  pub anew : passes ≡ false → new.held ≡ 0
-  pub rest : new ≡ record old { held = new.held }
-
--- A peer waits at most 60 tries for a mark that isn't older than the socket, and counts anew while no socket is there.
-pub record WaitsForMark (old : Comeback) (met : Meeting) (is_here waits : Bool) (new : Comeback) : Type 0 where
-  pub lets : waits ≡ true ↔ ((met ≡ Older) × (old.older < 60))
-  pub counts : waits ≡ true → is_here ≡ true → new.older ≡ old.older + 1
-  pub anew : is_here ≡ false → new.older ≡ 0
-  pub rest : new ≡ record old { older = new.older }
 
 -- What a window's program prints goes to no server before the window is opened again: no word of a server puts down a
 -- frame, and one that lets the window in again doesn't have it yet. Its program gets no input of such a server either.
@@ -97,7 +110,6 @@ pub record Opens (old new : Peer) (is_hidden : Bool) : Type 0 where
     early = new.early;
     sizes = new.sizes;
     frames = new.frames;
-    held = new.held;
     page = new.page;
     page_number = old.number;
     is_reopening = false;

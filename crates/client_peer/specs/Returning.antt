@@ -68,9 +68,14 @@ pub record ComesBack (old : Peer) (now : ℕ) (is_planned has_place comes_back :
 abbrev pub IsOver : Peer → ℕ → Type 0
 IsOver p now = IsSome p.loss × (p.times.again < 65535) × (p.times.again * 1000 ≤ now - p.times.lost_at)
 
+-- a loss is given up: the time is over, or the peer has decided not to come back
+abbrev pub GivesUp : Peer → ℕ → Type 0
+GivesUp p now = IsOver p now ⊎ ((p.is_final ≡ true) × (p.end ≡ None))
+
 -- A server that doesn't come back in time is given up, and then the loss is the peer's end.
 pub record AtLoss (old : Peer) (now : ℕ) (new : Peer) : Type 0 where
   pub final : new.is_final ≡ true ↔ ((old.is_final ≡ true) ⊎ IsOver old now)
   pub over : IsOver old now → new.end ≡ old.loss
+  pub end : (new.end ≡ old.end) ⊎ (GivesUp old now × (new.end ≡ old.loss))
   pub stays : old.is_final ≡ false → (IsOver old now → ⊥) → new ≡ old
   pub rest : new ≡ record old { is_final = new.is_final; end = new.end }

@@ -1,7 +1,8 @@
 -- What a peer has for its server, and what is on its way there.
-use Rattle.std.specs.Prelude.{◌≡◌, ◌≢◌, ℕ, ◌≤◌, ◌<◌, ◌-◌, Bool, true, false, not, None, List, [], ◌++◌, ◌⊎◌, length, take, drop}
+use Rattle.std.specs.Prelude.{◌≡◌, ◌≢◌, ℕ, ◌<◌, Bool, true, false, not, None, List, [], ◌++◌, ◌⊎◌, length, drop}
 use Rattle.attach_proto.specs.declared.kind.Kind.{Kind}
 use Rattle.attach_proto.specs.declared.kind.Kind.TheVariants.{Output}
+use Rattle.client_page.specs.Held.{Holds}
 use Rattle.client_page.specs.Kept.{ReadsAll}
 use Rattle.client_peer.specs.declared.outgoing.Batch.{Batch}
 use Rattle.client_peer.specs.declared.peer.Peer.{Peer}
@@ -58,21 +59,6 @@ pub record HasBack (old : Peer) (batch : Batch) (is_open : Bool) (new : Peer) : 
     is_stuck = new.is_stuck;
   }
 
--- all of these bytes are held
-abbrev pub HoldsAll : Peer → List ℕ → Peer → Type 0
-HoldsAll old all new = (new.held.items ≡ all) × (new.page ≡ old.page)
-
--- the last 262,144 of these bytes are held, and the page has read those before
-abbrev pub HoldsLast : Peer → List ℕ → Peer → Type 0
-HoldsLast old all new =
-    let older = length all - 262144 in
-    (new.held.items ≡ drop older all) × ReadsAll old.page.emulator (take older all) new.page.emulator
-
--- what was held and these bytes are held, or the newest of them: no more than 524,288
-pub record Holds (old : Peer) (bytes : List ℕ) (new : Peer) : Type 0 where
-  pub newest : HoldsAll old (old.held.items ++ bytes) new ⊎ HoldsLast old (old.held.items ++ bytes) new
-  pub few : length new.held.items ≤ 524288
-
 -- a server has the window
 abbrev pub HasServer : Peer → Type 0
 HasServer p = (p.is_welcome ≡ true) × (p.is_reopening ≡ false)
@@ -92,6 +78,6 @@ IsFull p = (16777216 < length p.frames.items) × (p.is_shut ≡ false) × (p.end
 -- What a window's program printed is put down, and the page reads it; or it is held while no server has the window.
 pub record Prints (old new : Peer) (bytes : List ℕ) : Type 0 where
   pub sent : HasServer old
-      → Sends old.frames.items new.frames.items Output bytes × (new.held ≡ old.held)
+      → Sends old.frames.items new.frames.items Output bytes × (new.page.held ≡ old.page.held)
       × ReadsAll old.page.emulator bytes new.page.emulator
-  pub held : (HasServer old → ⊥) → Holds old bytes new × (new.frames ≡ old.frames)
+  pub held : (HasServer old → ⊥) → Holds old.page bytes new.page × (new.frames ≡ old.frames)

@@ -1,9 +1,9 @@
 -- What a client passes on to its terminal: functions that draws use, and nothing else.
-use Rattle.std.specs.Prelude.{◌≡◌, ℕ, List, [], ◌∷◌, ◌++◌, ◌⊎◌, take, codes, decimal}
-use Rattle.client_words.specs.Visible.{visible}
+use Rattle.std.specs.Prelude.{◌≡◌, ℕ, List, [], ◌∷◌, ◌++◌, ◌⊎◌}
 use Rattle.client_words.specs.declared.arguments.Subcommand.TheVariants.{Attach}
 use Rattle.draw_check.specs.Functions.{BeginDraws}
 use Rattle.draw_check.specs.Places.{place_after}
+use Rattle.client_notice.specs.Notices.{PutsLine}
 use Rattle.client_peer.specs.declared.peer.Peer.{Peer}
 
 -- these bytes were added to those that wait for standard output
@@ -53,17 +53,10 @@ BeginsAnew old new = CutsOff old new ⊎ Keeps old new
 
 -- ---- what a client writes to its terminal of its own
 
--- a text for the last line, of which no character controls the terminal
-abbrev pub noted : List ℕ → List ℕ
-noted text = codes "mux: " ++ visible text
-
--- It stands in reverse at the bottom. The cursor's place and rendition are saved before it and restored after it.
-abbrev pub notice_line : ℕ → List ℕ → List ℕ
-notice_line rows text =
-    0x1B ∷ 0x37 ∷ 0x1B ∷ 0x5B ∷ decimal rows ++ (codes ";1H" ++ (0x1B ∷ codes "[0;7m" ++ (text
-    ++ (0x1B ∷ codes "[m" ++ (0x1B ∷ codes "[K" ++ 0x1B ∷ codes "8")))))
-
--- the line has the text, or the beginning of it that there is room for
+-- the last line has the text, or as much of it as there is room for
 abbrev pub ShowsNotice : Peer → Peer → Type 0
-ShowsNotice old new =
-    (count : ℕ) × (new.bytes.items ≡ old.bytes.items ++ notice_line old.rows (take count old.notice.text.items))
+ShowsNotice old new = PutsLine old.notice.text.items old.rows old.columns old.bytes.items new.bytes.items
+
+-- or nothing is put down
+abbrev pub MayShow : Peer → Peer → Type 0
+MayShow old new = (new.bytes.items ≡ old.bytes.items) ⊎ ShowsNotice old new

@@ -39,24 +39,42 @@ pub record Presses (old new : Peer) (typed : List ℕ) : Type 0 where
   pub assisted : IsSeated old → old.typing.assists ≡ true → SendsAssisted old new typed
   pub lost : IsSome old.loss → new.frames ≡ old.frames
   pub ends : IsSome old.loss → Contains typed 3 → (new.is_final ≡ true) × (new.end ≡ old.loss)
-  pub lasts : IsSome old.loss → (Contains typed 3 → ⊥) → (new.is_final ≡ old.is_final) × (new.end ≡ old.end)
+  pub lasts : ((IsSome old.loss × Contains typed 3) → ⊥) → (new.is_final ≡ old.is_final) × (new.end ≡ old.end)
   pub helped : old.loss ≡ None → old.is_helping ≡ true
       → (new.is_helping ≡ false) × (new.frames.items ≡ old.frames.items ++ spelling (Resize old.rows old.columns))
+
+-- a peer with what typing may have changed of it
+abbrev pub typed_in : Peer → Peer → Peer
+typed_in old new = record old {
+  typing = new.typing;
+  frames = new.frames;
+  page = new.page;
+  bytes = new.bytes;
+  draws = new.draws;
+  notice = new.notice;
+  is_helping = new.is_helping;
+  is_covered = new.is_covered;
+  is_final = new.is_final;
+  end = new.end;
+  times = record old.times { has_typed = new.times.has_typed };
+}
 
 -- What is read of standard input: what a client's user typed, or what a window's program printed.
 pub record TypesIn (old new : Peer) (input : List ℕ) : Type 0 where
   pub typed : List ℕ
   pub through : LetsThrough old.typing.leave input typed new.typing.leave
   pub prints : old.subcommand ≡ Window → Prints (record old { typing = new.typing }) new typed
-  pub none : (old.subcommand ≡ Window → ⊥) → typed ≡ [] → new.frames ≡ old.frames
+  pub none : (old.subcommand ≡ Window → ⊥) → typed ≡ [] → new ≡ record old { typing = new.typing }
   pub presses : (old.subcommand ≡ Window → ⊥) → (typed ≡ [] → ⊥) → Presses old new typed
 
--- `fit` is put down only while the session waits for no key, or nothing is.
-abbrev pub Fits : Peer → Peer → Type 0
-Fits old new =
-    (new.frames ≡ old.frames) ⊎ (Rests old.typing
-    × SendsFirst old.frames.items new.frames.items Keys fit_keys
+-- After the frames that wait, `fit` is put down only while the session waits for no key, or nothing is.
+abbrev pub FitsAfter : List ℕ → Peer → Peer → Type 0
+FitsAfter frames old new =
+    (new.frames.items ≡ frames) ⊎ (Rests old.typing × SendsFirst frames new.frames.items Keys fit_keys
     × Follows old.typing.keys fit_keys new.typing.keys)
+
+abbrev pub Fits : Peer → Peer → Type 0
+Fits old new = FitsAfter old.frames.items old new
 
 -- A window gets the size of its region: it was to get it, or with --fit it has another size now.
 abbrev pub is_to_fit : Peer → ℕ → ℕ → Bool

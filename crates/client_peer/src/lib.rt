@@ -7,10 +7,11 @@ mod meeting;
 mod notice;
 mod outgoing;
 mod peer;
+mod returning;
 mod taking;
 mod typing;
 
 pub use looking::PeerTask;
-pub use meeting::{Comeback, Meeting, SessionMark};
+pub use meeting::{Meeting, SessionMark};
 pub use outgoing::Batch;
 pub use peer::Peer;

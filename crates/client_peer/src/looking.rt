@@ -1,19 +1,19 @@
 //! What a peer does by itself, as time goes by.
 
-ghost use Rattle.std.specs.Prelude.{◌≡◌, ◌↔◌, ◌⊎◌, true, false, None, IsSome, IsTrue, option_map, string_bytes};
-ghost use Rattle.client_peer.specs.Returning.{may_return, is_refused, is_unknown, ComesBack, AtLoss};
-ghost use Rattle.client_peer.specs.Sending.{HasServer, IsMore};
-ghost use Rattle.client_peer.specs.Typing.{Fits};
+ghost use Rattle.std.specs.Prelude.{◌≡◌, ◌↔◌, ◌⊎◌, true, false, None, Some, IsSome, IsTrue};
+ghost use Rattle.client_peer.specs.Beginning.{times_of};
+ghost use Rattle.client_peer.specs.Returning.{AtLoss};
+ghost use Rattle.client_peer.specs.Showing.{MayShow};
+ghost use Rattle.client_peer.specs.Typing.{Fits, MayAsk};
 ghost use Rattle.client_typing.specs.Following.{IsStage};
-ghost use Rattle.client_peer.specs.Looking.{DoesNext, IsAlone, IsDue, MayLeave, StaysOn, Waits};
+ghost use Rattle.client_peer.specs.Looking.{AsksAndFits, BeginsInTime, DoesNext, EndsInTime, IsAlone, IsDue, IsLate};
+ghost use Rattle.client_peer.specs.Looking.{MayBegin, MayLeave, StaysOn, TellsOfLeaving, Waits, in_time};
 
-use crate::notice::NoticeStage;
 use crate::peer::Peer;
-use attach_proto::Why;
+use client_notice::{NoticeStage, NoticeTask};
 use client_words::{Arguments, InputStage, PeerFault};
 
-// How long the server may take to let a client in that can leave, before its input is read anyway, in
-// milliseconds. Keys that are typed meanwhile wait.
+// How long a client that can leave isn't read before it is let in, in milliseconds. Keys that are typed wait.
 const WELCOME: u64 = 50;
 
 // How long to wait for the second of two bytes that leave.
@@ -24,11 +24,6 @@ const ANSWER: u64 = 100;
 
 // How long a window's end waits for its standard output.
 const LAST_WRITING: u64 = 500;
-
-// How long a text for the last line waits for the draw that comes with it, and stays for a key.
-const HIDDEN: u64 = 60;
-
-const READ: u64 = 1000;
 
 // How long the terminal's size has to stay the same before the window gets it.
 const SETTLED: u64 = 150;
@@ -48,7 +43,7 @@ pub struct Timers {
     left_at: Option<u64>,
     ended_at: Option<u64>,
     /// When the server was lost.
-    lost_at: u64,
+    pub(crate) lost_at: u64,
     /// A key was typed since the last look.
     pub has_typed: bool,
     /// The window in focus is to get the size of its region, at this time.
@@ -57,7 +52,9 @@ pub struct Timers {
 }
 
 impl Timers {
-    pub fn new(arguments: &Arguments<'_>) -> Timers {
+    pub fn new(arguments: &Arguments<'_>) -> Timers
+        ensures { result ≡ times_of arguments.now }
+    {
         Timers {
             again: arguments.again,
             wait: arguments.wait,
@@ -92,26 +89,13 @@ pub enum PeerTask {
     End,
 }
 
-// Whether an end is one after which the server may come back.
-fn may_return(end: Result<Why, PeerFault>, is_planned: bool, is_refused: bool) -> bool
-    ensures { result ≡ may_return end is_planned is_refused }
-{
-    match end {
-        Ok(Why::Quit) => is_planned,
-        Ok(_) => false,
-        Err(PeerFault::Gone(Why::TrailFull)) => true,
-        Err(PeerFault::Gone(Why::Fault)) => is_refused,
-        Err(PeerFault::Ended | PeerFault::NoServer | PeerFault::NoToken | PeerFault::Refused(..)) =>
-            true,
-        Err(_) => false,
-    }
-}
-
 impl Peer {
     /// Looks at the time, in milliseconds, and says what is to be done next.
     pub fn look(&mut self, now: u64) -> PeerTask
-        ensures next { DoesNext self.new result }
+        ensures next { DoesNext self.new now result }
         ensures waits { Waits self.old self.new }
+        ensures begins { BeginsInTime self.old now result self.new }
+        ensures ends { EndsInTime self.old now self.new }
         ensures stays { self.new.times.left_at ≡ None → StaysOn self.new }
     {
         self.look_at_leaving(now);
@@ -131,9 +115,12 @@ impl Peer {
     // What is to be done while the connection is open.
     fn look_open(&mut self, now: u64) -> PeerTask
         requires { (self.old.end ≡ None) × (self.old.times.left_at ≡ None) }
-        ensures next { DoesNext self.new result }
-        ensures waits { Waits self.old self.new }
+        ensures next { DoesNext self.new now result }
+        ensures sends { AsksAndFits self.old self.new }
+        ensures shows { MayShow self.old self.new }
+        ensures begins { BeginsInTime self.old now result self.new }
         ensures leave { self.new.typing.leave ≡ self.old.typing.leave }
+        ensures same { self.new ≡ in_time self.old (record self.new { is_final = self.old.is_final; end = None }) }
     {
         if self.is_to_begin(now) {
             self.times.has_begun = true;
@@ -157,7 +144,12 @@ impl Peer {
     // Leaves if the byte that leaves came, and no second one in time.
     fn look_at_leaving(&mut self, now: u64)
         ensures leaves { MayLeave self.old now self.new }
-        ensures waits { Waits self.old self.new }
+        ensures tells { (self.new.frames.items ≡ self.old.frames.items) ⊎ TellsOfLeaving self.old self.new }
+        ensures same { self.new ≡ record self.old {
+          frames = self.new.frames;
+          typing = record self.old.typing { leave = self.new.typing.leave };
+          times = record self.old.times { paired = self.new.times.paired; left_at = self.new.times.left_at };
+        } }
     {
         if self.times.left_at.is_some() {
             return;
@@ -177,8 +169,10 @@ impl Peer {
     fn look_at_pair(&mut self, now: u64)
         requires { IsStage self.old.typing.leave InputStage.Waiting }
         ensures alone { (self.new.typing ≡ self.old.typing) ⊎ IsAlone self.old now }
-        ensures left { self.new.times.left_at ≡ self.old.times.left_at }
-        ensures same { self.new ≡ record self.old { typing = self.new.typing; times = self.new.times } }
+        ensures same { self.new ≡ record self.old {
+          typing = record self.old.typing { leave = self.new.typing.leave };
+          times = record self.old.times { paired = self.new.times.paired };
+        } }
     {
         let reads = self.typing.reads;
         match self.times.paired {
@@ -189,8 +183,8 @@ impl Peer {
     }
 
     fn look_left(&self, now: u64, left: u64) -> PeerTask
-        requires { IsSome self.now.times.left_at }
-        ensures { DoesNext self.now result }
+        requires { self.now.times.left_at ≡ Some left }
+        ensures { DoesNext self.now now result }
     {
         if self.end.is_some() || self.is_lost() || now.saturating_sub(left) >= ANSWER {
             PeerTask::End
@@ -215,8 +209,10 @@ impl Peer {
 
     fn look_at_end(&mut self, now: u64) -> PeerTask
         requires { IsSome self.old.end }
-        ensures next { DoesNext self.new result }
-        ensures same { self.new ≡ record self.old { times = self.new.times } }
+        ensures next { DoesNext self.new now result }
+        ensures same { self.new ≡ record self.old {
+          times = record self.old.times { ended_at = self.new.times.ended_at };
+        } }
     {
         if !self.is_final {
             return PeerTask::Ask;
@@ -236,21 +232,26 @@ impl Peer {
     }
 
     // Whether an answer was waited for too long.
-    fn is_late(&self, now: u64) -> bool {
+    fn is_late(&self, now: u64) -> bool
+        ensures { IsTrue result ↔ IsLate self.now now }
+    {
         (self.subcommand.is_command() || self.subcommand.is_ping())
             && self.times.wait > 0
             && now >= u64::from(self.times.wait) * 1000
     }
 
     // Whether standard input is to be read now.
-    fn is_to_begin(&self, now: u64) -> bool {
+    fn is_to_begin(&self, now: u64) -> bool
+        ensures { IsTrue result ↔ (MayBegin self.now now × (self.now.times.has_begun ≡ false)) }
+    {
         (self.subcommand.is_attach() || self.subcommand.is_window())
             && !self.times.has_begun
             && (self.is_welcome || self.typing.can_leave() && now >= WELCOME)
     }
 
     fn look_at_notice(&mut self, now: u64)
-        ensures waits { Waits self.old self.new }
+        ensures asks { MayAsk self.old self.old.frames.items self.new.frames.items }
+        ensures shows { MayShow self.old self.new }
         ensures same { self.new ≡ record self.old {
           frames = self.new.frames;
           bytes = self.new.bytes;
@@ -260,19 +261,16 @@ impl Peer {
     {
         let has_typed = self.times.has_typed;
         self.times.has_typed = false;
-        match self.notice.stage {
-            NoticeStage::Nothing => {}
-            NoticeStage::New => self.notice.stage = NoticeStage::Due(now.saturating_add(HIDDEN)),
-            NoticeStage::Due(at) if now >= at && !self.is_cut && !self.is_covered => {
-                self.notice.stage = NoticeStage::Shown(now);
+        let is_free = !self.is_cut && !self.is_covered;
+        match self.notice.look(now, has_typed, is_free) {
+            NoticeTask::Nothing => {}
+            NoticeTask::Show => {
                 self.notice.is_hidden = true;
                 self.keep_notice();
             }
-            NoticeStage::Shown(at) if has_typed && now.saturating_sub(at) >= READ => {
-                self.notice.stage = NoticeStage::Nothing;
+            NoticeTask::TakeAway => {
                 let _ = self.redraw();
             }
-            NoticeStage::Due(_) | NoticeStage::Shown(_) => {}
         }
     }
 
@@ -320,69 +318,14 @@ impl Peer {
     fn waits_for_time(&self) -> bool
         ensures { IsDue self.now → result ≡ true }
     {
-        let has_notice = matches!(self.notice.stage, NoticeStage::New | NoticeStage::Due(_));
         let waits_for_input = self.typing.can_leave() && !self.times.has_begun;
         let is_asked = (self.subcommand.is_command() || self.subcommand.is_ping())
             && self.times.wait > 0;
-        has_notice
+        self.notice.is_to_come()
             || waits_for_input
             || is_asked
             || self.times.paired.is_some()
             || self.times.wants_fit && self.typing.is_at_rest()
             || self.is_lost()
-    }
-
-    // Whether the server refused the peer, and may let it in later: not a client whose user isn't known any more.
-    fn is_refused(&self) -> bool
-        ensures { result ≡ is_refused self.now }
-    {
-        !self.is_welcome && !(self.subcommand.is_attach() && self.is_unknown())
-    }
-
-    fn is_unknown(&self) -> bool
-        ensures { result ≡ is_unknown (option_map string_bytes self.now.said) }
-    {
-        match &self.said {
-            Some(said) => said.as_bytes().starts_with(b"unknown user".as_slice()),
-            None => false,
-        }
-    }
-
-    /// Decides whether the peer comes back, after its connection has ended: if the socket's folder is
-    /// there, for some seconds from the first loss on. It says so once. Until then no server has a window.
-    pub fn comes_back(&mut self, now: u64, is_planned: bool, has_place: bool) -> bool
-        ensures comes { ComesBack self.old now is_planned has_place result self.new }
-        ensures leaves { result ≡ true → HasServer self.new → ⊥ }
-    {
-        let Some(end) = self.end else {
-            return false;
-        };
-        let may_return = has_place && may_return(end, is_planned, self.is_refused());
-        self.is_final |= self.times.again == 0 || !self.was_welcome || !may_return;
-        if self.is_final {
-            return false;
-        }
-        if self.loss.is_none() {
-            self.loss = Some(end);
-            self.times.lost_at = now;
-            self.tell_loss();
-        }
-        self.is_welcome = false;
-        true
-    }
-
-    // Says on a client's terminal that its server is gone. CAN ends what may have been cut.
-    fn tell_loss(&mut self)
-        ensures same { self.new ≡ record self.old { bytes = self.new.bytes; notice = self.new.notice } }
-        ensures adds { IsMore self.old.bytes.items self.new.bytes.items }
-    {
-        if !self.subcommand.is_attach() {
-            return;
-        }
-        let text = b"the server is gone; waiting for it to come back (C-c leaves)";
-        if self.notify(text).is_ok() && self.bytes.push(0x18).is_ok() {
-            let _ = self.put_notice();
-            self.notice.stage = NoticeStage::Nothing;
-        }
     }
 }

@@ -3,11 +3,10 @@
 ghost use Rattle.std.specs.Prelude.{◌≡◌, ◌≤◌, ◌<◌, ◌-◌, ◌++◌, ◌↔◌, length, drop, [], IsTrue};
 ghost use Rattle.std.specs.Prelude.{OnOk, OnErr, IfOk, IfSome, IsNone, IsSome};
 ghost use Rattle.attach_proto.specs.Spelling.{frame, spelling};
-ghost use Rattle.client_page.specs.Kept.{ReadsAll};
-ghost use Rattle.attach_proto.specs.declared.kind.Kind.TheVariants.{Keys, Output, Detach};
+ghost use Rattle.attach_proto.specs.declared.kind.Kind.TheVariants.{Keys, Detach};
 ghost use Rattle.client_peer.specs.Reopening.{Sends, Reopens};
 ghost use Rattle.client_peer.specs.Sending.{Puts, SendsFirst, MaySend, HandsOut, HasBack};
-ghost use Rattle.client_peer.specs.Sending.{HasServer, IsFull, Prints, Holds, HoldsLast, unsent, left};
+ghost use Rattle.client_peer.specs.Sending.{HasServer, IsFull, Prints, unsent, left};
 
 use crate::peer::Peer;
 use attach_proto::{Kind, LONGEST, Message, head_of, write_message};
@@ -17,9 +16,6 @@ use std::mem;
 
 /// While more bytes than this wait for the server, the input isn't read.
 const MOST_AHEAD: usize = 16_777_216;
-
-// So many bytes of what is printed while no server is there are kept: the newest ones.
-const MOST_HELD: usize = 262_144;
 
 /// Frames on their way to the server.
 #[derive(Drop)]
@@ -71,7 +67,6 @@ impl Peer {
         ensures prints { OnOk result (Prints self.old self.new bytes.now) }
         ensures same { self.new ≡ record self.old {
           frames = self.new.frames;
-          held = self.new.held;
           page = self.new.page;
         } }
     {
@@ -80,8 +75,7 @@ impl Peer {
             put_frames(Kind::Output, bytes, &mut self.frames)?;
             return Ok(());
         }
-        self.hold(bytes)?;
-        Ok(())
+        self.page.hold(bytes)
     }
 
     // Whether a server has the window.
@@ -91,65 +85,15 @@ impl Peer {
         self.is_welcome && !self.is_reopening
     }
 
-    // Holds what a window's program printed.
-    fn hold(&mut self, bytes: &[u8]) -> Result<(), AllocError>
-        ensures holds { OnOk result (Holds self.old bytes.now self.new) }
-        ensures same { self.new ≡ record self.old { held = self.new.held; page = self.new.page } }
-    {
-        self.held.extend_from_slice(bytes)?;
-        if self.held.len() > MOST_HELD.saturating_mul(2) {
-            self.trim()?;
-        }
-        Ok(())
-    }
-
-    // Keeps the newest of the bytes that are held. The page reads the others.
-    fn trim(&mut self) -> Result<(), AllocError>
-        ensures last { OnOk result (HoldsLast self.old self.old.held.items self.new) }
-        ensures same { self.new ≡ record self.old { held = self.new.held; page = self.new.page } }
-    {
-        let held = mem::replace(&mut self.held, Vec::new(self.alloc));
-        let (old, new) = held.split_at(held.len().saturating_sub(MOST_HELD));
-        self.page.read(old);
-        self.held.extend_from_slice(new)
-    }
-
     /// Puts down the page and what was held, once a server has the window again. Returns whether the server is told the
     /// page.
     pub(crate) fn tell_again(&mut self) -> Result<bool, AllocError>
         ensures ok { IfOk result (λ is_told. Reopens self.old self.new is_told) }
-        ensures same { self.new ≡ record self.old {
-          frames = self.new.frames;
-          held = self.new.held;
-          page = self.new.page;
-        } }
-    {
-        let held = mem::replace(&mut self.held, Vec::new(self.alloc));
-        let read = self.page.settle(&held);
-        let (_, later) = held.split_at(read);
-        match self.page.told() {
-            Some(bytes) => {
-                self.put_again(bytes, later)?;
-                Ok(true)
-            }
-            None => {
-                self.put_again(Vec::new(self.alloc), later)?;
-                Ok(false)
-            }
-        }
-    }
-
-    // Puts down what the server is told, and what it is to read after that, as the page does.
-    fn put_again(&mut self, told: Vec<u8>, later: &[u8]) -> Result<(), AllocError>
-        ensures ok { OnOk result (Sends self.old.frames.items self.new.frames.items Output
-            (told.items ++ later.now)) }
-        ensures read { ReadsAll self.old.page.emulator later.now self.new.page.emulator }
         ensures same { self.new ≡ record self.old { frames = self.new.frames; page = self.new.page } }
     {
-        self.page.read(later);
-        let mut bytes = told;
-        bytes.extend_from_slice(later)?;
-        put_frames(Kind::Output, &bytes, &mut self.frames)
+        let (bytes, is_told) = self.page.tell_again()?;
+        put_frames(Kind::Output, &bytes, &mut self.frames)?;
+        Ok(is_told)
     }
 
     /// Asks for a whole draw: RESIZE, with the size that the terminal has.

@@ -1,9 +1,10 @@
 //! The state of a peer.
 
-ghost use Rattle.std.specs.Prelude.{◌≡◌, ◌↔◌, ◌++◌, [], false, true, Some, None, IsSome, IsTrue, OnOk};
+ghost use Rattle.std.specs.Prelude.{◌≡◌, ◌↔◌, ◌++◌, [], false, true, Some, None, IfSome, IsSome, IsTrue, OnOk};
+ghost use Rattle.std.specs.Option.{option_or};
 ghost use Rattle.attach_proto.specs.Spelling.{spelling};
-ghost use Rattle.draw_check.specs.Places.{place_after};
-ghost use Rattle.client_peer.specs.Ending.{ending_of};
+ghost use Rattle.client_peer.specs.Beginning.{IsBegun};
+ghost use Rattle.client_peer.specs.Ending.{EndsOutput, ending_of};
 ghost use Rattle.client_peer.specs.Meeting.{Meets, IsFresh};
 ghost use Rattle.client_peer.specs.Sending.{HasServer};
 ghost use Rattle.client_peer.specs.Showing.{BeginsAnew};
@@ -12,8 +13,8 @@ ghost use Rattle.client_peer.specs.declared.meeting.Meeting.TheVariants.{Same};
 
 use crate::looking::Timers;
 use crate::meeting::{Meeting, SessionMark};
-use crate::notice::Notice;
 use attach_proto::{Message, Why};
+use client_notice::Notice;
 use client_page::KeptPage;
 use client_typing::Typing;
 use client_words::{Arguments, PeerFault, Subcommand, TerminalSize};
@@ -62,9 +63,7 @@ pub struct Peer {
     pub is_shut: bool,
     /// Counts the connections.
     pub connection: u32,
-    /// What a window's program printed while no server was there.
-    pub held: Vec<u8>,
-    /// The page of a window that stays.
+    /// The page of a window that stays, and what its program printed while no server was there.
     pub page: KeptPage,
     /// The number that the window had when a server let it in last.
     pub(crate) number: u8,
@@ -98,9 +97,7 @@ pub struct Peer {
 
 impl Peer {
     pub fn new(alloc: Global, arguments: &Arguments<'_>) -> Peer
-        ensures subcommand { result.subcommand ≡ arguments.now.subcommand }
-        ensures none { result.bytes.items ≡ [] }
-        ensures unread { result.draws ≡ place_after [] }
+        ensures { IsBegun arguments.now result }
     {
         Peer {
             alloc,
@@ -124,7 +121,6 @@ impl Peer {
             is_stuck: false,
             is_shut: false,
             connection: 0,
-            held: Vec::new(alloc),
             page: KeptPage::new(alloc, arguments),
             number: 0,
             page_number: 0,
@@ -200,10 +196,8 @@ impl Peer {
 
     /// Notes how the connection ended. Only the first call counts.
     pub fn end_by(&mut self, end: Result<Why, PeerFault>)
-        ensures ends { self.old.end ≡ None → self.new.end ≡ Some end }
+        ensures ends { self.new ≡ record self.old { end = option_or self.old.end (Some end) } }
         ensures some { IsSome self.new.end }
-        ensures first { IsSome self.old.end → self.new ≡ self.old }
-        ensures same { self.new ≡ record self.old { end = self.new.end } }
     {
         if self.end.is_none() {
             self.end = Some(end);
@@ -276,8 +270,7 @@ impl Peer {
     /// may have a program that reads no more.
     pub fn end_writing(&mut self, fault: Option<PeerFault>)
         ensures written { fault ≡ None → self.new ≡ record self.old { is_writing = false } }
-        ensures failed { IsSome fault → (self.new.is_final ≡ true) × IsSome self.new.end
-            × (self.old.end ≡ None → self.new.fault ≡ fault) }
+        ensures failed { IfSome fault (λ f. EndsOutput self.old f self.new) }
     {
         self.is_writing = false;
         let Some(fault) = fault else {

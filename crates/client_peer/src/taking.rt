@@ -7,7 +7,7 @@ ghost use Rattle.client_words.specs.declared.fault.PeerFault.TheVariants.{Ended}
 ghost use Rattle.client_peer.specs.Ending.{end_for};
 ghost use Rattle.client_peer.specs.Hearing.{Shows, Says, LetsIn, Delivers, Hears, HearsFirst, IsSized, TakesInput};
 ghost use Rattle.client_peer.specs.Hearing.{HearsRead, gone_in, size_line};
-ghost use Rattle.client_peer.specs.Meeting.{IsThere, Meets, Opens, StaysClosed};
+ghost use Rattle.client_peer.specs.Meeting.{IsToOpen, Meets, Opens, StaysClosed, WaitsToOpen};
 ghost use Rattle.client_peer.specs.Sending.{IsBehind};
 ghost use Rattle.client_peer.specs.Showing.{Keeps, Adds, PassesOn, StopsAt};
 ghost use Rattle.client_peer.specs.declared.meeting.Meeting.TheVariants.{Same};
@@ -131,8 +131,7 @@ impl Peer {
         Ok(())
     }
 
-    // Notes that the peer is let in. A window gets its first size. One that is opened again has to know first whether
-    // its page may be told.
+    // Notes that the peer is let in. A window gets its first size, unless it is to be opened again first.
     fn welcome(&mut self) -> Result<(), PeerFault>
         ensures keeps { Keeps self.old self.new }
         ensures closed { StaysClosed self.old self.new }
@@ -162,13 +161,13 @@ impl Peer {
         is_here: bool,
         is_hidden: bool,
     ) -> Result<Meeting, PeerFault>
-        ensures meets { IsThere self.old is_here → IfOk result (Meets self.old mark.now) }
-        ensures gone { (IsThere self.old is_here → ⊥) → result ≡ Ok Meeting.Older }
+        ensures meets { IsToOpen self.old is_here → IfOk result (Meets self.old mark.now) }
+        ensures gone { (IsToOpen self.old is_here → ⊥) → result ≡ Ok Meeting.Older }
         ensures ok { IfOk result (λ met. met ≡ Same → Opens self.old self.new is_hidden) }
         ensures stays { IfOk result (λ met. (met ≡ Same → ⊥) → self.new ≡ self.old) }
         ensures fault { OnErr result (Meets self.old mark.now Same) }
     {
-        if self.end.is_some() || !is_here {
+        if !self.is_to_open() || !is_here {
             return Ok(Meeting::Older);
         }
         let met = self.meets(mark);
@@ -176,6 +175,13 @@ impl Peer {
             self.open(is_hidden)?;
         }
         Ok(met)
+    }
+
+    // Whether a server has let the window in, which isn't opened again yet.
+    fn is_to_open(&self) -> bool
+        ensures { IsTrue result ↔ WaitsToOpen self.now }
+    {
+        self.is_welcome && self.is_reopening && self.end.is_none()
     }
 
     fn open(&mut self, is_hidden: bool) -> Result<(), PeerFault>
@@ -233,9 +239,9 @@ impl Peer {
     {
         match message {
             Message::Draw(bytes) if self.subcommand.is_attach() => self.show(bytes.as_slice()),
-            Message::Say(text) if self.subcommand.is_attach() && self.is_welcome => self.hear_later(
-                text.as_str(),
-            ),
+            Message::Say(text) if self.subcommand.is_attach() && self.is_welcome => self
+                .notice
+                .hear_later(self.alloc, text.as_str(), self.typing.assists),
             Message::Input(bytes) if self.subcommand.is_window() => self.take_input(
                 bytes.as_slice(),
             ),

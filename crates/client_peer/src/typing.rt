@@ -3,13 +3,12 @@
 ghost use Rattle.std.specs.Prelude.{◌≡◌, OnOk};
 ghost use Rattle.client_peer.specs.Ending.{EndsInput};
 ghost use Rattle.client_peer.specs.Sending.{IsMore};
-ghost use Rattle.client_peer.specs.Typing.{TypesIn, Presses, SendsAssisted, MayAsk};
+ghost use Rattle.client_peer.specs.Typing.{TypesIn, Presses, SendsAssisted, MayAsk, typed_in};
 
-use crate::notice::NoticeStage;
 use crate::peer::Peer;
+use client_notice::NoticeStage;
 use client_words::PeerFault;
 use std::alloc::AllocError;
-use std::io::Write;
 
 const ETX: u8 = 0x03;
 
@@ -18,6 +17,7 @@ impl Peer {
     pub fn type_in(&mut self, input: &[u8]) -> Result<(), PeerFault>
         ensures types { OnOk result (TypesIn self.old self.new input.now) }
         ensures adds { OnOk result (IsMore self.old.bytes.items self.new.bytes.items) }
+        ensures same { self.new ≡ typed_in self.old self.new }
     {
         let mut bytes = Vec::new(self.alloc);
         self.typing.read(input, &mut bytes)?;
@@ -38,6 +38,7 @@ impl Peer {
         ensures presses { OnOk result (Presses self.old self.new keys.now) }
         ensures adds { OnOk result (IsMore self.old.bytes.items self.new.bytes.items) }
         ensures leave { self.new.typing.leave ≡ self.old.typing.leave }
+        ensures same { self.new ≡ typed_in self.old self.new }
     {
         if self.is_lost() {
             if keys.contains(&ETX) {
@@ -68,6 +69,7 @@ impl Peer {
         ensures leave { self.new.typing.leave ≡ self.old.typing.leave }
         ensures sends { OnOk result (SendsAssisted self.old self.new keys.now) }
         ensures adds { OnOk result (IsMore self.old.bytes.items self.new.bytes.items) }
+        ensures same { self.new ≡ typed_in self.old (record self.new { is_final = self.old.is_final; end = self.old.end }) }
     {
         let mut out = Vec::new(self.alloc);
         let page = self.rows.saturating_sub(3);
@@ -86,22 +88,14 @@ impl Peer {
 
     // Says how to come back.
     fn tell_scrolled(&mut self) -> Result<(), PeerFault>
-        ensures typing { self.new.typing ≡ self.old.typing }
         ensures asks { OnOk result (MayAsk self.old self.old.frames.items self.new.frames.items) }
-        ensures bytes { self.new.bytes ≡ self.old.bytes }
+        ensures same { self.new ≡ record self.old { frames = self.new.frames; notice = self.new.notice } }
     {
-        let back = self.typing.back;
-        if back == 0 {
+        if self.typing.back == 0 {
             self.notice.stage = NoticeStage::Nothing;
             return self.redraw();
         }
-        let mut text = Vec::new(self.alloc);
-        write!(
-            text,
-            "{back} lines back; Shift-PgDn goes forward, any other key to the end"
-        )?;
-        self.notify(&text)?;
-        Ok(())
+        self.notice.tell_scrolled(self.alloc, self.typing.back)
     }
 
     /// Takes the end of standard input.

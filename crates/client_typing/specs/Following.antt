@@ -18,6 +18,12 @@ LetsThrough (Some reader) input typed (Some after) =
     (before : List ℕ) → HasRead reader before
     → HasRead after (before ++ input) × (sent reader.byte (before ++ input) ≡ sent reader.byte before ++ typed)
 
+-- this byte leaves, if there is one, and none was read yet
+abbrev pub LeavesBy : Option ℕ → Option LeaveReader → Type 0
+LeavesBy None reader = reader ≡ None
+LeavesBy (Some byte) None = ⊥
+LeavesBy (Some byte) (Some reader) = (reader.byte ≡ byte) × HasRead reader []
+
 -- how far the input was read in looking for the byte that leaves
 abbrev pub IsStage : Option LeaveReader → InputStage → Type 0
 IsStage None s = s ≡ Reading

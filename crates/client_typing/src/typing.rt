@@ -1,6 +1,6 @@
 //! What a user types, without the byte that leaves, and the keys that a client has of its own.
 
-ghost use Rattle.std.specs.Prelude.{◌≡◌, ◌<◌, ◌↔◌, ◌++◌, ◌∷◌, ℕ, Bool, List, [], None, length};
+ghost use Rattle.std.specs.Prelude.{◌≡◌, ◌<◌, ◌↔◌, ◌+◌, ◌%◌, ◌++◌, ◌∷◌, ℕ, Bool, List, [], None, length};
 ghost use Rattle.std.specs.Prelude.{IsTrue, IsSome, OnOk, IfOk, IfSome};
 ghost use Rattle.keys.specs.Grammar.{rest_step};
 ghost use Rattle.keys.specs.Kept.{rest_of};
@@ -57,12 +57,13 @@ fn after_page_key(keys: &[u8]) -> Option<(&[u8], bool)>
 
 impl Typing {
     ghost use Rattle.client_typing.specs.Assisting.{Assists, IsAssisted, Takes};
-    ghost use Rattle.client_typing.specs.Following.{LetsThrough, Follows, IsSet, IsStage, IsUnread, Leaves, StaysBeside, Rests};
+    ghost use Rattle.client_typing.specs.Following.{LetsThrough, Follows, IsSet, IsStage, IsUnread, Leaves, LeavesBy, StaysBeside, Rests};
 
     pub fn new(arguments: &Arguments<'_>) -> Typing
         ensures stands { IsUnread result }
         ensures assisted { IsAssisted result [] [] }
         ensures assists { result.assists ≡ arguments.now.assist }
+        ensures leave { LeavesBy arguments.now.leave result.leave }
     {
         let leave = match arguments.leave {
             Some(byte) => Some(LeaveReader::new(byte)),
@@ -299,7 +300,10 @@ impl Typing {
     pub fn read(&mut self, input: &[u8], out: &mut Vec<u8>) -> Result<(), AllocError>
         ensures through { out.old.items ≡ []
             → OnOk result (LetsThrough self.old.leave input.now out.new.items self.new.leave) }
-        ensures same { self.new ≡ record self.old { leave = self.new.leave; reads = self.new.reads } }
+        ensures same { self.new ≡ record self.old {
+          leave = self.new.leave;
+          reads = (self.old.reads + 1) % 4294967296;
+        } }
     {
         self.reads = self.reads.wrapping_add(1);
         match &mut self.leave {

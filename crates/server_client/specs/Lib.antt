@@ -1,3 +1,5 @@
+pub mod Comebacks
 pub mod Lines
 pub mod Marks
+pub mod Opening
 pub mod Sending

@@ -2,6 +2,7 @@
 #![tactic(auto)]
 
 mod attach;
+mod comeback;
 mod ending;
 mod opening;
 mod reading;

@@ -1,8 +1,8 @@
 //! The connection with its first frame, and the files that the arguments name.
 
-ghost use Rattle.std.specs.Prelude.{◌≡◌, ◌↔◌, IfOk, IsTrue};
-ghost use Rattle.client_words.specs.declared.arguments.Subcommand.TheVariants.{Window};
+ghost use Rattle.std.specs.Prelude.{◌≡◌, ◌↔◌, [], IfOk, IsTrue};
 ghost use Rattle.server_client.specs.Marks.{IsNoEarlier};
+ghost use Rattle.server_client.specs.Opening.{BeginsWith, LeadsBack, LeadsTo};
 
 use crate::PeerHost;
 use attach_proto::Token;
@@ -212,7 +212,9 @@ impl Door {
 fn frame_for<R: fs::Files<File = File> + AllocGlobal>(
     rt: &R,
     arguments: &Arguments<'_>,
-) -> Result<Vec<u8>, PeerFault> {
+) -> Result<Vec<u8>, PeerFault>
+    ensures { IfOk result (λ frame. BeginsWith arguments.now frame.items) }
+{
     if arguments.subcommand.is_ping() {
         return Ok(Vec::new(rt.alloc()));
     }
@@ -224,7 +226,9 @@ fn frame_for<R: fs::Files<File = File> + AllocGlobal>(
 fn door_for<R: fs::Files<File = File> + AllocGlobal>(
     rt: &R,
     arguments: &Arguments<'_>,
-) -> Result<Door, PeerFault> {
+) -> Result<Door, PeerFault>
+    ensures { IfOk result (λ door. LeadsTo arguments.now door × (door.session.items ≡ [])) }
+{
     Ok(Door {
         frame: frame_for(rt, arguments)?,
         socket: String::from_str(rt.alloc(), arguments.socket)?,
@@ -241,7 +245,7 @@ pub fn another_door<R: fs::Files<File = File> + AllocGlobal>(
     size: (u16, u16),
     session: Vec<u8>,
 ) -> Result<Door, PeerFault>
-    ensures { IfOk result (λ door. arguments.now.subcommand ≡ Window → door.session ≡ session) }
+    ensures { IfOk result (LeadsBack (record arguments.now { rows = size.0; columns = size.1 }) session.items) }
 {
     let mut arguments = *arguments;
     (arguments.rows, arguments.columns) = size;
@@ -282,7 +286,9 @@ pub fn prepare<R: fs::Files<File = File> + AllocGlobal>(
     rt: &R,
     arguments: &Arguments<'_>,
     kept: &mut Vec<File>,
-) -> Result<(Door, SizesFiles), PeerFault> {
+) -> Result<(Door, SizesFiles), PeerFault>
+    ensures { IfOk result (λ made. LeadsTo arguments.now made.0) }
+{
     fill_closed(rt, kept)?;
     let door = door_for(rt, arguments)?;
     match sizes_of(rt, arguments) {

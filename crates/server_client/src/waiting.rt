@@ -4,13 +4,14 @@ ghost use Rattle.std.specs.Prelude.{◌≡◌};
 ghost use Rattle.server_client.specs.Lines.{has_line};
 
 use crate::attach::Sources;
+use crate::comeback::Comeback;
 use crate::ending::PeerEnding;
 use crate::opening::{Door, another_door, mark_of};
 use crate::reading::serve;
 use crate::shared::{SharedPeer, start_thread};
 use crate::writing::send;
 use crate::{PeerHost, Source};
-use client_peer::{Comeback, Meeting, PeerTask};
+use client_peer::{Meeting, PeerTask};
 use client_words::{Arguments, PeerFault};
 use std::alloc::Global;
 use std::fs::{File, Files};

@@ -1,4 +1,4 @@
-use Rattle.std.proofs.Common.{◌≡◌, refl, sym, inl, List, ℕ, subst}
+use Rattle.std.proofs.Common.{◌≡◌, refl, sym, inl, List, ℕ, subst, ap}
 use Rattle.client_typing.specs.Assisting.{Assists}
 use Rattle.client_typing.specs.declared.typing.Typing.{Typing}
 use Rattle.client_peer.specs.declared.peer.Peer.{Peer}
@@ -17,14 +17,16 @@ returns-clause-sends c =
     let told : (third.typing ≡ second.typing) × MayAsk second second.frames.items third.frames.items =
     elim c.if-self-before.branch [
       | then-self-before+in_ok-tell_scrolled w ↦
-          rw w.self-is (w.tell_scrolled.ensures.typing, w.in_ok-tell_scrolled.ensures.asks)
+          rw w.self-is
+          (ap (λ (p : Peer). p.typing) w.tell_scrolled.ensures.same, w.in_ok-tell_scrolled.ensures.asks)
       | else-self-before w ↦ rw w.self-is (refl, inl refl)
     ] in
     let shown : StandsAs new.typing third.typing × (new.frames.items ≡ third.frames.items) = elim c.if-self.branch [
       | then-self+in_ok-help w ↦
           rw w.self-is (
-            subst (λ (t : Typing). StandsAs t third.typing) (sym w.help.ensures.typing) (λ typed sent s. s),
-            w.help.ensures.frames,
+            subst (λ (t : Typing). StandsAs t third.typing) (sym (ap (λ (p : Peer). p.typing) w.help.ensures.same))
+                (λ typed sent s. s),
+            ap (λ (p : Peer). p.frames.items) w.help.ensures.same,
           )
       | else-self w ↦ rw w.self-is ((λ typed sent s. s), refl)
     ] in

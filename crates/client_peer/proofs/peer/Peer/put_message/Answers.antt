@@ -24,11 +24,13 @@ returns-in-Welcome-clause-ok c =
 pub returns-in-Say-clause-ok : goal.returns-in-Say-clause-ok
 returns-in-Say-clause-ok c =
     let old : Peer = c.args.self.now in
-    let new : Peer = c.hear_later.new.self in
-    on_ok_given {P = PassesOn old new} c.hear_later.result (passes_keeps old new c.hear_later.ensures.keeps)
+    let new : Peer = record c.args.self.now { notice = c.hear_later.new.self } in
+    on_ok_given {P = PassesOn old new} c.hear_later.result
+    (passes_keeps old new (record { subcommand = refl; draws = refl; kept = refl }))
 
 pub returns-in-Say-clause-err : goal.returns-in-Say-clause-err
 returns-in-Say-clause-err c =
     let old : Peer = c.args.self.now in
-    let new : Peer = c.hear_later.new.self in
-    on_err_given {P = StopsAt old new} c.hear_later.result (stops_keeps old new c.hear_later.ensures.keeps)
+    let new : Peer = record c.args.self.now { notice = c.hear_later.new.self } in
+    on_err_given {P = StopsAt old new} c.hear_later.result
+    (stops_keeps old new (record { subcommand = refl; draws = refl; kept = refl }))

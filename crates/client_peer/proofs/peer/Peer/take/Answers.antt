@@ -1,9 +1,9 @@
 use Rattle.std.proofs.Common.{sym, subst}
 use Rattle.client_peer.specs.declared.peer.Peer.{Peer}
 use Rattle.client_peer.specs.Meeting.{StaysClosed}
-use Rattle.client_peer.specs.Showing.{PassesOn}
+use Rattle.client_peer.specs.Showing.{PassesOn, StopsAt}
 use Rattle.client_peer.proofs.Closing.{closed_same, closed_then}
-use Rattle.client_peer.proofs.Passing.{passes_keeps, passes_same, passes_heard, passes_then}
+use Rattle.client_peer.proofs.Passing.{on_err_given, passes_keeps, passes_same, passes_heard, passes_stops, passes_then}
 use Rattle.client_peer.proofs.peer.Peer.take.Goals.{then-told+in_ok-welcome, else-told}
 use Rattle.client_peer.proofs.peer.Peer.take.Goals.{in-Some+in_ok-hear, in_default}
 use Rattle.client_peer.proofs.peer.Peer.take.Goals as goal
@@ -42,3 +42,10 @@ returns-clause-closed c =
     ] in
     closed_then c.args.self.now first last c.in_ok-put_message.ensures.closed
     (closed_then first second last welcomed heard)
+
+pub returns-in_err-note-clause-err : goal.returns-in_err-note-clause-err
+returns-in_err-note-clause-err c =
+    let old : Peer = c.args.self.now in
+    let new : Peer = c.put_message.new.self in
+    on_err_given {P = StopsAt old new} c.from_residual-in_err-note.result
+    (passes_stops old new c.in_ok-put_message.ensures.ok)

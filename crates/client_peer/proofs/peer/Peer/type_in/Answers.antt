@@ -20,7 +20,7 @@ returns-clause-types c =
       prints = λ window. search rules;
       none = λ client none. search rules;
       presses = λ client some.
-          presses_read old new c.read.new.self (record c.args.self.now.times { has_typed = true }) c.read.new.out.items
+          presses_read old new c.read.new.self _ (record c.args.self.now.times { has_typed = true }) c.read.new.out.items
           c.read.ensures.same
           (subst (λ (l : List ℕ). Presses middle new l) c.deref-2.ensures.value c.in_ok-press.ensures.presses);
     }

@@ -1,0 +1,22 @@
+-- The connection that a peer makes, and what it sends first.
+use Rattle.std.specs.Prelude.{◌≡◌, List, ℕ, [], is_some, string_bytes}
+use Rattle.client_words.specs.Beginning.{first_message, IsFrameOf}
+use Rattle.client_words.specs.declared.arguments.Arguments.{Arguments}
+use Rattle.client_words.specs.declared.arguments.Subcommand.TheVariants.{Window}
+use Rattle.server_client.specs.declared.opening.Door.{Door}
+
+-- the frame of the first message that the arguments mean, with some token
+abbrev pub BeginsWith : Arguments → List ℕ → Type 0
+BeginsWith a frame = (token : List ℕ) × IsFrameOf (first_message a token) frame
+
+-- it leads to the socket that the arguments name, and what is sent first is what they mean
+pub record LeadsTo (a : Arguments) (door : Door) : Type 0 where
+  pub frame : BeginsWith a door.frame.items
+  pub socket : string_bytes door.socket ≡ a.socket.now
+  pub can_leave : door.can_leave ≡ is_some a.leave
+
+-- only a window comes back to a session by its name
+pub record LeadsBack (a : Arguments) (session : List ℕ) (door : Door) : Type 0 where
+  pub leads : LeadsTo a door
+  pub window : a.subcommand ≡ Window → door.session.items ≡ session
+  pub other : (a.subcommand ≡ Window → ⊥) → door.session.items ≡ []
