@@ -180,13 +180,13 @@ listed() {
 
 # take_lock PATH: holds the lock as descriptor 9.  Until rights are given, nobody else may open a console or let a user in.
 take_lock() {
-    [ -r "$1" ] || fault "can't read the lock: $1 (set --lock or MUX_LOCK)"
+    # (to open a FIFO would wait)
+    { [ -r "$1" ] && [ ! -p "$1" ]; } || fault "can't read the lock: $1 (set --lock or MUX_LOCK)"
     exec 9<"$1"
     flock -w 60 9 || fault "another mux-console, mux-guest, mux-rights or mux-turn has held the lock for a minute: $1: try again"
 }
 # session_mark: prints what names the session: a mark, if it goes on over restarts (muxd-run --again), else its socket.
 session_mark() {
-    # (a FIFO there would be waited for)
     { [ -f "$socket.session" ] && cat -- "$socket.session" 2>/dev/null; } || socket_now
 }
 socket_now() {
