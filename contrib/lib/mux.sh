@@ -261,7 +261,7 @@ is_written() {
     server=${1%.trail}
     server=${server##*.}
     case $server in '' | *[!0-9]*) return 1 ;; esac
-    [ -n "$(find -L "/proc/$server/fd" -maxdepth 1 -samefile "$1" 2>/dev/null)" ]
+    [ -d "/proc/$server/fd" ] && [ -n "$(find -L "/proc/$server/fd" -maxdepth 1 -samefile "$1" 2>/dev/null)" ]
 }
 # newest_trail FOLDER: prints the trail that a server has open, else the last one by name.  The clock may have been set
 # back, so the last name alone could be that of a session long over.
