@@ -84,7 +84,7 @@ while (my $line = <$in>) {
         follow(\@event, $window, $line =~ /"reply":"ok/, \@acts);
     }
     $line =~ s/"ms":[0-9]+(?:,"time":"[^"]*")?/"ms":$ms,"time":"$time"$more/;
-    print $line;
+    print($line) || print(STDERR "mux-audit: can't write to standard output: $!\n") && exit 2;
 }
 close $in;
-exit $? >> 8;
+exit($? & 127 ? 128 + ($? & 127) : $? >> 8);

@@ -2,6 +2,10 @@
 # What the scripts of mux share: their options, the session that they mean, its lock, and commands of its owner.  A script
 # that reads this has a function usage.
 program=${0##*/}
+# Files must not get the numbers of standard streams that are closed.  Writing to this standard output fails, as it would.
+true >&2 || exec 2>/dev/null
+true 2>/dev/null <&0 || exec </dev/null
+true 2>/dev/null >&1 || exec 1</dev/null
 mux=${MUX:-mux}
 config=${XDG_CONFIG_HOME:-${HOME:-}/.config}/mux
 socket=${MUX_SOCKET:-${XDG_RUNTIME_DIR:+$XDG_RUNTIME_DIR/mux/socket}}
@@ -69,10 +73,14 @@ read_options() {
     done
 }
 
+# Prints the login's name.  Where it has none, as in some containers, id prints its number and fails.
+login_name() {
+    id -un 2>/dev/null || :
+}
 # find_session: the user and the token's file, where nothing says which.
 find_session() {
     [ -n "$socket" ] || fault "no socket: set --socket or MUX_SOCKET (XDG_RUNTIME_DIR isn't set)" 2
-    [ -n "$user" ] || user=$(id -un)
+    [ -n "$user" ] || user=$(login_name)
     [ -n "$token" ] || token=$config/$user.token
 }
 
@@ -172,16 +180,23 @@ listed() {
 
 # take_lock PATH: holds the lock as descriptor 9.  Until rights are given, nobody else may open a console or let a user in.
 take_lock() {
-    [ -r "$1" ] || fault "can't read the lock: $1 (set --lock or MUX_LOCK)"
+    # (to open a FIFO would wait)
+    { [ -r "$1" ] && [ ! -p "$1" ]; } || fault "can't read the lock: $1 (set --lock or MUX_LOCK)"
     exec 9<"$1"
-    flock -w 60 9 || fault "another mux-console, mux-rights or mux-guest has held the lock for a minute: $1: try again"
+    flock -w 60 9 || fault "another mux-console, mux-guest, mux-rights or mux-turn has held the lock for a minute: $1: try again"
 }
 # session_mark: prints what names the session: a mark, if it goes on over restarts (muxd-run --again), else its socket.
 session_mark() {
-    cat -- "$socket.session" 2>/dev/null || socket_now
+    { [ -f "$socket.session" ] && cat -- "$socket.session" 2>/dev/null; } || socket_now
 }
 socket_now() {
     stat -c '%d %i %z' -- "$socket" 2>/dev/null
+}
+# clock: sets up to the seconds since the machine started: nobody sets this clock.  A unit with ProcSubset=pid, as muxd@,
+# has no such file, but the time at which a process of its own starts.
+clock() {
+    read -r up _ 2>/dev/null </proc/uptime || up=$(($(cut -d ' ' -f 22 /proc/self/stat) / 100))
+    up=${up%%.*}
 }
 # make_folder: sets folder to a new one for files of this script.
 make_folder() {
@@ -189,6 +204,16 @@ make_folder() {
 }
 no_folder() {
     fault "can't make a folder for its files in ${TMPDIR:-/tmp}: ${1##*: }: set TMPDIR to another one"
+}
+# make_pipes NAME..: makes FIFOs in $folder.  Unlike files they lose nothing on a full disk.
+make_pipes() {
+    for pipe in "$@"; do
+        said=$(mkfifo -m 600 -- "$folder/$pipe" 2>&1) || no_folder "$said"
+    done
+}
+# Prints what programs wrote so far into the FIFO that descriptor 6 has open.
+heard_errors() {
+    dd bs=65536 count=1 iflag=nonblock <&6 2>/dev/null || :
 }
 # visible TEXT: prints it as one line with ? for all but ASCII's visible characters, whoever named a file in it.
 visible() {
@@ -236,7 +261,7 @@ is_written() {
     server=${1%.trail}
     server=${server##*.}
     case $server in '' | *[!0-9]*) return 1 ;; esac
-    [ -n "$(find -L "/proc/$server/fd" -maxdepth 1 -samefile "$1" 2>/dev/null)" ]
+    [ -d "/proc/$server/fd" ] && [ -n "$(find -L "/proc/$server/fd" -maxdepth 1 -samefile "$1" 2>/dev/null)" ]
 }
 # newest_trail FOLDER: prints the trail that a server has open, else the last one by name.  The clock may have been set
 # back, so the last name alone could be that of a session long over.
