@@ -347,11 +347,11 @@ sub for_guest {
     my ($self, $word, @name) = @_;
     my $guests = $self->{guests};
     my $name = join ' ', @name;
-    my $key = $guests->key($name);
-    return (nobody($self, $name, $word), '') unless defined $key;
-    return ($guests->give($key), given($self, $guests->guest($key))) if $word eq 'give';
+    my $key = $guests->key($name) // return (nobody($self, $name, $word), '');
+    my $guest = $guests->guest($key);
+    return ($guests->give($key), given($self, $guest)) if $word eq 'give';
     $guests->drop($key, 'was sent away');
-    return ('', "$name was sent away\n");
+    return ('', "$guest->{account} was sent away\n");
 }
 
 # Lets a guest join in a browser.  Returns a fault or '', and what mux-share prints.
