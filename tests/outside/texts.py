@@ -363,7 +363,6 @@ def first_session(play):
     play.text.take("rm -r ~/first")
     on.run("ann", "rm -r ~/first; ls ~ | wc -l", ["0"])
     play.text.leave("it is played with docs/TEACHING.md", "mux-shell --title lesson sudo -iu lab")
-    play.text.leave("it plays itself", "make shell")
 
 
 def readme(play):
@@ -373,7 +372,7 @@ def readme(play):
     text.leave("tests/outside/share plays it, with three accounts", "mux-share --give cole", "mux-share --take",
                "mux-join dana@host")
     text.leave("it builds; tests/outside/package plays what it gives", "make try-server", "make build",
-               "make install PREFIX=$HOME/.local", "make uninstall", "make dist", "make test", "make RT=/path/to/rt")
+               "make install", "make uninstall", "make dist", "make test", "make RT=/path/to/rt")
     on.open("ann")
     for line in ("new-token ann", "mkdir -p -m 700 $XDG_RUNTIME_DIR/mux",
                  "setsid -f muxd --socket $XDG_RUNTIME_DIR/mux/socket --users ~/.config/mux/users"
