@@ -815,7 +815,7 @@ def words_alone(play):
         play.text.leave("it is a pattern", "mux-attach --user NAME", "mux-attach --rows 24 --cols 80",
                         "mux-attach --fit", "mux-shell --detach", "mux-console db7", "muxsim --edition 1")
         play.text.leave("tests/outside/share plays it, with three accounts", "mux-share --with cole", "mux-join dana",
-                        "mux-share --give cole", "mux-share --take")
+                        "mux-share --give", "mux-share --take")
 
 
 def muxd_page(play):
