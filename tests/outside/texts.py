@@ -32,7 +32,7 @@ import bridge
 from play import (CONTRIB, PROGRAMS, TOP, Pane, Tmux, add_account, check, end_account, kill, main, once, processes,
                   program, run)
 
-SPAN = re.compile(r"`((?:C-a: |(?:mux|muxd|muxsim|vtcat|new-token|mux-[a-z-]+|muxd-wait|own|make|sudo|loginctl"
+SPAN = re.compile(r"`((?:C-a: |(?:mux|muxd|muxsim|vtcat|new-token|mux-[a-z-]+|muxd-wait|own|turn|make|sudo|loginctl"
                   r"|systemctl|tic) |rm -r )[^`]*)`")
 
 
@@ -549,10 +549,10 @@ def turns(play, accounts):
         on.shows(pane, "^denied: w on window 0: entry %s -w" % pane)
 
     denied("ann")
+    play.run("tess", 'turn() { mux-turn --keep tess --title --window lesson "$@"; }')
     text.take("mux-command displays")
     on.run("tess", "mux-command displays", ["0 tess 0  1 ann 0  2 bob 0"])
-    for line, told in (("mux-turn --keep tess --title --window lesson ann", "ann may type"),
-                       ("mux-command wall 'well done, ann'", "well done, ann")):
+    for line, told in (("turn ann", "ann may type"), ("mux-command wall 'well done, ann'", "well done, ann")):
         text.take(line)
         on.run("tess", line)
         on.shows("ann", "^own: " + told)
@@ -567,16 +567,16 @@ def turns(play, accounts):
     on.type("lesson", "echo tess types\n")
     on.shows("ann", r"^(\$ )?tess types")
     denied("bob")
-    text.take("mux-turn --keep tess --for 5m --window lesson bob")
-    on.type("tess", "mux-turn --keep tess --for 5m --window lesson bob\n")
+    text.take("turn --for 5m bob")
+    on.type("tess", "turn --for 5m bob\n")
     on.shows("bob", "^own: bob may type for 5m")
     on.type("bob", "echo bob types\n")
     on.shows("ann", r"^(\$ )?bob types")
     denied("ann")
     on.ends("tess", "mux-turn", "C-c")
     denied("bob")
-    text.take("mux-turn --keep tess --window lesson none")
-    on.run("tess", "mux-turn --keep tess --window lesson none; clear")
+    text.take("turn none")
+    on.run("tess", "turn none; clear")
     denied("ann")
     on.type("lesson", "echo still tess\n")
     on.shows("ann", r"^(\$ )?still tess")
