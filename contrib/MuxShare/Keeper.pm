@@ -284,6 +284,7 @@ sub let_in {
             client => $peer, life => $self->{life}, socket => "$self->{place}/own/socket", name => $guest->{name},
             token => $self->{session}->token($guest->{name}), wait => $wait, attached_now => $attached,
             answers => \%answers, ask => sub { $self->{session}->tell($line) },
+            note => sub { $self->{session}->tell_columns($guest->{account}, @_) },
         );
     };
     POSIX::_exit(0);
