@@ -74,11 +74,13 @@ sub give_all {
 # The title says soon who may type (keep_time): nobody waits for it.
 sub show_typing { my ($self) = @_; $self->{is_title_due} = 1 }
 
-# Returns the commands by which a guest has what every guest has, and BITS on the shell.  Before anything is granted, a
-# new guest has no right at all, here and on windows to come; nor has one whom the owner removed by acldel.
+# Returns the commands by which a guest loses what TAKEN says, and has what every guest has, and BITS on the shell.
+# Before anything is granted, a new guest has no right at all, here and on windows to come; nor has one whom the owner
+# removed by acldel.
 sub lines_for {
     my ($name, $taken, $bits) = @_;
-    return ("aclchg $name $taken", "aclumask $name-rwx", "aclchg $name +x detach,scrollview,wall", "aclchg $name +$bits 0");
+    my @common = ("aclumask $name-rwx", "aclchg $name +x detach,scrollview,wall");
+    return ("aclchg $name $taken", @common, "aclchg $name +$bits 0");
 }
 
 sub no_shell { return 'window 0 is no longer the shared shell (its number or title was changed)' }
