@@ -74,6 +74,7 @@ sub given {
 sub nobody {
     my ($keeper, $name, $word) = @_;
     my $names = $keeper->{guests}->names;
+    return $names eq '' ? 'nobody is in your session: mux-share --with NAME' : "whom: name one of $names" if $name eq '';
     return "$name isn't in your session: mux-share --with $name" if $word eq 'give' && $name !~ /[ ,]/;
     return "$name isn't in your session: " . ($names eq '' ? 'nobody is' : "name one of $names");
 }
@@ -86,7 +87,7 @@ sub left {
     my $names = $guests->names;
     my $here = $session->clients_of($session->owner);
     my $typists = join ', ', $guests->typists;
-    return "muxd refused to end the typing of $typists, so nobody can join until it does: mux-share --end ends it\n"
+    return "muxd refused to end the typing of guests, so nobody can join until it does: mux-share --end ends it\n"
         if $guests->is_pending;
     return "$typists can type there, since another terminal of yours is attached\n" if $typists ne '';
     return ($names eq '' ? 'nobody else can see it: ' : "$names can still read it: ") . $back if $here;

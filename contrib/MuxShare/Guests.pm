@@ -35,10 +35,12 @@ sub guest { my ($self, $key) = @_; return $self->{guests}{$key} }
 
 sub all { my ($self) = @_; return map { $self->{guests}{$_} } sort keys %{ $self->{guests} } }
 
-# Returns the key of the guest whose account or whose name in the session this is, or undef.
+# Returns the key of the guest whose account or whose name in the session this is, or undef; of '', that of the only
+# guest.
 sub key {
     my ($self, $name) = @_;
     my $guests = $self->{guests};
+    return keys %$guests == 1 ? (keys %$guests)[0] : undef if $name eq '';
     my ($key) = grep { $guests->{$_}{account} eq $name } keys %$guests;
     ($key) = grep { $guests->{$_}{name} eq $name } keys %$guests unless defined $key;
     return $key;
@@ -72,6 +74,15 @@ sub give_all {
 # The title says soon who may type (keep_time): nobody waits for it.
 sub show_typing { my ($self) = @_; $self->{is_title_due} = 1 }
 
+# Returns the commands by which a guest loses what TAKEN says, and has what every guest has, and BITS on the shell.
+# Before anything is granted, a new guest has no right at all, here and on windows to come; nor has one whom the owner
+# removed by acldel.
+sub lines_for {
+    my ($name, $taken, $bits) = @_;
+    my @common = ("aclumask $name-rwx", "aclchg $name +x detach,scrollview,wall");
+    return ("aclchg $name $taken", @common, "aclchg $name +$bits 0");
+}
+
 sub no_shell { return 'window 0 is no longer the shared shell (its number or title was changed)' }
 
 # Returns the name that a guest has or gets in the session, or undef.
@@ -93,11 +104,8 @@ sub add {
     my $name = $self->free_name($account, $key) // return "somebody else has the name $account here";
     return no_shell() unless $self->{session}->has_shell;
     my $guest = $self->{guests}{$key};
-    # A new guest has no right at all, here and on windows to come, before anything is granted.
-    my @first = ("aclchg $name -rwx #?", "aclumask $name-rwx", "aclchg $name +x detach,scrollview");
-    @first = ("aclchg $name -w #") if $guest && !$types;
-    @first = () if $guest && $types;
-    my $fault = $self->give_all(@first, "aclchg $name +r" . ($types ? 'w' : '') . ' 0');
+    my $taken = !$guest ? '-rwx #?' : $types ? '-x #' : '-wx #';
+    my $fault = $self->give_all(lines_for($name, $taken, 'r' . ($types ? 'w' : '')));
     $self->{session}->drop_typed if $fault eq '' && $guest && $guest->{types} && !$types;
     # The token comes last: before it, the session takes nothing that the guest sends.
     $fault = $self->{session}->add_user($name) if $fault eq '';
@@ -147,12 +155,12 @@ sub take {
     return '';
 }
 
-# Takes w from all guests because the owner's last terminal is gone.  If the session refuses, nobody is let in until it
-# is done (keep_time tries again).  Returns whether somebody could type before.
+# Takes w from all guests because the owner's last terminal is gone, also what the owner gave by aclchg.  If the session
+# refuses, nobody is let in until it is done (keep_time tries again).  Returns whether somebody could type before.
 sub take_unwatched {
     my ($self) = @_;
     my $was_possible = $self->typists > 0;
-    $self->{is_pending} = $was_possible && $self->take ne '';
+    $self->{is_pending} = $self->take ne '';
     $self->{session}->shut($self->{is_pending});
     $self->{was_taken} ||= $was_possible;
     return $was_possible;
@@ -175,7 +183,7 @@ sub give {
     my $guest = $self->{guests}{$key};
     return no_shell() unless $self->{session}->has_shell;
     my $fault = $self->take;
-    $fault = $self->give_all("aclchg $guest->{name} +w 0") if $fault eq '';
+    $fault = $self->give_all(lines_for($guest->{name}, '-x #', 'rw')) if $fault eq '';
     return $fault if $fault ne '';
     $guest->{types} = 1;
     @$self{qw(was_taken is_pending)} = (0, 0);

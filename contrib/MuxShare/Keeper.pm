@@ -284,6 +284,7 @@ sub let_in {
             client => $peer, life => $self->{life}, socket => "$self->{place}/own/socket", name => $guest->{name},
             token => $self->{session}->token($guest->{name}), wait => $wait, attached_now => $attached,
             answers => \%answers, ask => sub { $self->{session}->tell($line) },
+            note => sub { $self->{session}->tell_columns($guest->{account}, @_) },
         );
     };
     POSIX::_exit(0);
@@ -347,11 +348,11 @@ sub for_guest {
     my ($self, $word, @name) = @_;
     my $guests = $self->{guests};
     my $name = join ' ', @name;
-    my $key = $guests->key($name);
-    return (nobody($self, $name, $word), '') unless defined $key;
-    return ($guests->give($key), given($self, $guests->guest($key))) if $word eq 'give';
+    my $key = $guests->key($name) // return (nobody($self, $name, $word), '');
+    my $guest = $guests->guest($key);
+    return ($guests->give($key), given($self, $guest)) if $word eq 'give';
     $guests->drop($key, 'was sent away');
-    return ('', "$name was sent away\n");
+    return ('', "$guest->{account} was sent away\n");
 }
 
 # Lets a guest join in a browser.  Returns a fault or '', and what mux-share prints.

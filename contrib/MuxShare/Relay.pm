@@ -11,6 +11,9 @@ our @EXPORT = qw(relay);
 
 # How many terminals a guest may have, how long a first frame may take, and how long its payload is at most.
 use constant { TERMINALS => 4, FIRST_FRAME => 10, LONGEST => 8192 };
+# After how many seconds without a key others are told of a narrow terminal: what they are told of a guest who joins
+# comes first.
+use constant QUIET => 2;
 # An ATTACH has lines and columns in two bytes each, 64 digits of a token, and a name.
 use constant SIZE => 4;
 use constant SHORTEST_ATTACH => SIZE + 64 + 1;
@@ -47,16 +50,21 @@ sub copy_back {
     leave();
 }
 
-# Copies the guest's bytes to muxd until either side ends, or until the keeper is gone (its pipe LIFE ends).
+# Copies the guest's bytes to muxd until either side ends, or until the keeper is gone (its pipe LIFE ends).  Calls NOTE
+# at the first pause.
 sub copy_forth {
-    my ($client, $server, $life) = @_;
+    my ($client, $server, $life, $note) = @_;
     while (1) {
         my $ready = '';
         vec($ready, fileno $_, 1) = 1 for $client, $life;
-        select($ready, undef, undef, undef) > 0 or next;
+        my $count = select($ready, undef, undef, $note ? QUIET : undef);
+        if ($note && $count == 0) {
+            $note->();
+            undef $note;
+        }
+        next unless $count > 0;
         last if vec($ready, fileno $life, 1);
-        my $count = sysread($client, my $bytes, 65536);
-        last unless $count;
+        sysread($client, my $bytes, 65536) or last;
         write_all($server, $bytes) or last;
     }
 }
@@ -66,7 +74,8 @@ sub line_of { my ($payload) = @_; return (unpack 'C a64 C/a a*', $payload)[3] //
 
 # Serves one connection of a guest, CLIENT, and ends this process.  SOCKET is muxd's, TOKEN the guest's, WAIT the
 # seconds until the guest may join again or 0, and ATTACHED_NOW their number of connections.  ANSWERS are lists of texts
-# for mux-join, by the words with which it asks; at the word ask it also calls ASK.
+# for mux-join, by the words with which it asks; at the word ask it also calls ASK.  Once the guest has joined, it calls
+# NOTE with the terminal's columns.
 sub relay {
     my (%of) = @_;
     my ($kind, $payload) = first_frame($of{client});
@@ -87,7 +96,8 @@ sub relay {
     write_all($server, frame(ATTACH, substr($payload, 0, SIZE) . $of{token} . $of{name})) or leave();
     my $back = copy_back($server, $of{client});
     local $SIG{TERM} = sub { shutdown($_, 2) for $server, $of{client}; leave() };
-    copy_forth($of{client}, $server, $of{life});
+    my $columns = (unpack 'nn', $payload)[1];
+    copy_forth($of{client}, $server, $of{life}, sub { $of{note}->($columns) });
     shutdown($server, 2);
     waitpid($back, 0);
     leave();

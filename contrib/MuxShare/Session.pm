@@ -57,6 +57,13 @@ sub give {
 # Shows a line of text to everybody in the session.
 sub tell { my ($self, $text) = @_; return $self->give('wall ' . quoted($text)) }
 
+# Tells everybody if a guest's terminal shows not all columns of the shell.
+sub tell_columns {
+    my ($self, $account, $columns) = @_;
+    my (undef, $all) = $self->size;
+    $self->tell("$account sees $columns of $all columns") if $columns < ($all // 0);
+}
+
 # Returns whether window 0 is still the shared shell: the owner can renumber and retitle windows.
 sub has_shell {
     my ($self) = @_;

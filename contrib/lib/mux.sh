@@ -220,6 +220,10 @@ visible() {
     printf '%s' "$1" | LC_ALL=C tr -c ' -~' '?'
     echo
 }
+# Ends what is unfinished, and resets the modes that a client sets.  Also those that it refuses to set: mouse reports,
+# bracketed paste and the alternate page, as another program may have left them.
+modes='\030\033[?1l\033>\033[?7h\033[?25h\033[?1000l\033[?1002l\033[?1003l\033[?1004l\033[?1005l\033[?1006l'
+modes=$modes'\033[?2004l\033[?1049l\033[m'
 # in_front WORD..: runs a program on this terminal, and sets status.  It isn't in the foreground of the shell, whose traps
 # would wait for it.
 in_front() {

@@ -449,6 +449,9 @@
     socket = null;
     alive = false;
     frame.classList.add("dead");
+    it("turn").textContent = "Not connected.";
+    turns.classList.remove("mine");
+    document.title = user ? `mux: ${user.name}` : "mux";
     if (old) old.close();
   };
   // The connection broke.  The page asks each second whether the bridge is there, and then attaches: a WebSocket that
@@ -456,6 +459,8 @@
   const lose = (text) => {
     drop();
     if (watching) clear();
+    // That no server is there yet, after the session has ended, is nothing new.
+    if (ends) text = WHY[4];
     say(`${text}${/[.?]$/.test(text) ? "" : "."} Trying again${watching ? "" : "; Escape gives up"}.`, true);
     clearTimeout(again);
     again = setTimeout(probe, wait * 1000);

@@ -43,7 +43,7 @@ class Mux:
         return [line]
 
     def give(self):
-        return self.in_shell(f"mux-share --give {self.cole.account}")
+        return self.in_shell("mux-share --give")
 
     def take(self):
         return self.in_shell("mux-share --take")

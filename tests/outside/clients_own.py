@@ -404,7 +404,7 @@ def survives():
         words = [script("mux-shell"), *common, "--title", "sh", "--stay", "20", "env", "PS1=in> ", "sh"]
         shell = subprocess.Popen(words, env={**os.environ, "MUX": WORDS.mux, "HOME": room})
         check("the shell is a window", once(lambda: b"0 sh" in server.give(b"windows"), 20))
-        with Terminal([script("mux-attach"), *common, "--again", "20"]) as it:
+        with Terminal(["env", "TMPDIR=" + room, script("mux-attach"), *common, "--again", "20"]) as it:
             assert it.has(b"0 sh", 20), f"it isn't attached: {it.out}"
             it.type(b"kept=$((6 * 7))\r")
             it.read(0.5)
@@ -423,7 +423,8 @@ def survives():
                 check("and the window", it.has(b"0 sh", 20, begin), str(it.out[begin:]))
                 it.type(b"echo here $kept $$\r")
                 check("with the same shell", it.shows(b"here 42"), str(it.out[-300:]))
-            it.type(LEAVE)
+        left = lambda: [name for name in os.listdir(room) if name.startswith("mux-attach.")]
+        check("killed by KILL with its terminal, mux-attach leaves no folder", once(lambda: not left(), 5), left())
         server.give(b"quit")
         check("a quit ends the shell", shell.wait(10) is not None)
         server.__exit__()

@@ -32,7 +32,7 @@ import bridge
 from play import (CONTRIB, PROGRAMS, TOP, Pane, Tmux, add_account, check, end_account, kill, main, once, processes,
                   program, run)
 
-SPAN = re.compile(r"`((?:C-a: |(?:mux|muxd|muxsim|vtcat|new-token|mux-[a-z-]+|muxd-wait|own|make|sudo|loginctl"
+SPAN = re.compile(r"`((?:C-a: |(?:mux|muxd|muxsim|vtcat|new-token|mux-[a-z-]+|muxd-wait|own|turn|make|sudo|loginctl"
                   r"|systemctl|tic) |rm -r )[^`]*)`")
 
 
@@ -363,7 +363,6 @@ def first_session(play):
     play.text.take("rm -r ~/first")
     on.run("ann", "rm -r ~/first; ls ~ | wc -l", ["0"])
     play.text.leave("it is played with docs/TEACHING.md", "mux-shell --title lesson sudo -iu lab")
-    play.text.leave("it plays itself", "make shell")
 
 
 def readme(play):
@@ -373,7 +372,7 @@ def readme(play):
     text.leave("tests/outside/share plays it, with three accounts", "mux-share --give cole", "mux-share --take",
                "mux-join dana@host")
     text.leave("it builds; tests/outside/package plays what it gives", "make try-server", "make build",
-               "make install PREFIX=$HOME/.local", "make uninstall", "make dist", "make test", "make RT=/path/to/rt")
+               "make install", "make uninstall", "make dist", "make test", "make RT=/path/to/rt")
     on.open("ann")
     for line in ("new-token ann", "mkdir -p -m 700 $XDG_RUNTIME_DIR/mux",
                  "setsid -f muxd --socket $XDG_RUNTIME_DIR/mux/socket --users ~/.config/mux/users"
@@ -550,10 +549,10 @@ def turns(play, accounts):
         on.shows(pane, "^denied: w on window 0: entry %s -w" % pane)
 
     denied("ann")
+    play.run("tess", 'turn() { mux-turn --keep tess --title --window lesson "$@"; }')
     text.take("mux-command displays")
     on.run("tess", "mux-command displays", ["0 tess 0  1 ann 0  2 bob 0"])
-    for line, told in (("mux-turn --keep tess --title --window lesson ann", "ann may type"),
-                       ("mux-command wall 'well done, ann'", "well done, ann")):
+    for line, told in (("turn ann", "ann may type"), ("mux-command wall 'well done, ann'", "well done, ann")):
         text.take(line)
         on.run("tess", line)
         on.shows("ann", "^own: " + told)
@@ -568,16 +567,16 @@ def turns(play, accounts):
     on.type("lesson", "echo tess types\n")
     on.shows("ann", r"^(\$ )?tess types")
     denied("bob")
-    text.take("mux-turn --keep tess --for 5m --window lesson bob")
-    on.type("tess", "mux-turn --keep tess --for 5m --window lesson bob\n")
+    text.take("turn --for 5m bob")
+    on.type("tess", "turn --for 5m bob\n")
     on.shows("bob", "^own: bob may type for 5m")
     on.type("bob", "echo bob types\n")
     on.shows("ann", r"^(\$ )?bob types")
     denied("ann")
     on.ends("tess", "mux-turn", "C-c")
     denied("bob")
-    text.take("mux-turn --keep tess --window lesson none")
-    on.run("tess", "mux-turn --keep tess --window lesson none; clear")
+    text.take("turn none")
+    on.run("tess", "turn none; clear")
     denied("ann")
     on.type("lesson", "echo still tess\n")
     on.shows("ann", r"^(\$ )?still tess")
@@ -816,7 +815,7 @@ def words_alone(play):
         play.text.leave("it is a pattern", "mux-attach --user NAME", "mux-attach --rows 24 --cols 80",
                         "mux-attach --fit", "mux-shell --detach", "mux-console db7", "muxsim --edition 1")
         play.text.leave("tests/outside/share plays it, with three accounts", "mux-share --with cole", "mux-join dana",
-                        "mux-share --give cole", "mux-share --take")
+                        "mux-share --give", "mux-share --take")
 
 
 def muxd_page(play):
