@@ -3,10 +3,9 @@
 use program_words::{SystemError, of_web, tell};
 use server_system::{Host, SocketPath};
 use std::io::{ErrorKind, Write};
-use std::net::{IpAddr, Ipv4Addr, Ipv6Addr, SocketAddr};
 use std::sync::Wait;
 use std::thread::Threads;
-use web_client::Site;
+use web_client::{Loopback, Site};
 use web_options::{Listen, WebFault, WebOptions, look_for_paths, origins_of, site_of};
 use web_relay::WebListener;
 use web_turn::{Bridge, BridgeOptions, serve, start_log};
@@ -41,24 +40,12 @@ fn serve_at<R: Host + Threads + Wait + Eprint, O: Write>(
     Ok(serve(rt, bridge, listeners)?)
 }
 
-// The other address at which a browser may look for localhost.
-fn other_loopback(address: SocketAddr) -> Option<SocketAddr> {
-    let port = address.port();
-    if address.ip() == IpAddr::V4(Ipv4Addr::LOCALHOST) {
-        Some(SocketAddr::from((Ipv6Addr::LOCALHOST, port)))
-    } else if address.ip() == IpAddr::V6(Ipv6Addr::LOCALHOST) {
-        Some(SocketAddr::from((Ipv4Addr::LOCALHOST, port)))
-    } else {
-        None
-    }
-}
-
 // Listeners at an address of this machine, and at the other one that localhost may be: else another account could
 // listen there. A machine that lacks that one has no such listener.
 fn listeners_at<R: Host>(
     rt: &R,
     options: WebOptions<'_>,
-    address: SocketAddr,
+    address: Loopback,
 ) -> Result<Vec<WebListener>, WebFault> {
     let mut listeners = Vec::new(rt.alloc());
     match WebListener::tcp(rt, address) {
@@ -68,14 +55,14 @@ fn listeners_at<R: Host>(
             return Err(WebFault::NotMade(name, SystemError(error)));
         }
     }
-    let Some(other) = other_loopback(address) else {
+    let Some(other) = address.other() else {
         return Ok(listeners);
     };
     match WebListener::tcp(rt, other) {
         Ok(listener) => listeners.push(listener)?,
         Err(error) if error.kind() == ErrorKind::AddrNotAvailable => {}
         Err(error) if error.raw_os_error() == Some(EAFNOSUPPORT) => {}
-        Err(error) => return Err(WebFault::Shared(other, SystemError(error))),
+        Err(error) => return Err(WebFault::Shared(other.address(), SystemError(error))),
     }
     Ok(listeners)
 }
@@ -85,7 +72,7 @@ fn serve_address<R: Host + Threads + Wait + Eprint, O: Write>(
     rt: &R,
     options: WebOptions<'_>,
     site: Site,
-    address: SocketAddr,
+    address: Loopback,
     output: &mut O,
 ) -> Result<(), WebFault> {
     let listeners = listeners_at(rt, options, address)?;
@@ -109,7 +96,7 @@ fn serve_socket<R: Host + Threads + Wait + Eprint, O: Write>(
             place.leave(rt, rt);
             served
         }
-        Err(fault) => Err(WebFault::Socket(fault)),
+        Err(fault) => Err(WebFault::Socket(format!(in rt.alloc(); "{fault}")?)),
     }
 }
 

@@ -1,7 +1,10 @@
 //! Why `mux-web` doesn't serve.
 
+ghost use Rattle.std.specs.Prelude.{◌≡◌};
+ghost use Rattle.web_options.specs.Asking.{status_of};
+ghost use Rattle.web_options.specs.declared.fault.WebFault.TheVariants as fault;
+
 use program_words::SystemError;
-use server_system::ServeFault;
 use std::alloc::{AllocError, AllocFailed};
 use std::io;
 use std::net::SocketAddr;
@@ -43,8 +46,9 @@ pub enum WebFault {
     /// The address of this machine at which browsers look for `localhost`, too.
     #[error("can't listen on {0}: {1}: browsers may look there for localhost, so choose another port")]
     Shared(SocketAddr, SystemError),
+    /// Why the socket can't be listened on, in words.
     #[error("{0}")]
-    Socket(ServeFault),
+    Socket(String),
     #[error("the system refused to wait: {0}")]
     Other(SystemError),
     #[error("out of memory")]
@@ -53,7 +57,9 @@ pub enum WebFault {
 
 impl WebFault {
     /// The status to exit with.
-    pub fn status(&self) -> u8 {
+    pub fn status(&self) -> u8
+        ensures { result ≡ status_of self.now }
+    {
         match self {
             WebFault::Alone
             | WebFault::NobodyWatches
@@ -67,12 +73,16 @@ impl WebFault {
 }
 
 impl From<AllocError> for WebFault {
+    ghost from_gives = { λ _ e. e ≡ fault.NoMemory };
+
     fn from(_error: AllocError) -> WebFault {
         WebFault::NoMemory
     }
 }
 
 impl<T: Drop> From<AllocFailed<T>> for WebFault {
+    ghost from_gives = { λ _ e. e ≡ fault.NoMemory };
+
     fn from(_error: AllocFailed<T>) -> WebFault {
         WebFault::NoMemory
     }

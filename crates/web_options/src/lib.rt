@@ -2,7 +2,12 @@
 #![tactic(auto)]
 
 mod fault;
+mod listening;
 mod options;
+mod page;
+mod watching;
 
 pub use fault::WebFault;
-pub use options::{Listen, WebOptions, look_for_paths, origins_of, site_of};
+pub use listening::{Listen, origins_of};
+pub use options::{WebOptions, look_for_paths};
+pub use page::site_of;
