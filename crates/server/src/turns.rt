@@ -4,14 +4,13 @@ use crate::acceptor::Acceptor;
 use crate::log_lines::NewsLine;
 use crate::loop_handle::{LoopHandle, LoopStart, Shared};
 use mio::{Events, Poll, Registry, Token};
-use server_connections::Awaits;
 use server_loop::{
     Connections, Gate, Loop, News, Pace, Pending, Reads, ServerEnd, SessionSeat, Submitted, Writes,
-    set_look,
 };
 use server_system::{PeerSocket, Wired, is_late, most_new, sleep_for};
+use server_turns::{Around, Learned, mark, turn, wind_up};
 use std::io;
-use std::io::{ErrorKind, Read, Write};
+use std::io::ErrorKind;
 use std::sync::Wait;
 use std::sync::atomic::{AtomicU64, Ordering};
 use std::time::{Clock, Duration};
@@ -37,6 +36,8 @@ struct Inlet<'a> {
     registry: &'a Registry,
     acceptor: Option<Acceptor>,
     pace: Pace,
+    // When the server began to end.
+    ended: Option<Duration>,
 }
 
 impl Inlet<'_> {
@@ -47,19 +48,6 @@ impl Inlet<'_> {
             self.shared.wake_others(self.me)?;
         }
         Ok(())
-    }
-
-    // A turn's reads are done. Returns whether its draws wait.
-    fn end_reads(&mut self, now: Option<Duration>, reads: Reads) -> io::Result<bool> {
-        let is_news = self.pace.note(&self.shared.busy, now, reads.is_much);
-        self.tell_others(reads.submitted, is_news)?;
-        Ok(self.pace.holds(&self.shared.busy, now, reads.has_typed))
-    }
-
-    // A turn's writes are done.
-    fn end_writes(&mut self, now: Option<Duration>, writes: Writes) -> io::Result<()> {
-        self.pace.draw(now, writes.drawn);
-        self.tell_others(writes.submitted, false)
     }
 
     // Whether more connections may wait to be taken in.
@@ -106,9 +94,10 @@ impl Inlet<'_> {
         Ok(())
     }
 
-    // No connection is taken in any more.
-    fn close(&mut self) {
+    // The server ends: no connection is taken in any more.
+    fn close<R: Clock>(&mut self, rt: &R) {
         self.acceptor = None;
+        self.ended = rt.monotonic().ok();
     }
 
     // Waits for events, at most this long. An interrupted wait has none.
@@ -120,6 +109,79 @@ impl Inlet<'_> {
             }
             waited => waited,
         }
+    }
+}
+
+impl Around for Inlet<'_> {
+    ghost use Rattle.std.specs.Prelude.{◌≡◌, IfOk, is_some};
+
+    // What the other threads see of these calls lies in their atomics and under their locks.
+    ghost awaits = { λ inlet. Unit {0} };
+
+    ghost asks = { λ inlet look. Unit {0} };
+
+    ghost knows = { λ inlet count known after. Unit {0} };
+
+    // Draws wait exactly if it is known since when.
+    ghost holds = { λ inlet now reads held left. IfOk held (λ holds. holds ≡ is_some left.pace.since) };
+
+    ghost wakes = { λ inlet now writes woken left. Unit {0} };
+
+    ghost tells = { λ inlet news. Unit {0} };
+
+    ghost ends = { λ inlet end woken. Unit {0} };
+
+    ghost pauses = { λ inlet count may_read left. Unit {0} };
+
+    fn await_look(&self) {
+        self.loop_handle.await_look();
+    }
+
+    fn ask<R: Wait>(&self, rt: &R) -> u64 {
+        self.shared.watched.ask(rt)
+    }
+
+    fn newest<R: Clock + Wait>(&self, rt: &R, count: &mut u64) -> Option<Learned> {
+        let Some(known) = self.shared.watched.newest(rt, &self.shared.log, count) else {
+            return None;
+        };
+        Some(Learned {
+            look: known.look,
+            users: known.users,
+        })
+    }
+
+    fn end_reads(&mut self, now: Option<Duration>, reads: Reads) -> io::Result<bool> {
+        let is_news = self.pace.note(&self.shared.busy, now, reads.is_much);
+        self.tell_others(reads.submitted, is_news)?;
+        Ok(self.pace.holds(&self.shared.busy, now, reads.has_typed))
+    }
+
+    fn end_writes(&mut self, now: Option<Duration>, writes: Writes) -> io::Result<()> {
+        self.pace.draw(now, writes.drawn);
+        self.tell_others(writes.submitted, false)
+    }
+
+    // Strangers are counted, and have at most one line a second of each kind.
+    fn tell<R: Clock + Wait>(&self, rt: &R, news: &[News]) {
+        if !self.shared.tells {
+            return;
+        }
+        for one in news {
+            self.shared.tell(rt, *one);
+        }
+    }
+
+    fn end(&self, end: ServerEnd) -> io::Result<()> {
+        self.shared.end(end)
+    }
+
+    fn pause<R: Clock + Wait>(&mut self, rt: &R, count: u64) -> io::Result<bool> {
+        if is_late(self.ended, rt.monotonic().ok(), count) {
+            return Ok(false);
+        }
+        self.wait(Some(Duration::from_millis(PAUSE)))?;
+        Ok(true)
     }
 }
 
@@ -155,15 +217,10 @@ fn sort(events: &Events, connections: &mut Connections<Wired<PeerSocket>>) -> bo
             WAKE => {}
             LISTEN => is_asked = true,
             Token(token) => {
+                let key = token.saturating_sub(FIRST);
                 let has_hung_up = event.is_read_closed() || event.is_error();
-                if let Some(peer) = connections.touch(token.saturating_sub(FIRST)) {
-                    if event.is_readable() || has_hung_up {
-                        peer.mark_ready(has_hung_up);
-                    }
-                    if event.is_writable() || has_hung_up {
-                        peer.mark_room();
-                    }
-                }
+                let (is_readable, is_writable) = (event.is_readable(), event.is_writable());
+                mark(connections, key, is_readable, is_writable, has_hung_up);
             }
         }
     }
@@ -185,16 +242,16 @@ fn count<R: Clock>(rt: &R, strangers: &AtomicU64, told: &AtomicU64) -> Option<u6
     }
 }
 
-// Writes news to the log. Strangers are counted, and have at most one line a second of each kind.
-fn tell_news<R: Clock + Wait>(rt: &R, shared: &Shared, happened: Vec<News>) {
-    for news in happened {
+impl Shared {
+    // Writes news to the log.
+    fn tell<R: Clock + Wait>(&self, rt: &R, news: News) {
         let number = match news {
-            News::WrongToken => count(rt, &shared.wrong_tokens, &shared.wrong_tokens_told),
-            News::Misfit => count(rt, &shared.misfits, &shared.misfits_told),
+            News::WrongToken => count(rt, &self.wrong_tokens, &self.wrong_tokens_told),
+            News::Misfit => count(rt, &self.misfits, &self.misfits_told),
             _ => Some(0),
         };
         if let Some(number) = number {
-            shared.log.put(rt, &NewsLine(news, number));
+            self.log.put(rt, &NewsLine(news, number));
         }
     }
 }
@@ -218,67 +275,6 @@ fn begin_turn<'a, J: SessionSeat + Drop, G: Gate + Drop, R: Clock + Wait>(
     Ok(now)
 }
 
-// One turn at this time: what came is read and done, and what comes of it is written.
-fn turn<J: SessionSeat + Drop, G: Gate + Drop, R: Clock + Wait>(
-    rt: &R,
-    inlet: &mut Inlet,
-    own: &mut Loop<Wired<PeerSocket>, G, J>,
-    now: Option<Duration>,
-) -> io::Result<()> {
-    own.seat.set_time(rt);
-    let reads = own.read_all(rt);
-    if own.connections.any_awaits(Awaits::Look) {
-        inlet.loop_handle.await_look();
-        set_look(&mut own.connections, inlet.shared.watched.ask(rt));
-    }
-    let holds_draws = inlet.end_reads(now, reads)?;
-    own.expire();
-    let writes = own.end_turn(rt, holds_draws);
-    inlet.end_writes(now, writes)?;
-    tell_news(rt, inlet.shared, own.take_news());
-    match writes.end {
-        Some(end) => inlet.shared.end(end),
-        None => Ok(()),
-    }
-}
-
-// Takes the users who may connect, if the file was looked at since this count.
-fn look_at_users<S: Read + Write + Drop, J: SessionSeat + Drop, G: Gate + Drop, R: Clock + Wait>(
-    rt: &R,
-    shared: &Shared,
-    count: &mut u64,
-    own: &mut Loop<S, G, J>,
-) {
-    if let Some(known) = shared.watched.newest(rt, &shared.log, count) {
-        own.looked = Some(known.look);
-        if known.users.is_some() {
-            own.users = known.users;
-        }
-    }
-}
-
-// Tells the peers that the server ends, gives them two seconds to read it whatever else comes, and
-// writes the last news to the log.
-fn wind_up<J: SessionSeat + Drop, G: Gate + Drop, R: Clock + Wait>(
-    rt: &R,
-    inlet: &mut Inlet,
-    own: &mut Loop<Wired<PeerSocket>, G, J>,
-    end: ServerEnd,
-) -> io::Result<()> {
-    inlet.close();
-    let began = rt.monotonic().ok();
-    own.finish(rt, end);
-    for pauses in 0..u64::MAX {
-        if own.connections.len() == 0 || is_late(began, rt.monotonic().ok(), pauses) {
-            break;
-        }
-        inlet.wait(Some(Duration::from_millis(PAUSE)))?;
-        own.finish(rt, end);
-    }
-    tell_news(rt, inlet.shared, own.take_news());
-    Ok(())
-}
-
 // Turns until the server ends.
 fn take_turns<'a, J: SessionSeat + Drop, G: Gate + Drop, R: Clock + Wait>(
     rt: &R,
@@ -289,13 +285,9 @@ fn take_turns<'a, J: SessionSeat + Drop, G: Gate + Drop, R: Clock + Wait>(
     own.looked = Some(0);
     for _ in rt.forever() {
         let now = begin_turn(rt, inlet, own)?;
-        if own.connections.any_awaits(Awaits::Ration) {
-            // A look that ends after this wakes the loop.
-            inlet.loop_handle.await_look();
-            look_at_users(rt, inlet.shared, &mut count, own);
-        }
-        turn(rt, inlet, own, now)?;
+        turn(rt, inlet, own, &mut count, now)?;
         if let Some(end) = inlet.shared.over.get() {
+            inlet.close(rt);
             return wind_up(rt, inlet, own, *end);
         }
     }
@@ -328,12 +320,12 @@ pub fn run_loop<J: SessionSeat + Drop, G: Gate + Copy + Drop, R: Clock + Wait>(
         registry: &registry,
         acceptor,
         pace: Pace::new(),
+        ended: None,
     };
     let mut gate = gate;
     gate.stand_at(me);
     let loops = shared.loop_handles.len();
     let mut own: Loop<Wired<PeerSocket>, G, J> = Loop::new(shared.alloc, seat, gate, loops)?;
-    own.tells = shared.tells;
     if shared.latch.arrive(rt) {
         take_turns(rt, &mut inlet, &mut own)?;
     }
