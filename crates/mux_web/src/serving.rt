@@ -100,18 +100,33 @@ fn serve_socket<R: Host + Threads + Wait + Eprint, O: Write>(
     }
 }
 
+// All that is served to browsers that come in there.
+fn site_at<R: Host + Eprint>(
+    rt: &R,
+    options: WebOptions<'_>,
+    origins: &[&str],
+    listen: Listen<'_>,
+) -> Result<Site, WebFault> {
+    let origins = origins_of(rt.alloc(), origins, listen)?;
+    site_of(rt, options, origins)
+}
+
 fn serve_asked<R: Host + Threads + Wait + Eprint, O: Write>(
     rt: &R,
     options: WebOptions<'_>,
     origins: &[&str],
     output: &mut O,
 ) -> Result<(), WebFault> {
-    let listen = options.listens(rt.alloc())?;
-    let origins = origins_of(rt.alloc(), origins, listen)?;
-    let site = site_of(rt, options, origins)?;
-    match listen {
-        Listen::Address(address) => serve_address(rt, options, site, address, output),
-        Listen::Path(path) => serve_socket(rt, options, site, path, output),
+    match options.listens(rt.alloc()) {
+        Ok(Listen::Address(address)) => {
+            let site = site_at(rt, options, origins, Listen::Address(address))?;
+            serve_address(rt, options, site, address, output)
+        }
+        Ok(Listen::Path(path)) => {
+            let site = site_at(rt, options, origins, Listen::Path(path))?;
+            serve_socket(rt, options, site, path, output)
+        }
+        Err(fault) => Err(fault),
     }
 }
 
