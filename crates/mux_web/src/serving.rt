@@ -45,10 +45,10 @@ fn serve_at<R: Host + Threads + Wait + Eprint, O: Write>(
 fn listeners_at<R: Host>(
     rt: &R,
     options: WebOptions<'_>,
-    address: Loopback,
+    address: &Loopback,
 ) -> Result<Vec<WebListener>, WebFault> {
     let mut listeners = Vec::new(rt.alloc());
-    match WebListener::tcp(rt, address) {
+    match WebListener::tcp(rt, *address) {
         Ok(listener) => listeners.push(listener)?,
         Err(error) => {
             let name = String::from_str(rt.alloc(), options.listen)?;
@@ -72,7 +72,7 @@ fn serve_address<R: Host + Threads + Wait + Eprint, O: Write>(
     rt: &R,
     options: WebOptions<'_>,
     site: Site,
-    address: Loopback,
+    address: &Loopback,
     output: &mut O,
 ) -> Result<(), WebFault> {
     let listeners = listeners_at(rt, options, address)?;
@@ -100,15 +100,18 @@ fn serve_socket<R: Host + Threads + Wait + Eprint, O: Write>(
     }
 }
 
-// All that is served to browsers that come in there.
 fn site_at<R: Host + Eprint>(
     rt: &R,
     options: WebOptions<'_>,
     origins: &[&str],
-    listen: Listen<'_>,
 ) -> Result<Site, WebFault> {
-    let origins = origins_of(rt.alloc(), origins, listen)?;
-    site_of(rt, options, origins)
+    match options.listens(rt.alloc()) {
+        Ok(listen) => match origins_of(rt.alloc(), origins, listen) {
+            Ok(origins) => site_of(rt, options, origins),
+            Err(fault) => Err(fault),
+        },
+        Err(fault) => Err(fault),
+    }
 }
 
 fn serve_asked<R: Host + Threads + Wait + Eprint, O: Write>(
@@ -117,16 +120,11 @@ fn serve_asked<R: Host + Threads + Wait + Eprint, O: Write>(
     origins: &[&str],
     output: &mut O,
 ) -> Result<(), WebFault> {
-    match options.listens(rt.alloc()) {
-        Ok(Listen::Address(address)) => {
-            let site = site_at(rt, options, origins, Listen::Address(address))?;
-            serve_address(rt, options, site, address, output)
-        }
-        Ok(Listen::Path(path)) => {
-            let site = site_at(rt, options, origins, Listen::Path(path))?;
-            serve_socket(rt, options, site, path, output)
-        }
-        Err(fault) => Err(fault),
+    let site = site_at(rt, options, origins)?;
+    let listen = options.listens(rt.alloc())?;
+    match &listen {
+        Listen::Address(address) => serve_address(rt, options, site, address, output),
+        Listen::Path(path) => serve_socket(rt, options, site, path, output),
     }
 }
 
