@@ -260,7 +260,10 @@ sub answer_door {
     my $uid = peer_uid($peer);
     if ($uid == $>) { $self->answer_owner($peer) }
     elsif (!$self->{was_here} || $self->{look_at} || $self->{guests}->is_pending || $self->{session}->is_lost) { return }
-    elsif ($self->{guests}->guest($uid)) { $self->let_in($peer, $uid) }
+    # The number may be another account's by now.
+    elsif (my $guest = $self->{guests}->guest($uid)) {
+        $self->let_in($peer, $uid) if (getpwnam($guest->{account}) // -1) == $uid;
+    }
 }
 
 # Gives a guest's connection a process of its own.
