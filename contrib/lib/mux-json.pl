@@ -3,6 +3,8 @@
 # words of a command, and times of one width.  It needs only perl-base.
 use strict;
 use warnings;
+# With -C of these, handles don't pass bytes on.
+BEGIN { exec { $^X } $^X, $0, @ARGV if ${^UNICODE} && grep { defined delete $ENV{$_} } qw(PERL_UNICODE PERL5OPT) }
 use POSIX ();
 
 $| = 1;
