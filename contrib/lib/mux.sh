@@ -245,9 +245,9 @@ exit_on_signals() {
     trap 'exit 131' QUIT
     trap 'exit 143' TERM
 }
-# setting NAME FILE: prints a setting of a unit's file.
+# setting NAME FILE: prints a setting of a unit's file, in which blanks at the start and carriage returns don't count.
 setting() {
-    sed -n "s/^$1=[\"']\{0,1\}\([^\"']*\).*/\1/p" "$2" | tail -n 1
+    sed -n "s/^[[:blank:]]*$1=[\"']\{0,1\}\([^\"'\r]*\).*/\1/p" "$2" | tail -n 1
 }
 # trails_of FOLDER: prints where the session of /etc/mux/GROUP writes its trails.
 trails_of() {
