@@ -1,7 +1,7 @@
 //! When a loop's draws wait, and how long it sleeps.
 
 ghost use Rattle.std.specs.Prelude.{◌≡◌, ◌⊎◌, ◌+◌, ◌<◌, ◌≤◌, IfSome, IsSome, IsSomeAnd, Some, None, true};
-ghost use Rattle.std.specs.Prelude.{◌↔◌, false, is_some};
+ghost use Rattle.std.specs.Prelude.{◌↔◌, ◌||◌, false, is_some};
 ghost use Rattle.std.specs.Duration.{as_nanos};
 
 use std::sync::atomic::{AtomicU64, Ordering};
@@ -49,7 +49,10 @@ fn lately(last: Option<Duration>, now: Option<Duration>) -> Option<Duration>
 }
 
 impl Pace {
-    pub fn new() -> Pace {
+    pub fn new() -> Pace
+        ensures nothing { (result.much ≡ None) × (result.drawn ≡ None) × (result.since ≡ None) }
+        ensures echo { result.awaits_echo ≡ false }
+    {
         Pace {
             much: None,
             awaits_echo: false,
@@ -67,7 +70,9 @@ impl Pace {
     }
 
     // Whether more may come at once.
-    fn expects_more(&self) -> bool {
+    fn expects_more(&self) -> bool
+        ensures { result ≡ (is_some self.now.much || self.now.awaits_echo || is_some self.now.drawn) }
+    {
         self.is_busy() || self.awaits_echo || self.drawn.is_some()
     }
 
@@ -75,7 +80,10 @@ impl Pace {
     /// loop to which much comes doesn't wake the others for output, so these look by themselves.
     pub fn longest_sleep(&self, busy: &AtomicU64) -> Option<Duration>
         // While draws wait, it sleeps at most 20 milliseconds.
-        ensures { IsSome self.now.since → IsSomeAnd result (λ d. as_nanos d ≤ 20000000) }
+        ensures waits { IsSome self.now.since → IsSomeAnd result (λ d. as_nanos d ≤ 20000000) }
+        // While more may come at once, it sleeps at most one.
+        ensures lull { (is_some self.now.much || self.now.awaits_echo || is_some self.now.drawn) ≡ true
+            → IsSomeAnd result (λ d. as_nanos d ≤ 1000000) }
     {
         if self.expects_more() {
             Some(Duration::from_millis(LULL))
