@@ -1,1 +1,3 @@
 pub mod Finishing
+pub mod Beginning
+pub mod Showing

@@ -1,5 +1,10 @@
 //! The first line of a file, and its last entry at a time.
 
+ghost use Rattle.std.specs.Prelude.{ℕ, ◌≡◌, IfErr, IfOk, IfSome, None, Some};
+ghost use Rattle.trail_files.specs.Beginning.{BeginsAs, ComesBy, LastBy, LastOf, heading_in, moment_of, place_by};
+ghost use Rattle.trail_files.specs.declared.fault.TrailFault.TheVariants.{NoEntryYet, NoHeader};
+ghost use Rattle.trail_lines.specs.Lines.{OfKnown};
+
 use crate::fault::TrailFault;
 use acl::{Edition, UserId};
 use line_fields::u64_at;
@@ -17,7 +22,10 @@ pub struct Heading {
 }
 
 /// What a first line says.
-fn heading_in(alloc: Global, line: &[u8]) -> Result<Heading, TrailFault> {
+fn heading_in(alloc: Global, line: &[u8]) -> Result<Heading, TrailFault>
+    ensures ok { IfOk result (λ heading. heading_in line.now ≡ Some heading) }
+    ensures err { IfErr result (λ fault. (n : ℕ) → fault ≡ NoHeader n → heading_in line.now ≡ None) }
+{
     match read_header(alloc, line) {
         Ok(header) => Ok(Heading {
             edition: header.edition,
@@ -30,7 +38,9 @@ fn heading_in(alloc: Global, line: &[u8]) -> Result<Heading, TrailFault> {
 }
 
 /// What the first line of a reader says.
-pub fn heading_of<R: BufRead>(alloc: Global, reader: &mut R) -> Result<Heading, TrailFault> {
+pub fn heading_of<R: BufRead>(alloc: Global, reader: &mut R) -> Result<Heading, TrailFault>
+    ensures { IfOk result (λ heading. OfKnown (R.remaining reader.old) (R.remaining reader.new) (BeginsAs heading)) }
+{
     let mut line = Vec::new(alloc);
     match next_line(reader, &mut line)? {
         NextLine::Whole => heading_in(alloc, line.as_slice()),
@@ -39,30 +49,67 @@ pub fn heading_of<R: BufRead>(alloc: Global, reader: &mut R) -> Result<Heading, 
 }
 
 /// The place and the time of an entry's line.
-fn moment_of(line: &[u8]) -> Option<(u64, u64)> {
+fn moment_of(line: &[u8]) -> Option<(u64, u64)>
+    ensures { result ≡ moment_of line.now }
+{
     let (place, rest) = u64_at(line, b' ')?;
     let (ms, _) = u64_at(rest, b' ')?;
     Some((place, ms))
 }
 
-/// The place of the last entry before the first one that is later than the time.
-fn last_before<R: BufRead>(ms: u64, reader: &mut R, line: &mut Vec<u8>) -> io::Result<Option<u64>> {
-    let mut last = None;
-    for _ in 0..u64::MAX {
-        if !matches!(next_line(reader, line)?, NextLine::Whole) {
-            break;
-        }
-        match moment_of(line.as_slice()) {
-            Some((place, at)) if at <= ms => last = Some(place),
-            _ => return Ok(last),
-        }
+/// The place of an entry's line that isn't later than the time.
+fn place_by(time: u64, line: &[u8]) -> Option<u64>
+    ensures { result ≡ place_by time line.now }
+{
+    match moment_of(line) {
+        Some((place, ms)) if ms <= time => Some(place),
+        _ => None,
     }
-    Ok(last)
 }
 
-/// The place of the last entry of a reader before the first one that is later than the time.
-pub fn place_at<R: BufRead>(alloc: Global, ms: u64, reader: &mut R) -> Result<u64, TrailFault> {
+/// The place of the entry that comes next, if it isn't later than the time.
+fn next_by<R: BufRead>(time: u64, reader: &mut R, line: &mut Vec<u8>) -> io::Result<Option<u64>>
+    ensures { IfOk result (λ place. OfKnown (R.remaining reader.old) (R.remaining reader.new) (ComesBy time place)) }
+{
+    match next_line(reader, line)? {
+        NextLine::Whole => Ok(place_by(time, line.as_slice())),
+        NextLine::Torn | NextLine::Nothing => Ok(None),
+    }
+}
+
+/// The place of the last entry before the first one that is later than the time.
+fn last_by<R: BufRead>(time: u64, reader: &mut R, line: &mut Vec<u8>) -> io::Result<Option<u64>>
+    ensures { IfOk result (λ last. IfSome (R.remaining reader.old) (LastBy time last)) }
+{
+    let mut last = None;
+    'entries: for _ in 0..u64::MAX {
+        let Some(place) = next_by(time, reader, line)? else {
+            return Ok(last);
+        };
+        last = Some(place);
+    }
+    // No file has 2^64 lines.
+    Err(io::Error::from(AllocError))
+}
+
+// The place of the last entry of a reader, if it has one, before the first one that is later than the time.
+fn last_of<R: BufRead>(alloc: Global, time: u64, reader: &mut R) -> io::Result<Option<u64>>
+    ensures { IfOk result (λ last. IfSome (R.remaining reader.old) (LastOf time last)) }
+{
     let mut line = Vec::new(alloc);
     let _first = next_line(reader, &mut line)?;
-    last_before(ms, reader, &mut line)?.ok_or(TrailFault::NoEntryYet)
+    last_by(time, reader, &mut line)
+}
+
+/// The place of the last entry of a reader before the first one that is later than the time. `NoEntryYet` if the first
+/// one is.
+pub fn place_at<R: BufRead>(alloc: Global, time: u64, reader: &mut R) -> Result<u64, TrailFault>
+    ensures ok { IfOk result (λ place. IfSome (R.remaining reader.old) (LastOf time (Some place))) }
+    ensures err { IfErr result (λ fault. fault ≡ NoEntryYet → IfSome (R.remaining reader.old) (LastOf time None)) }
+{
+    match last_of(alloc, time, reader) {
+        Ok(Some(place)) => Ok(place),
+        Ok(None) => Err(TrailFault::NoEntryYet),
+        Err(error) => Err(TrailFault::Io(error)),
+    }
 }

@@ -1,5 +1,11 @@
 //! A trail's lines, with times that are read.
 
+ghost use Rattle.std.specs.Prelude.{◌≡◌, IfOk, IfSome, option_map};
+ghost use Rattle.trail_files.specs.Showing.{ShowsAs, ShowsFrom, kind_in, kind_of, times_of};
+ghost use Rattle.trail_lines.specs.Entries.{read_line};
+ghost use Rattle.trail_lines.specs.Lines.{OfKnown};
+ghost use Rattle.trail_lines.specs.Unreadable.{Gives};
+
 use crate::json::{write_end, write_entry};
 use hub::Kept;
 use line_fields::{cut, push_escaped, push_means};
@@ -26,6 +32,28 @@ enum ShownLine {
     End(Ended),
     /// A line that isn't a line of a trail.
     Nothing,
+}
+
+/// What a line after the first one is.
+#[derive(Clone, Copy)]
+enum LineKind {
+    Entry,
+    /// The last line.
+    Last,
+    /// No line of a trail.
+    Stray,
+}
+
+impl ShownLine {
+    fn kind(&self) -> LineKind
+        ensures { result ≡ kind_in self.now }
+    {
+        match self {
+            ShownLine::Entry(_) => LineKind::Entry,
+            ShownLine::End(_) => LineKind::Last,
+            ShownLine::Nothing => LineKind::Stray,
+        }
+    }
 }
 
 /// How many words an event has.
@@ -57,7 +85,9 @@ fn means_of(alloc: Global, line: &EntryLine) -> Result<Vec<u8>, AllocError> {
 }
 
 /// What an entry's line says.
-fn read_said(alloc: Global, text: &[u8]) -> Result<Said, UnreadLine> {
+fn read_said(alloc: Global, text: &[u8]) -> Result<Said, UnreadLine>
+    ensures { Gives (λ said. (said.place, said.ms)) result (option_map times_of (read_line text.now)) }
+{
     let line = read_line(alloc, text)?;
     Ok(Said {
         place: line.place,
@@ -68,7 +98,9 @@ fn read_said(alloc: Global, text: &[u8]) -> Result<Said, UnreadLine> {
 }
 
 /// What a line is.
-fn read_told(alloc: Global, text: &[u8]) -> Result<ShownLine, AllocError> {
+fn read_told(alloc: Global, text: &[u8]) -> Result<ShownLine, AllocError>
+    ensures { IfOk result (λ told. kind_in told ≡ kind_of text.now) }
+{
     match read_said(alloc, text) {
         Ok(said) => return Ok(ShownLine::Entry(said)),
         Err(UnreadLine::NoMemory) => return Err(AllocError),
@@ -141,17 +173,35 @@ fn show_told<W: Write>(
     }
 }
 
-/// Writes a line at once, and gives what it is.
+/// Writes a line at once, and says what it is.
 fn show_text<W: Write>(
     alloc: Global,
     form: LineFormat,
     text: &[u8],
     output: &mut W,
-) -> io::Result<ShownLine> {
+) -> io::Result<LineKind>
+    ensures { IfOk result (λ kind. kind ≡ kind_of text.now) }
+{
     let told = read_told(alloc, text)?;
     show_told(alloc, form, &told, text, output)?;
     output.flush()?;
-    Ok(told)
+    Ok(told.kind())
+}
+
+/// Writes the line that comes next, and says what it is. The lines also end at bytes that are no whole line.
+fn show_next<R: BufRead, W: Write>(
+    alloc: Global,
+    form: LineFormat,
+    reader: &mut R,
+    text: &mut Vec<u8>,
+    output: &mut W,
+) -> io::Result<LineKind>
+    ensures { IfOk result (λ kind. OfKnown (R.remaining reader.old) (R.remaining reader.new) (ShowsAs kind)) }
+{
+    match next_line(reader, text)? {
+        NextLine::Whole => show_text(alloc, form, text.as_slice(), output),
+        NextLine::Torn | NextLine::Nothing => Ok(LineKind::Last),
+    }
 }
 
 /// Writes the lines of a reader after the first one, each as soon as it is read, up to the last one. The
@@ -161,19 +211,19 @@ pub fn show_lines<R: BufRead, W: Write>(
     form: LineFormat,
     reader: &mut R,
     output: &mut W,
-) -> io::Result<Option<u64>> {
+) -> io::Result<Option<u64>>
+    ensures { IfOk result (λ stopped. IfSome (R.remaining reader.old) (ShowsFrom 2 stopped)) }
+{
     let mut text = Vec::new(alloc);
-    for number in 2..u64::MAX {
-        let NextLine::Whole = next_line(reader, &mut text)? else {
-            break;
-        };
-        match show_text(alloc, form, text.as_slice(), output)? {
-            ShownLine::Entry(_) => {}
-            ShownLine::End(_) => break,
-            ShownLine::Nothing => return Ok(Some(number)),
+    'lines: for number in 2..u64::MAX {
+        match show_next(alloc, form, reader, &mut text, output)? {
+            LineKind::Entry => {}
+            LineKind::Last => return Ok(None),
+            LineKind::Stray => return Ok(Some(number)),
         }
     }
-    Ok(None)
+    // No file has 2^64 lines.
+    Err(io::Error::from(AllocError))
 }
 
 /// The first word of a text, and what follows its blank.

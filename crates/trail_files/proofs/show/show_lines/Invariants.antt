@@ -1,0 +1,6 @@
+use Rattle.trail_lines.specs.Lines.{OfKnown}
+use Rattle.trail_files.proofs.Behind.{ShowsOn}
+use Rattle.trail_files.proofs.show.show_lines.Given as goal
+
+abbrev pub invariant-lines : goal.invariant-lines
+invariant-lines g l = OfKnown (g.R.Read.remaining l.fn.reader) (g.R.Read.remaining l.reader) (ShowsOn l.number)
