@@ -150,7 +150,8 @@ pub fn tell_heading<W: Write>(alloc: Global, heading: Heading, output: &mut W) -
     output.write_all(b"\n")
 }
 
-/// Judges the entries of a reader, from the file's line 2 on, writes how the file ends, and gives the status to exit with.
+/// Judges the entries of a reader, from the file's line 2 on, writes how the file ends, and gives the status to exit
+/// with.
 pub fn judge<R: BufRead, W: Write>(
     alloc: Global,
     edition: Edition,
