@@ -166,13 +166,13 @@ def helped():
 
 
 def scrolled():
-    """Shift-PgUp and Shift-PgDn give scrollview, between two keys alone; another key goes to the end first."""
+    """Shift and Alt with PgUp and PgDn give scrollview, between two keys alone; another key goes to the end first."""
     with Fake(WELCOME) as fake, Client(fake.words("--assist")) as it:
-        for keys in (b"\x1b[5;2~", b"\x1b[5$", b"\x1b[6;2~", b"x", b"y"):
+        for keys in (b"\x1b[5;2~", b"\x1b[5;3~", b"\x1b[5$", b"\x1b[6;2~", b"\x1b[6;3~", b"x", b"y"):
             it.type(keys, 0.4)
-        wanted = b"".join(b"\x01:scrollview %d\r" % lines for lines in (21, 42, 21, 0)) + b"xy"
+        wanted = b"".join(b"\x01:scrollview %d\r" % lines for lines in (21, 42, 63, 42, 21, 0)) + b"xy"
         check("pages up and down, and back by a key", fake.typed() == wanted, str(fake.typed()))
-        check("with a hint", it.shows(b"42 lines back; Shift-PgDn goes forward"), str(it.out))
+        check("with a hint", it.shows(b"42 lines back; Shift-PgDn or Alt-PgDn: forward"), str(it.out))
         before = len(fake.typed())
         it.type(b"\x01:a\x1b[5;2~b\r", 0.3)
         check("in the prompt they are keys", fake.typed()[before:] == b"\x01:a\x1b[5;2~b\r", str(fake.typed()))
@@ -323,6 +323,14 @@ def attached_again():
         at.end()
         Path(at.path + ".session").write_text("two")
         check("another session isn't joined", it.status(2) == 1 and b"another session" in it.said())
+    with Servers() as at:
+        os.unlink(at.path + ".session")
+        os.mkfifo(at.path + ".session")
+        with Client(at.words("--again", "5")) as it:
+            at.begin()
+            it.type(b"typed", 0.3)
+            check("a FIFO as the session's name stops nobody", at.has(b"K", b"typed"), str(at.frames()))
+            check("and is told", f"{at.path}.session isn't a short plain file: remove it".encode() in it.said())
     with Servers() as at, Client(at.words()) as it:
         at.begin()
         time.sleep(0.2)

@@ -1,11 +1,9 @@
 -- Keys between two keys.
 use Rattle.std.proofs.Common.{◌≡◌, ℕ, ◌+◌, ◌<◌, ◌≤◌, ◌^◌, Bool, true, false, ◌&&◌, cond, List, [], ◌∷◌, ◌++◌}
-use Rattle.std.proofs.Common.{length, take, drop, refl, sym, ap, ◌∙◌, append_assoc, append-nil, arith, true≢false, lit≤, length-append, ◌%◌}
+use Rattle.std.proofs.Common.{length, take, drop, refl, sym, ap, ◌∙◌, append_assoc, append-nil, arith, true≢false, lit≤, length-append, ◌%◌, ◌-◌, get_or}
 use Rattle.std.specs.Prelude.{codes, decimal}
 use Rattle.std.specs.List.{list_all}
-use Rattle.std.specs.Str.{bytes_eq}
-use Rattle.std.proofs.lemmas.List.{take-append-drop}
-use Rattle.std.proofs.lemmas.Slice.Eq.{bytes_eq-Decides}
+use Rattle.std.proofs.lemmas.List.{take_all}
 use Rattle.std.proofs.lemmas.Bool.Decides.{nat_tests}
 use Rattle.std.proofs.lemmas.Fmt.{decimal_by_steps, length-decimal-le}
 use Rattle.std.proofs.lemmas.List.Folds.{list_all-append}
@@ -110,9 +108,18 @@ view-line back few =
 
 -- ---- keys to scroll by a page
 
-pub after-page : (keys page later : List ℕ) → bytes_eq (take (length page) keys) page ≡ true
-    → later ≡ drop (length page) keys → keys ≡ page ++ later
-after-page keys page later is rest =
-    sym (take-append-drop (length page) keys)
-    ∙ ap (λ (l : List ℕ). l ++ drop (length page) keys) ((bytes_eq-Decides (take (length page) keys) page).0 is)
-    ∙ ap (λ (l : List ℕ). page ++ l) (sym rest)
+-- a list by its first items
+pub first-four : (keys : List ℕ) (a b c d : ℕ) → 4 ≤ length keys → get_or keys 0 0 ≡ a → get_or keys 1 0 ≡ b
+    → get_or keys 2 0 ≡ c → get_or keys 3 0 ≡ d → keys ≡ a ∷ b ∷ c ∷ d ∷ take (length keys - 4) (drop 4 keys)
+first-four (x ∷ y ∷ z ∷ u ∷ rest) a b c d many p q r s =
+    let n : length (x ∷ y ∷ z ∷ u ∷ rest) - 4 ≡ length rest = omega arith in
+    let t : take (length (x ∷ y ∷ z ∷ u ∷ rest) - 4) rest ≡ rest = ap (λ k. take k rest) n ∙ take_all (length rest) rest (omega arith) in cc
+first-four _ a b c d many p q r s = absurd (omega arith)
+
+pub first-six : (keys : List ℕ) (a b c d e f : ℕ) → 6 ≤ length keys → get_or keys 0 0 ≡ a → get_or keys 1 0 ≡ b
+    → get_or keys 2 0 ≡ c → get_or keys 3 0 ≡ d → get_or keys 4 0 ≡ e → get_or keys 5 0 ≡ f
+    → keys ≡ a ∷ b ∷ c ∷ d ∷ e ∷ f ∷ take (length keys - 6) (drop 6 keys)
+first-six (x ∷ y ∷ z ∷ u ∷ v ∷ w ∷ rest) a b c d e f many p q r s i j =
+    let n : length (x ∷ y ∷ z ∷ u ∷ v ∷ w ∷ rest) - 6 ≡ length rest = omega arith in
+    let t : take (length (x ∷ y ∷ z ∷ u ∷ v ∷ w ∷ rest) - 6) rest ≡ rest = ap (λ k. take k rest) n ∙ take_all (length rest) rest (omega arith) in cc
+first-six _ a b c d e f many p q r s i j = absurd (omega arith)

@@ -7,10 +7,13 @@ use Rattle.client_typing.specs.Fitting.{given_keys, fit_keys}
 abbrev pub question : ℕ
 question = 0x3F
 
--- the keys to scroll by a page, and whether that is up: those of xterm and of rxvt
+-- The keys to scroll by a page, and whether that is up: with Shift as xterm and rxvt send them, and with Alt, since some
+-- terminals keep those with Shift for themselves.
 pub data IsPageKey : List ℕ → Bool → Type 0 where
   xterm_up : IsPageKey (escape ∷ codes "[5;2~") true
   xterm_down : IsPageKey (escape ∷ codes "[6;2~") false
+  alt_up : IsPageKey (escape ∷ codes "[5;3~") true
+  alt_down : IsPageKey (escape ∷ codes "[6;3~") false
   rxvt_up : IsPageKey (escape ∷ codes "[5$") true
   rxvt_down : IsPageKey (escape ∷ codes "[6$") false
 

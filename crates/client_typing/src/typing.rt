@@ -40,19 +40,15 @@ fn after_page_key(keys: &[u8]) -> Option<(&[u8], bool)>
     ensures none { result ≡ None → (page later : List ℕ) (is_up : Bool) → IsPageKey page is_up
         → keys.now ≡ page ++ later → ⊥ }
 {
-    if let Some(later) = keys.strip_prefix(b"\x1b[5;2~".as_slice()) {
-        return Some((later, true));
+    match keys {
+        [0x1b, b'[', b'5', b';', b'2', b'~', later @ ..] => Some((later, true)),
+        [0x1b, b'[', b'5', b';', b'3', b'~', later @ ..] => Some((later, true)),
+        [0x1b, b'[', b'5', b'$', later @ ..] => Some((later, true)),
+        [0x1b, b'[', b'6', b';', b'2', b'~', later @ ..] => Some((later, false)),
+        [0x1b, b'[', b'6', b';', b'3', b'~', later @ ..] => Some((later, false)),
+        [0x1b, b'[', b'6', b'$', later @ ..] => Some((later, false)),
+        _ => None,
     }
-    if let Some(later) = keys.strip_prefix(b"\x1b[6;2~".as_slice()) {
-        return Some((later, false));
-    }
-    if let Some(later) = keys.strip_prefix(b"\x1b[5$".as_slice()) {
-        return Some((later, true));
-    }
-    if let Some(later) = keys.strip_prefix(b"\x1b[6$".as_slice()) {
-        return Some((later, false));
-    }
-    None
 }
 
 impl Typing {

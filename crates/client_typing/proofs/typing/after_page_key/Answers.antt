@@ -1,36 +1,24 @@
-use Rattle.std.proofs.Common.{true, false, sym, subst}
+use Rattle.std.proofs.Common.{rules, ◌∷◌}
+use Rattle.std.specs.Prelude.{codes}
+use Rattle.keys.specs.Grammar.{escape}
 use Rattle.client_typing.specs.Own.{IsPageKey}
-use Rattle.client_typing.proofs.Fitting.{after-page}
+use Rattle.client_typing.proofs.Fitting.{first-four, first-six}
 use Rattle.client_typing.proofs.typing.after_page_key.Goals as goal
 
-pub returns-in-Some-clause-some : goal.returns-in-Some-clause-some
-returns-in-Some-clause-some c =
-    let cases = c.in-Some.ensures.cases in (
-      c.as_slice.result.now,
-      subst (λ p. IsPageKey p true) (sym c.as_slice.ensures) IsPageKey.xterm_up,
-      after-page c.args.keys.now c.as_slice.result.now c.in-Some.later.now cases.0 cases.1,
-    )
+pub returns-in-27-clause-some : goal.returns-in-27-clause-some
+returns-in-27-clause-some c = (escape ∷ codes "[5;2~", IsPageKey.xterm_up, search (rules, first-six))
 
-pub returns-in-Some-strip_prefix-clause-some : goal.returns-in-Some-strip_prefix-clause-some
-returns-in-Some-strip_prefix-clause-some c =
-    let cases = c.in-Some-strip_prefix.ensures.cases in (
-      c.as_slice-2.result.now,
-      subst (λ p. IsPageKey p false) (sym c.as_slice-2.ensures) IsPageKey.xterm_down,
-      after-page c.args.keys.now c.as_slice-2.result.now c.in-Some-strip_prefix.later.now cases.0 cases.1,
-    )
+pub returns-in-27-2-clause-some : goal.returns-in-27-2-clause-some
+returns-in-27-2-clause-some c = (escape ∷ codes "[5;3~", IsPageKey.alt_up, search (rules, first-six))
 
-pub returns-in-Some-strip_prefix-2-clause-some : goal.returns-in-Some-strip_prefix-2-clause-some
-returns-in-Some-strip_prefix-2-clause-some c =
-    let cases = c.in-Some-strip_prefix-2.ensures.cases in (
-      c.as_slice-3.result.now,
-      subst (λ p. IsPageKey p true) (sym c.as_slice-3.ensures) IsPageKey.rxvt_up,
-      after-page c.args.keys.now c.as_slice-3.result.now c.in-Some-strip_prefix-2.later.now cases.0 cases.1,
-    )
+pub returns-in-27-3-clause-some : goal.returns-in-27-3-clause-some
+returns-in-27-3-clause-some c = (escape ∷ codes "[5$", IsPageKey.rxvt_up, search (rules, first-four))
 
-pub returns-in-Some-strip_prefix-3-clause-some : goal.returns-in-Some-strip_prefix-3-clause-some
-returns-in-Some-strip_prefix-3-clause-some c =
-    let cases = c.in-Some-strip_prefix-3.ensures.cases in (
-      c.as_slice-4.result.now,
-      subst (λ p. IsPageKey p false) (sym c.as_slice-4.ensures) IsPageKey.rxvt_down,
-      after-page c.args.keys.now c.as_slice-4.result.now c.in-Some-strip_prefix-3.later.now cases.0 cases.1,
-    )
+pub returns-in-27-4-clause-some : goal.returns-in-27-4-clause-some
+returns-in-27-4-clause-some c = (escape ∷ codes "[6;2~", IsPageKey.xterm_down, search (rules, first-six))
+
+pub returns-in-27-5-clause-some : goal.returns-in-27-5-clause-some
+returns-in-27-5-clause-some c = (escape ∷ codes "[6;3~", IsPageKey.alt_down, search (rules, first-six))
+
+pub returns-in-27-6-clause-some : goal.returns-in-27-6-clause-some
+returns-in-27-6-clause-some c = (escape ∷ codes "[6$", IsPageKey.rxvt_down, search (rules, first-four))
