@@ -1,5 +1,5 @@
 -- Bytes that are added for a browser.
-use Rattle.std.proofs.Common.{◌≡◌, ℕ, List, [], ◌++◌, Option, None, Some, Result, Ok, Err, OnOk, OnErr, sym, ap, ◌∙◌}
+use Rattle.std.proofs.Common.{◌≡◌, ℕ, List, [], ◌++◌, Option, None, Some, Result, Ok, Err, OnOk, sym, ap, ◌∙◌}
 use Rattle.std.proofs.Common.{append_assoc, append-nil, inl, inr, length, ◌||◌}
 use Rattle.std.specs.Int.{w64, to_be_bytes}
 use Rattle.terminal_model.specs.Reading.{Terminal}
@@ -34,12 +34,6 @@ pub leaves_adds : (r : Result Effect Error) (conn : Connection) (old new : List 
     → (more : List ℕ) × (new ≡ old ++ more)
 leaves_adds (Err e) conn old new h = absurd h
 leaves_adds (Ok effect) conn old new h = adds conn.role effect.reply old new h.1
-
--- what a close adds, whether it succeeds or not
-pub either_adds : {A E : Type 0} (result : Result A E) (r : Result Effect Error) (conn : Connection) (old new : List ℕ)
-    → OnOk result (Leaves r conn old new) → OnErr result (new ≡ old) → (more : List ℕ) × (new ≡ old ++ more)
-either_adds (Ok v) r conn old new h k = leaves_adds r conn old new h
-either_adds (Err e) r conn old new h k = ([], k ∙ sym (append-nil old))
 
 pub text_adds : (text : List ℕ) (old new : Wire) → SendsText text old new → Adds old new
 text_adds text old new h =

@@ -24,7 +24,9 @@ use Rattle.web_requests.specs.declared.requests.Response.TheVariants as answer
 use Rattle.web_requests.specs.Serving.{AnswersBytes}
 use Rattle.web_client.specs.Asking.{IfOwn, Takes, Keeps}
 use Rattle.web_client.specs.Judging.{IsAllowed}
-use Rattle.web_client.specs.Rows.{Adds}
+use Rattle.web_client.specs.declared.visitor.TheConstants.{UNKNOWN}
+use Rattle.attach_proto.specs.declared.why.Why.TheVariants.{Detached}
+use Rattle.web_client.specs.Rows.{Adds, Refuses, TellsLast, gone}
 
 -- how far a page's connection is, its WebSocket, the bytes that came and weren't read, its identity, and how many bytes
 -- of rows it has answered for
@@ -159,6 +161,12 @@ pub record GoesOnBy (message : List ℕ) (old new : Page) : Type 0 where
 abbrev pub TakesMessage : {A : Type 0} → Option A → List ℕ → Page → Page → Type 0
 TakesMessage watcher message old new =
     GoesOnBy message old new ⊎ ((new.phase ≡ Last) × EndsWith watcher old.identity message new.identity)
+
+-- Why a browser goes is told: it gave a name that no user can have, or has left a page that it watched.
+abbrev pub TellsOut : Identity → Wire → Wire → Type 0
+TellsOut Unknown old new = Refuses UNKNOWN.now old new
+TellsOut Left old new = TellsLast (gone Detached) old new
+TellsOut _ old new = new ≡ old
 
 -- ---- any number of frames
 

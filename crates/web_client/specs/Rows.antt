@@ -6,7 +6,10 @@ use Rattle.std.specs.Int.{w64, to_be_bytes}
 use Rattle.websocket.specs.declared.protocol.frame.coding.OpCode.TheVariants as code
 use Rattle.websocket.specs.declared.protocol.frame.coding.Data.TheVariants.{Text}
 use Rattle.websocket.specs.declared.protocol.frame.coding.Control.TheVariants.{Ping}
-use Rattle.websocket.specs.Connection.{Sends}
+use Rattle.websocket.specs.declared.protocol.frame.coding.CloseCode.{CloseCode}
+use Rattle.websocket.specs.declared.protocol.frame.coding.CloseCode.TheVariants.{Normal, Away}
+use Rattle.websocket.specs.Connection.{Sends, close_step}
+use Rattle.websocket.specs.View.{Leaves}
 use Rattle.terminal_model.specs.Reading.{Terminal}
 use Rattle.emulator.specs.Standing.{StandsFor}
 use Rattle.web_page.specs.Updates.{Update, spelled}
@@ -14,6 +17,7 @@ use Rattle.web_page.specs.Laying.{Shown, laid, page_of}
 use Rattle.web_page.specs.Showing.{Sheet, IsShown}
 use Rattle.web_client.specs.declared.wire.SentPage.{SentPage}
 use Rattle.web_client.specs.declared.wire.Wire.{Wire}
+use Rattle.web_client.specs.declared.wire.Phase.TheVariants.{Last}
 use Rattle.web_page.specs.Hearing.{WebDisplay}
 use Rattle.web_page.specs.Json.{spelled_text}
 use Rattle.attach_proto.specs.Fields.{reason}
@@ -94,13 +98,23 @@ handed name token =
     codes "{\"user\":\"" ++ spelled_text (chars name) ++ codes "\",\"token\":\"" ++ spelled_text (chars token)
     ++ codes "\"}"
 
--- a text is told, and after it perhaps the connection's end
+-- the connection ends, with a close frame of this code and reason unless it has sent one
+pub record Closes (code : CloseCode) (reason : List ℕ) (old new : Wire) : Type 0 where
+  pub phase : new.phase ≡ Last
+  pub counts : (new.sent ≡ old.sent) × (new.answered ≡ old.answered)
+  pub frame : Leaves (close_step old.context (Some (code, reason))) new.context old.output.items new.output.items
+
+-- a text is told, and then the connection ends as it should
 abbrev pub TellsLast : List ℕ → Wire → Wire → Type 0
-TellsLast text old new = (v : Wire) × SendsText text old v × Adds v new
+TellsLast text old new = (v : Wire) × SendsText text old v × Closes Normal [] v new
 
 -- why it isn't let in, and then its end
 abbrev pub Refuses : List ℕ → Wire → Wire → Type 0
 Refuses reason old new = (v : Wire) × SendsText (said reason) old v × TellsLast (gone Fault) v new
+
+-- that the connection to the server ended, or why there is none; the page may come back
+abbrev pub TellsAway : List ℕ → Wire → Wire → Type 0
+TellsAway reason old new = (v : Wire) × SendsText (said reason) old v × Closes Away reason v new
 
 -- that the bridge is there, and the browser is asked whether it is
 abbrev pub TellsHere : Wire → Wire → Type 0

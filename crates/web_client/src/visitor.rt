@@ -4,10 +4,11 @@ ghost use Rattle.std.specs.Prelude.{◌≡◌, ◌↔◌, ◌⊎◌, ℕ, List, 
 ghost use Rattle.std.specs.Prelude.{length, false, true, codes, vec_len};
 ghost use Rattle.web_client.specs.Asking.{Asks};
 ghost use Rattle.web_client.specs.Sending.{IsReceived, IsMore, IsSent, IsRest};
-ghost use Rattle.web_client.specs.Rows.{TellsLast, TellsHere, Refuses, said, handed};
+ghost use Rattle.web_client.specs.Judging.{IsAllowed};
+ghost use Rattle.web_client.specs.Rows.{Closes, TellsAway, TellsLast, TellsHere, Refuses, handed};
 ghost use Rattle.web_requests.specs.Serving.{refusal};
 ghost use Rattle.web_client.specs.Frames.{page, page_after, begun, Reads, Answers, Leaves, TakesMessage};
-ghost use Rattle.web_client.specs.Frames.{TakesBytes, TakesOpen, CanRead, IsBounded, IsGivenUp};
+ghost use Rattle.web_client.specs.Frames.{TakesBytes, TakesOpen, TellsOut, CanRead, IsBounded, IsGivenUp};
 
 use crate::frame::PageFrame;
 use crate::identity::{Identity, MessageFault};
@@ -31,6 +32,9 @@ const FRAMES: usize = 64;
 
 /// What is said of a name that no user can have: what the server says of others.
 const UNKNOWN: &str = "unknown user or wrong token";
+
+/// Why a connection is closed whose browser sent what it may not.
+const NOT_UNDERSTOOD: &str = "not understood";
 
 /// A browser's connection.
 #[derive(Drop)]
@@ -128,23 +132,21 @@ impl Visitor {
     fn take_message(&mut self, site: &Site, message: &[u8]) -> Result<(), WireFault>
         ensures takes { OnOk result (TakesMessage site.now.watcher message.now (page self.old)
             (page self.new)) }
+        ensures wrong { (IsAllowed site.now.watcher self.old.identity message.now → ⊥)
+            → OnOk result (Closes CloseCode.Policy NOT_UNDERSTOOD.now self.old.wire self.new.wire) }
+        ensures told { IsAllowed site.now.watcher self.old.identity message.now
+            → OnOk result (TellsOut self.new.identity self.old.wire self.new.wire) }
         ensures input { self.new.input.items ≡ self.old.input.items }
         ensures leaves { OnOk result (Leaves self.old self.new) }
         ensures asks { Asks self.old.identity self.new.identity }
     {
         match self.identity.take(self.wire.alloc, site, message) {
             Ok(()) => {}
-            Err(MessageFault::Wrong) => {
-                self.wire.close(CloseCode::Policy, "not understood");
-                return Ok(());
-            }
+            Err(MessageFault::Wrong) => return self.wire.close(CloseCode::Policy, NOT_UNDERSTOOD),
             Err(MessageFault::NoMemory) => return Err(WireFault::NoMemory),
         }
         match &self.identity {
-            Identity::Unknown => {
-                self.wire.say(UNKNOWN)?;
-                self.wire.tell_gone(Why::Fault)
-            }
+            Identity::Unknown => self.refuse(UNKNOWN),
             Identity::Left => self.wire.tell_gone(Why::Detached),
             _ => Ok(()),
         }
@@ -268,14 +270,13 @@ impl Visitor {
     /// The server's connection ended, or there is none.
     pub fn lose(&mut self, reason: &str) -> Result<(), WireFault>
         ensures tells { self.old.wire.phase ≡ Phase.Socket
-            → OnOk result (TellsLast (said reason.now) self.old.wire self.new.wire) }
-        ensures last { self.old.wire.phase ≡ Phase.Socket → OnOk result (self.new.wire.phase ≡ Phase.Last) }
+            → OnOk result (TellsAway reason.now self.old.wire self.new.wire) }
         ensures other { (self.old.wire.phase ≡ Phase.Socket → ⊥) → self.new ≡ self.old }
         ensures identity { self.new.identity ≡ self.old.identity }
     {
         if self.is_open() {
             self.wire.say(reason)?;
-            self.wire.close(CloseCode::Away, reason);
+            self.wire.close(CloseCode::Away, reason)?;
         }
         Ok(())
     }
@@ -283,7 +284,6 @@ impl Visitor {
     /// Tells a page which user and token its link stands for, and ends.
     pub fn hand(&mut self, name: &str, token: &str) -> Result<(), WireFault>
         ensures hands { OnOk result (TellsLast (handed name.now token.now) self.old.wire self.new.wire) }
-        ensures last { OnOk result (self.new.wire.phase ≡ Phase.Last) }
         ensures identity { self.new.identity ≡ self.old.identity }
     {
         self.wire.hand(name, token)
@@ -292,8 +292,8 @@ impl Visitor {
     /// Tells a page why it isn't let in, and ends.
     pub fn refuse(&mut self, reason: &str) -> Result<(), WireFault>
         ensures tells { OnOk result (Refuses reason.now self.old.wire self.new.wire) }
-        ensures last { OnOk result (self.new.wire.phase ≡ Phase.Last) }
-        ensures identity { self.new.identity ≡ self.old.identity }
+        ensures leaves { OnOk result (Leaves self.old self.new) }
+        ensures same { self.new ≡ record self.old { wire = self.new.wire } }
     {
         self.wire.say(reason)?;
         self.wire.tell_gone(Why::Fault)?;

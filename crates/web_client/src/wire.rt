@@ -1,6 +1,6 @@
 //! What a browser is sent over its connection.
 
-ghost use Rattle.std.specs.Prelude.{◌≡◌, ◌↔◌, ◌+◌, ◌≤◌, [], length, drop, None, IfOk, OnOk, IfErr, IfSome, IsTrue, ◌||◌};
+ghost use Rattle.std.specs.Prelude.{◌≡◌, ◌↔◌, ◌+◌, ◌≤◌, [], length, drop, IfOk, OnOk, IfErr, IsTrue, ◌||◌};
 ghost use Rattle.terminal_model.specs.Reading.{Terminal};
 ghost use Rattle.emulator.specs.Standing.{StandsFor};
 ghost use Rattle.web_page.specs.Laying.{Shown, page_of};
@@ -9,13 +9,14 @@ ghost use Rattle.web_client.specs.Frames.{fresh, stands, Reads, IsGivenUp, IsWit
 ghost use Rattle.web_client.specs.declared.identity.Identity.{Identity};
 ghost use Rattle.web_client.specs.Rows.{SendsText, Asks, IsAsFar, IsUpToDate, SendsPage, Adds, HasRoom, IsDue, Shows};
 ghost use Rattle.web_client.specs.Rows.{said, welcomed, gone, handed, TellsLast, MaySendRows, Welcomes};
-ghost use Rattle.web_client.specs.Rows.{Explains, Ends, SendsAll};
+ghost use Rattle.web_client.specs.Rows.{Closes, Explains, Ends, SendsAll};
 ghost use Rattle.web_client.specs.declared.wire.WireFault.TheVariants as end;
 
 use crate::frame::{PageFrame, answered_for, said};
 use attach_proto::Why;
 use std::alloc::{AllocError, Global};
 use web_page::{SheetFault, WebDisplay, put_text};
+use websocket::error::Error;
 use websocket::protocol::{
     CloseCode, CloseFrame, FrameStatus, Message, NoMask, Role, WebSocketConfig, WebSocketContext,
 };
@@ -44,6 +45,14 @@ impl From<AllocError> for WireFault {
 
     fn from(_error: AllocError) -> WireFault {
         WireFault::NoMemory
+    }
+}
+
+impl From<Error> for WireFault {
+    ghost from_gives = { λ _ e. e ≡ end.Broken };
+
+    fn from(_error: Error) -> WireFault {
+        WireFault::Broken
     }
 }
 
@@ -132,7 +141,7 @@ impl Wire {
             Ok(FrameStatus::Partial(_)) => return Ok((PageFrame::None, 0)),
             Ok(FrameStatus::Complete(step)) => step,
             Err(_) => {
-                self.close(CloseCode::Protocol, "");
+                self.close(CloseCode::Protocol, "")?;
                 return Ok((PageFrame::None, 0));
             }
         };
@@ -146,16 +155,16 @@ impl Wire {
     }
 
     /// Sends a close frame, after which the connection ends.
-    pub fn close(&mut self, code: CloseCode, reason: &str)
-        ensures adds { Adds self.old self.new }
-        ensures phase { self.new.phase ≡ Phase.Last }
+    pub fn close(&mut self, code: CloseCode, reason: &str) -> Result<(), WireFault>
+        ensures closes { OnOk result (Closes code reason.now self.old self.new) }
+        ensures adds { OnOk result (Adds self.old self.new) }
         ensures sent { self.new.sent ≡ self.old.sent }
     {
         let frame = CloseFrame { code, reason };
-        let _ = self
-            .context
-            .close(Some(frame), &mut self.output, &mut NoMask);
+        self.context
+            .close(Some(frame), &mut self.output, &mut NoMask)?;
         self.phase = Phase::Last;
+        Ok(())
     }
 
     /// Sends a text.
@@ -163,13 +172,8 @@ impl Wire {
         ensures sends { OnOk result (SendsText text.now self.old self.new) }
         ensures sent { self.new.sent ≡ self.old.sent }
     {
-        match self
-            .context
-            .write(Message::Text(text), &mut self.output, &mut NoMask)
-        {
-            Ok(()) => Ok(()),
-            Err(_) => Err(WireFault::Broken),
-        }
+        let text = Message::Text(text);
+        Ok(self.context.write(text, &mut self.output, &mut NoMask)?)
     }
 
     /// Asks the browser to answer for the rows that it was sent. A browser answers a ping after what came before it.
@@ -177,13 +181,8 @@ impl Wire {
         ensures { OnOk result (Asks self.old self.new) }
     {
         let count = self.sent.to_be_bytes();
-        match self
-            .context
-            .write(Message::Ping(&count), &mut self.output, &mut NoMask)
-        {
-            Ok(()) => Ok(()),
-            Err(_) => Err(WireFault::Broken),
-        }
+        let ping = Message::Ping(&count);
+        Ok(self.context.write(ping, &mut self.output, &mut NoMask)?)
     }
 
     /// Tells a text to the browser's user.
@@ -203,20 +202,18 @@ impl Wire {
     pub fn tell_gone(&mut self, why: Why) -> Result<(), WireFault>
         ensures tells { OnOk result (TellsLast (gone why) self.old self.new) }
         ensures adds { OnOk result (Adds self.old self.new) }
-        ensures phase { OnOk result (self.new.phase ≡ Phase.Last) }
         ensures sent { self.new.sent ≡ self.old.sent }
     {
         let number = why.number();
         let text = format!(in self.alloc; "{{\"gone\":{number}}}")?;
         self.send_text(text.as_str())?;
-        self.close(CloseCode::Normal, "");
+        self.close(CloseCode::Normal, "")?;
         Ok(())
     }
 
     /// Tells which user and token a link stands for, and ends.
     pub fn hand(&mut self, name: &str, token: &str) -> Result<(), WireFault>
-        ensures hands { OnOk result (TellsLast (handed name.now token.now) self.old self.new) }
-        ensures phase { OnOk result (self.new.phase ≡ Phase.Last) }
+        ensures { OnOk result (TellsLast (handed name.now token.now) self.old self.new) }
     {
         let mut out = String::from_str(self.alloc, "{\"user\":\"")?;
         put_text(&mut out, name)?;
@@ -224,7 +221,7 @@ impl Wire {
         put_text(&mut out, token)?;
         out.push_str("\"}")?;
         self.send_text(out.as_str())?;
-        self.close(CloseCode::Normal, "");
+        self.close(CloseCode::Normal, "")?;
         Ok(())
     }
 
@@ -300,8 +297,6 @@ impl Wire {
     fn end(&mut self, display: &WebDisplay) -> Result<(), WireFault>
         ensures ends { OnOk result (Ends display.now.told.refusal display.now.told.gone self.old self.new) }
         ensures adds { OnOk result (Adds self.old self.new) }
-        ensures gone { IfSome display.now.told.gone (λ _. OnOk result (self.new.phase ≡ Phase.Last)) }
-        ensures stays { display.now.told.gone ≡ None → self.new ≡ self.old }
         ensures sent { self.new.sent ≡ self.old.sent }
     {
         match display.gone() {
@@ -324,7 +319,6 @@ impl Wire {
         ensures later { (IsDue display.old self.old → ⊥)
             → (view.new.since ≡ view.old.since) × (display.new ≡ display.old)
             × (self.new.sent ≡ self.old.sent) }
-        ensures gone { IfSome display.old.told.gone (λ _. OnOk result (self.new.phase ≡ Phase.Last)) }
     {
         let is_due = self.is_due(display);
         self.welcome(view, display)?;

@@ -9,7 +9,7 @@ use Rattle.web_client.specs.declared.wire.Phase.TheVariants.{Socket, Last}
 use Rattle.web_client.specs.declared.wire.Wire.{Wire}
 use Rattle.web_client.specs.Asking.{AsksOnly, IsOwn, Keeps}
 use Rattle.web_client.specs.Frames.{CanRead, TakesBytes}
-use Rattle.web_client.specs.Rows.{TellsHere, TellsLast, said}
+use Rattle.web_client.specs.Rows.{TellsAway, TellsHere}
 use Rattle.web_client.specs.Sending.{IsRest}
 use Rattle.web_requests.specs.Serving.{refusal}
 use Rattle.web_requests.specs.declared.site.Site.{Site}
@@ -46,8 +46,7 @@ HasGone s = IsOwn s (λ c. IsSome c.display.told.gone)
 
 -- An open page is told a reason, and its connection ends. It is told once: one that isn't open is told nothing.
 pub record Loses (reason : List ℕ) (old new : Visitor) : Type 0 where
-  pub tells : IsOpen old → TellsLast (said reason) old.wire new.wire
-  pub last : IsOpen old → new.wire.phase ≡ Last
+  pub tells : IsOpen old → TellsAway reason old.wire new.wire
   pub other : (IsOpen old → ⊥) → new ≡ old
   pub identity : new.identity ≡ old.identity
 
@@ -64,7 +63,7 @@ pub record LosesPage (reason : List ℕ) (old new : Relay) : Type 0 where
 
 -- a page is told this, whatever it did before, and ends; it is over if memory is refused
 pub record EndsBy (tells : Wire → Wire → Type 0) (old new : Relay) : Type 0 where
-  pub told : new.is_over ≡ false → tells old.visitor.wire new.visitor.wire × (new.visitor.wire.phase ≡ Last)
+  pub told : new.is_over ≡ false → tells old.visitor.wire new.visitor.wire
   pub identity : new.visitor.identity ≡ old.visitor.identity
   pub over : old.is_over ≡ true → new.is_over ≡ true
   pub rest : new ≡ record old { visitor = new.visitor; is_over = new.is_over }

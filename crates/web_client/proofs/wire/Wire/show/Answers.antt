@@ -1,6 +1,4 @@
-use Rattle.std.proofs.Common.{◌≡◌, ◌≤◌, ℕ, Option, IfSome, OnOk, inl, refl, sym, ap, ◌∙◌, subst}
-use Rattle.attach_proto.specs.declared.why.Why.{Why}
-use Rattle.web_client.specs.declared.wire.Phase.TheVariants.{Last}
+use Rattle.std.proofs.Common.{◌≡◌, ◌≤◌, ℕ, OnOk, inl, refl, sym, ap, ◌∙◌, subst}
 use Rattle.attach_proto.specs.declared.why.Told.{Told}
 use Rattle.web_page.specs.Hearing.{WebDisplay}
 use Rattle.web_client.specs.Rows.{IsAsFar, Ends, MaySendRows}
@@ -71,16 +69,6 @@ returns-clause-adds c =
           then_adds c.end.result c.args.self.now c.if-is_due.self c.end.new.self
           (rw w.self-is c.in_ok-welcome.ensures.adds) c.end.ensures.adds
     ]
-
-pub returns-clause-gone : goal.returns-clause-gone
-returns-clause-gone c =
-    let same : c.if-is_due.display.told.gone ≡ c.args.display.now.told.gone =
-    elim c.if-is_due.branch [
-      | then-is_due+in_ok-send_rows w ↦
-          ap (λ (d : WebDisplay). d.told.gone) w.display-is ∙ ap (λ (t : Told). t.gone) w.send_rows.ensures.told
-      | else-is_due w ↦ ap (λ (d : WebDisplay). d.told.gone) w.display-is
-    ] in
-    subst (λ (g : Option Why). IfSome g (λ _. OnOk c.end.result (c.end.new.self.phase ≡ Last))) same c.end.ensures.gone
 
 pub returns-in_err-welcome-clause-later : goal.returns-in_err-welcome-clause-later
 returns-in_err-welcome-clause-later c = λ n. (c.welcome.ensures.since, refl, c.welcome.ensures.sent)

@@ -10,5 +10,5 @@ returns-clause-tells c =
       c.send_text.new.self,
       subst (λ (l : List ℕ). SendsText l c.args.self.now c.send_text.new.self) (c.as_str.ensures.value ∙ text)
           c.in_ok-send_text.ensures.sends,
-      c.close.ensures.adds,
+      c.in_ok-close.ensures.closes,
     )
