@@ -482,7 +482,7 @@
     clearTimeout(again);
     login.hidden = true;
     screen.hidden = false;
-    why = "No answer: mux-web isn't there, is full, or refuses this address of the page.";
+    why = "No answer: this page isn't served now, is full, or has another address. Use the one that you were given.";
     const mine = new WebSocket(location.origin.replace(/^http/, "ws") + "/rows");
     socket = mine;
     heard = Date.now();

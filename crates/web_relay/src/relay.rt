@@ -22,7 +22,7 @@ use web_client::{Identity, Visitor};
 const READS: usize = 16;
 
 /// What a page is told if its client can't be connected.
-pub const NO_SERVER: &str = "no server: is muxd running?";
+pub const NO_SERVER: &str = "The session hasn't begun, or it has ended";
 
 /// The own client's connection to the server.
 #[derive(Drop)]

@@ -24,7 +24,7 @@ const DEAD: u64 = 10;
 const STUCK: u64 = 60;
 
 /// What a page is told when its client's connection has ended.
-pub const ENDED: &str = "the session's connection ended";
+pub const ENDED: &str = "The connection to the session ended";
 
 /// How often a connection is read in one turn.
 const READS: usize = 16;

@@ -18,7 +18,7 @@ use std::time::Duration;
 use web_relay::{Around, Halls, Relay, is_full, let_go, server_token};
 
 /// What a page is told that has said who it is when all places are taken.
-pub const FULL: &str = "all places are taken: try again later";
+pub const FULL: &str = "All places are taken";
 
 // What a browser's bytes came to: whether its page opened, and whether it says now who it is.
 #[derive(Clone, Copy)]
