@@ -1,5 +1,4 @@
-"""Prints how fast a server is: keys, echoes, output for many clients, memory, what it keeps of each step, and what it
-does when idle.
+"""Prints how fast a server is: keys, echoes, output for many clients, memory, and what it does when idle.
 
 python3 bench/server.py --muxd PATH [--loops N]. The server is started in a temporary folder, anew for each
 measure; all peers are sockets of this one process, so the times have its own share in them.
@@ -19,8 +18,7 @@ from pathlib import Path
 sys.dont_write_bytecode = True
 sys.path.insert(0, str(Path(__file__).resolve().parent.parent / "tests/outside"))
 import peer
-from peer import (DRAW, GONE, INPUT, KEYS, LONGEST, OUTPUT, OWNER, WELCOME, Flood, attach, command, draws_within,
-                  frame, pieces, window)
+from peer import DRAW, GONE, INPUT, KEYS, LONGEST, OUTPUT, OWNER, WELCOME, attach, command, frame, pieces, window
 
 # A second user, with the same token.
 GUEST = b"bob"
@@ -85,23 +83,15 @@ class Server(peer.Server):
                             waiting[key.fileobj] = came[-len(mark):]
 
 
-def key(client, shell, place):
-    """Microseconds from a client's key to its window's program."""
+def key(client, shell, place, is_echoed=False):
+    """Microseconds from a client's key to its window's program, or to the draw that has the program's echo."""
     letter = b"abcdefghijklmnopqrstuvwxyz"[place % 26:][:1]
     start = time.perf_counter_ns()
     client.send(frame(KEYS, letter))
     shell.until(INPUT, letter)
-    return (time.perf_counter_ns() - start) / 1000
-
-
-def echo(client, shell, place):
-    """Microseconds from a client's key, which its window's program echoes, to the draw that has it."""
-    letter = b"ABCDEFGHIJKLMNOPQRSTUVWXYZ"[place % 26:][:1]
-    start = time.perf_counter_ns()
-    client.send(frame(KEYS, letter))
-    shell.until(INPUT, letter)
-    shell.send(frame(OUTPUT, (b"\r" if place % 60 == 0 else b"") + letter))
-    client.until(DRAW, letter)
+    if is_echoed:
+        shell.send(frame(OUTPUT, (b"\r" if place % 60 == 0 else b"") + letter))
+        client.until(DRAW, letter)
     return (time.perf_counter_ns() - start) / 1000
 
 
@@ -111,7 +101,7 @@ def key_times(words, rounds=2000):
         client, shell = server.clients[0], server.window
         client.until(DRAW)
         plain = [key(client, shell, place) for place in range(rounds)]
-        return plain, [echo(client, shell, place) for place in range(rounds)]
+        return plain, [key(client, shell, place, True) for place in range(rounds)]
 
 
 def lines(size, width=79):
@@ -195,44 +185,6 @@ def typing(server):
     return [Pour(shell, b""), Pour(client, frame(KEYS, b"x" * 8000) * 8)]
 
 
-def draws_beside(words, floods, clients, seconds=3):
-    """How often a second the client is drawn that is drawn least, and the longest time in milliseconds in which one
-    isn't, beside windows that print without a lull; and how late, at most, it is drawn what another window prints."""
-    with Server(words, clients) as server:
-        # The clients show the window of number 0, which is the server's own: it is the quiet one.
-        poured = [Flood(server.path) for _ in range(floods)]
-        for client in server.clients[1:]:
-            client.send(frame(KEYS, b"\x011"))
-        clients = [client.socket for client in server.clients]
-        draws_within(clients, 0.5)
-        found = draws_within(clients[1:], seconds)
-        looker, late = clients[0], []
-        for number in range(20):
-            draws_within(clients, 0.03)
-            begin = time.perf_counter()
-            server.window.send(output(b"line %d\r\n" % number))
-            looker.settimeout(5)
-            looker.recv(1 << 20)
-            late.append((time.perf_counter() - begin) * 1000)
-        for flood in poured:
-            flood.stop()
-    return min(it[0] for it in found) / seconds, 1000 * max(it[1] for it in found), max(late)
-
-
-def echoes_in_turn(words, keys=2000):
-    """The median of a key's echo with one loop and with two, in microseconds. Each key is typed to both."""
-    one, two_loops = argparse.Namespace(**vars(words)), argparse.Namespace(**vars(words))
-    one.loops, two_loops.loops = 1, 2
-    with Server(one, 1) as first, Server(two_loops, 1) as second:
-        found = {first: [], second: []}
-        for server in found:
-            server.clients[0].until(DRAW)
-        for place in range(keys):
-            for server in (first, second) if place % 2 else (second, first):
-                found[server].append(echo(server.clients[0], server.window, place))
-        return [statistics.median(it) for it in found.values()]
-
-
 def at_rest(words, clients, idle):
     """The memory in MB beside a window that keeps 2,000 lines, and milliseconds used while idle."""
     with Server(words, clients, keep=2000) as server:
@@ -248,16 +200,10 @@ def row(name, value, unit, asked=""):
     print(f"{name:52}{value:>10} {unit:4}{asked}", flush=True)
 
 
-def times(name, found, unit, asked=""):
-    ordered = sorted(found)
-    worst = ordered[len(ordered) * 9 // 10]
-    row(name, f"{statistics.median(found):.1f}", unit, f"9 of 10 in {worst:.1f}{asked}")
-
-
-def tail(name, found, unit, asked):
-    ordered = sorted(found)
-    worst = ordered[len(ordered) * 99 // 100]
-    row(name, f"{statistics.median(found):.0f}", unit, f"99 of 100 in {worst:.0f}; asked: {asked}")
+def times(name, found, unit, asked="", most=10):
+    """The median, and the time within which all but one of so many are."""
+    worst = sorted(found)[len(found) * (most - 1) // most]
+    row(name, f"{statistics.median(found):.1f}", unit, f"{most - 1} of {most} in {worst:.1f}{asked}")
 
 
 def main():
@@ -275,18 +221,9 @@ def main():
     plain, echoed = key_times(words)
     times("a key, to the window's program", plain, "us", "; asked: under 60")
     times("a key, its echo drawn at 24 by 80", echoed, "us", "; asked: under 300")
-    for count, asked in ((1, "200 and 2000"), (8, "500 and 2000")):
-        tail(f"a key, beside {count} windows that print", times_beside(words, printing(count)), "us", asked)
-    tail("a key, beside a client that types", times_beside(words, typing), "us", "500 and 5000")
-    echoes = echoes_in_turn(words)
-    row("an echo with one loop, in turn with", f"{echoes[0]:.1f}", "us")
-    row("  an echo with two", f"{echoes[1]:.1f}", "us", f"{echoes[1] / echoes[0]:.2f} times; asked: at most 1.13")
-    for floods in (1, 8):
-        for clients in (3, 24):
-            draws, gap, late = draws_beside(words, floods, clients)
-            row(f"draws a second, {clients} clients, {floods} windows print", f"{draws:.0f}", "", "asked: at least 30")
-            row("  the longest time without a draw", f"{gap:.0f}", "ms", "asked: at most 100")
-            row("  a line of a quiet window", f"{late:.0f}", "ms", "asked: at most 50")
+    for count, asked in ((1, "; asked: 200 and 2000"), (8, "; asked: 500 and 2000")):
+        times(f"a key, beside {count} windows that print", times_beside(words, printing(count)), "us", asked, 100)
+    times("a key, beside a client that types", times_beside(words, typing), "us", "; asked: 500 and 5000", 100)
     costs = {}
     for clients in (1, 8, 64):
         wall, busy = megabyte_times(words, clients)

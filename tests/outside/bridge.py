@@ -268,9 +268,6 @@ class Bridge(peer.Program):
             self.__exit__()
             raise AssertionError(f"the bridge isn't ready: {line} {self.log()}")
 
-    def __enter__(self):
-        return self
-
     def __exit__(self, *_):
         if self.program.poll() is None:
             self.program.kill()

@@ -1,5 +1,6 @@
 """A headless Chromium, driven by its DevTools protocol with the standard library.  Nothing here judges."""
 import base64
+import contextlib
 import json
 import os
 import shutil
@@ -18,7 +19,7 @@ CODES = {"Enter": 13, "Escape": 27, "Tab": 9, "Backspace": 8, "Insert": 45, "Del
 ALT, CTRL, META, SHIFT = 1, 2, 4, 8
 
 
-class Browser:
+class Browser(contextlib.AbstractContextManager):
     """A Chromium with files in a folder of its own."""
 
     def __init__(self, program="chromium", words=()):
@@ -39,9 +40,6 @@ class Browser:
             except (OSError, ValueError):
                 assert time.monotonic() < until and self.program.poll() is None, "chromium doesn't start"
                 time.sleep(0.1)
-
-    def __enter__(self):
-        return self
 
     def __exit__(self, *_):
         try:

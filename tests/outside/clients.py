@@ -26,7 +26,7 @@ LEAVE = b"\x1c"
 WELCOME, GONE = b"y\0\1\0", b"g\0\1\0"
 
 
-class Place:
+class Place(contextlib.AbstractContextManager):
     """A folder with a socket's path and a token."""
 
     def __init__(self):
@@ -93,16 +93,13 @@ class Fake(Place):
         self.keep(it)
         self.is_over.set()
 
-    def __enter__(self):
-        return self
-
     def __exit__(self, *_):
         for it in [self.listener, *self.kept]:
             it.close()
         self.folder.cleanup()
 
 
-class Client:
+class Client(contextlib.AbstractContextManager):
     """mux with pipes, beside a server that does what it is told."""
 
     def __init__(self, words, **more):
@@ -119,9 +116,6 @@ class Client:
         self.it.stdin.write(data)
         self.it.stdin.flush()
         time.sleep(pause)
-
-    def __enter__(self):
-        return self
 
     def __exit__(self, kind, *_):
         if kind:

@@ -69,9 +69,6 @@ class Servers(Place):
     def has(self, kind, data, seconds=5):
         return once(lambda: data in self.payload(kind), seconds, 0.01)
 
-    def __enter__(self):
-        return self
-
     def __exit__(self, *_):
         for it in (self.listener, self.peer):
             if it is not None:

@@ -2,6 +2,7 @@
 
 Nothing here judges: what is right to expect stands in each play.
 """
+import contextlib
 import os
 import resource
 import selectors
@@ -132,7 +133,7 @@ def write_private(path, data):
         out.write(data)
 
 
-class Program:
+class Program(contextlib.AbstractContextManager):
     """What is asked of a program that runs."""
 
     def ends_within(self, seconds=20):
@@ -176,9 +177,6 @@ class Server(Program):
         if self.program.stdout.readline() != b"muxd: ready\n":
             Server.__exit__(self)
             raise AssertionError("the server isn't ready")
-
-    def __enter__(self):
-        return self
 
     def __exit__(self, *_):
         self.program.kill()

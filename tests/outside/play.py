@@ -247,7 +247,7 @@ def plain(data):
     return re.sub(rb"\x1b\[1?C", b" ", data)
 
 
-class Terminal:
+class Terminal(contextlib.AbstractContextManager):
     """A program on a terminal of its own: `out` is all that it printed so far."""
 
     def __init__(self, words, environment=None, rows=24, cols=80):
@@ -258,9 +258,6 @@ class Terminal:
                                         start_new_session=True, preexec_fn=lambda: fcntl.ioctl(0, termios.TIOCSCTTY, 0))
         self.pid = self.program.pid
         os.close(slave)
-
-    def __enter__(self):
-        return self
 
     def __exit__(self, *_):
         if self.program.poll() is None:
@@ -352,6 +349,18 @@ class Pane:
         """Whether a line has the pattern within some time."""
         return once(lambda: re.search(pattern, self.page(), re.MULTILINE), seconds)
 
+    def does(self, line, what, text, by=None, seconds=30):
+        """Types a line, and checks that this terminal, or another one, shows a text."""
+        self.type(line)
+        by = by or self
+        check(what, by.shows(text, seconds), by.page())
+
+    def prompt(self, *lines):
+        """Gives commands at the prompt."""
+        for line in lines:
+            self.key("C-a")
+            self.type(f":{line}")
+
     def resize(self, rows, cols):
         self.tmux("resize-window", "-t", self.name, "-x", str(cols), "-y", str(rows))
 
@@ -381,7 +390,7 @@ def end_account(name):
 # Servers.
 
 
-class Room:
+class Room(contextlib.AbstractContextManager):
     """A folder with users and their tokens, in which servers, windows and scripts run.  The owner is own, the first."""
 
     def __init__(self, *users, setup=""):
@@ -390,9 +399,6 @@ class Room:
         for at, name in enumerate(users):
             write(self.path(name + ".token"), self.digits(at) + "\n", 0o600)
         self.users(*users)
-
-    def __enter__(self):
-        return self
 
     def __exit__(self, *_):
         for process in self.windows + self.servers:
