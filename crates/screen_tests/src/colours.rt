@@ -107,12 +107,7 @@ fn is_coloured(alloc: Global, row: &Row) -> bool {
 }
 
 fn first_wrong(alloc: Global) -> Option<usize> {
-    for (number, row) in ROWS.iter().enumerate() {
-        if !is_coloured(alloc, row) {
-            return Some(number);
-        }
-    }
-    None
+    ROWS.iter().position(|row| !is_coloured(alloc, row))
 }
 
 /// Tests that SGR reads the values 38, 5 and 1 one by one.

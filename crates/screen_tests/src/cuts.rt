@@ -34,15 +34,7 @@ fn next_list(rng: &mut Pcg32, list: &mut [u8; LONGEST]) -> usize
 
 /// Whether two pages have the same cells.
 fn are_alike(page: &MovedPage<'_>, other: &MovedPage<'_>) -> bool {
-    if page.rows() != other.rows() {
-        return false;
-    }
-    for line in 0..page.rows() {
-        if page.line(line) != other.line(line) {
-            return false;
-        }
-    }
-    true
+    page.rows() == other.rows() && (0..page.rows()).all(|line| page.line(line) == other.line(line))
 }
 
 /// Whether two terminals show equal pages, kept lines too, and have equal modes.

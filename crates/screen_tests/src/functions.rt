@@ -118,12 +118,7 @@ fn are_read(alloc: Global, row: &Row) -> bool {
 }
 
 fn first_wrong(alloc: Global) -> Option<usize> {
-    for (number, row) in ROWS.iter().enumerate() {
-        if !are_read(alloc, row) {
-            return Some(number);
-        }
-    }
-    None
+    ROWS.iter().position(|row| !are_read(alloc, row))
 }
 
 #[test]

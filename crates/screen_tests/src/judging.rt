@@ -39,6 +39,19 @@ pub struct Row {
     pub answer: &'static [u8],
 }
 
+impl Row {
+    /// A page of 3 lines by 5 columns that has read nothing.
+    pub const UNREAD: Row = Row {
+        size: (3, 5, 0),
+        bytes: b"",
+        back: 0,
+        page: "",
+        cursor: (0, 0),
+        modes: NEW,
+        answer: b"",
+    };
+}
+
 /// Whether a row's bytes, split into two pieces at `cut`, give its result.
 fn is_so(alloc: Global, row: &Row, cut: usize) -> bool {
     let (first, second) = row.bytes.split_at(cut.min(row.bytes.len()));
@@ -54,12 +67,7 @@ fn is_so(alloc: Global, row: &Row, cut: usize) -> bool {
 
 /// Whether a row's bytes give its result, no matter where they are split into two pieces.
 pub fn is_so_at_each_cut(alloc: Global, row: &Row) -> bool {
-    for cut in 0..=row.bytes.len() {
-        if !is_so(alloc, row, cut) {
-            return false;
-        }
-    }
-    true
+    (0..=row.bytes.len()).all(|cut| is_so(alloc, row, cut))
 }
 
 /// Whether a text continues with a cell: `_` is a blank, and a right half has no character.
@@ -127,10 +135,8 @@ pub fn modes_of(emulator: &Emulator) -> [bool; 8] {
 /// Whether exactly the modes with these letters are set.
 fn has_modes(emulator: &Emulator, letters: &[u8]) -> bool {
     let modes = modes_of(emulator);
-    for place in 0..LETTERS.len() {
-        if letters.contains(&LETTERS[place]) != modes[place] {
-            return false;
-        }
-    }
-    true
+    LETTERS
+        .iter()
+        .zip(modes.iter())
+        .all(|(letter, is_set)| letters.contains(letter) == *is_set)
 }

@@ -1,6 +1,6 @@
 //! Pages after some bytes, and after changes of size.
 
-use crate::judging::{NEW, Row, Size, is_so_at_each_cut, read, shows};
+use crate::judging::{Row, Size, is_so_at_each_cut, read, shows};
 use cells::{Cell, GridFault, glyph_width};
 use emulator::Emulator;
 use std::alloc::Global;
@@ -240,21 +240,17 @@ static ROWS: [Shown; 41] = [
 ];
 
 fn first_wrong(alloc: Global) -> Option<usize> {
-    for (number, (size, back, bytes, page, cursor)) in ROWS.iter().enumerate() {
+    ROWS.iter().position(|(size, back, bytes, page, cursor)| {
         let row = Row {
             size: *size,
             bytes,
             back: *back,
             page,
             cursor: *cursor,
-            modes: NEW,
-            answer: b"",
+            ..Row::UNREAD
         };
-        if !is_so_at_each_cut(alloc, &row) {
-            return Some(number);
-        }
-    }
-    None
+        !is_so_at_each_cut(alloc, &row)
+    })
 }
 
 /// Whether an emulator reads these bytes 10,000 times.
@@ -306,12 +302,9 @@ static WIDTHS: [(char, u8); 11] = [
 ];
 
 fn have_widths() -> bool {
-    for (character, width) in &WIDTHS {
-        if glyph_width(*character) != *width {
-            return false;
-        }
-    }
-    true
+    WIDTHS
+        .iter()
+        .all(|(character, width)| glyph_width(*character) == *width)
 }
 
 static TEXTS: [(GridFault, &str, u8); 2] = [

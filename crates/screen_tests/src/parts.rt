@@ -20,12 +20,8 @@ fn letter_at(screen: &Screen, line: usize, column: usize) -> Option<char> {
 }
 
 fn has_line(screen: &Screen, line: usize, text: &[u8]) -> bool {
-    for column in 0..text.len() {
-        if letter_at(screen, line, column) != Some(text[column] as char) {
-            return false;
-        }
-    }
-    true
+    text.iter().enumerate().all(|(column, letter)| letter_at(screen, line, column)
+        == Some(*letter as char))
 }
 
 /// Whether a page of 2 lines by 5 columns shows seven letters, and the cursor after them.

@@ -195,39 +195,29 @@ static LARGE: [(&[u8], &[u8]); 5] = [
 ];
 
 fn first_wrong(alloc: Global) -> Option<usize> {
-    for (number, (bytes, page, cursor)) in ROWS.iter().enumerate() {
+    ROWS.iter().position(|(bytes, page, cursor)| {
         let row = Row {
-            size: SMALL,
             bytes,
-            back: 0,
             page,
             cursor: *cursor,
-            modes: NEW,
-            answer: b"",
+            ..Row::UNREAD
         };
-        if !is_so_at_each_cut(alloc, &row) {
-            return Some(number);
-        }
-    }
-    None
+        !is_so_at_each_cut(alloc, &row)
+    })
 }
 
 fn first_wrong_mode(alloc: Global) -> Option<usize> {
-    for (number, (bytes, page, cursor, modes, answer)) in MODES.iter().enumerate() {
+    MODES.iter().position(|(bytes, page, cursor, modes, answer)| {
         let row = Row {
-            size: SMALL,
             bytes,
-            back: 0,
             page,
             cursor: *cursor,
             modes,
             answer,
+            ..Row::UNREAD
         };
-        if !is_so_at_each_cut(alloc, &row) {
-            return Some(number);
-        }
-    }
-    None
+        !is_so_at_each_cut(alloc, &row)
+    })
 }
 
 fn are_answered(alloc: Global) -> bool {

@@ -98,12 +98,7 @@ fn are_counted(length: usize) -> bool {
 }
 
 fn first_wrong() -> Option<usize> {
-    for length in 0..=LONGEST {
-        if !are_counted(length) {
-            return Some(length);
-        }
-    }
-    None
+    (0..=LONGEST).find(|length| !are_counted(*length))
 }
 
 #[test]
