@@ -14,8 +14,8 @@ import time
 from pathlib import Path
 
 import peer
+from play import TOP, WORDS, run
 
-TOP = Path(__file__).resolve().parents[2]
 SITE = TOP / "contrib" / "web"
 WATCH = b"V"
 # Operations of RFC 6455.
@@ -68,17 +68,13 @@ def connected(address, seconds=20, buffer=None):
 def asked(address, request, seconds=20, pieces=False):
     """What answers some bytes, until the connection's end; pieces: they are sent byte by byte."""
     with connected(address, seconds) as it:
-        try:
+        with contextlib.suppress(ConnectionError):
             for part in [request[at : at + 1] for at in range(len(request))] if pieces else [request]:
                 it.sendall(part)
-        except ConnectionError:
-            pass
         got = b""
-        try:
+        with contextlib.suppress(ConnectionError):
             while data := it.recv(1 << 16):
                 got += data
-        except ConnectionError:
-            pass
     return got
 
 
@@ -286,6 +282,49 @@ class Bridge(peer.Program):
     def resident(self):
         """Its resident memory in MB."""
         return self.status("VmRSS") / 1024
+
+
+# ann may type, bob and wall may only read.
+USERS = (peer.OWNER, b"ann", b"bob", b"wall")
+RIGHTS = (b"multiuser on", b"aclumask ?-wx ??-x", b"aclchg ann,bob,wall +x detach,next,prev,scrollview",
+          b"aclumask bob,wall-w")
+
+
+class World(contextlib.AbstractContextManager):
+    """A server with its users, and a window whose program is the play, in a folder that goes with it."""
+
+    def __init__(self, window=True, users=USERS):
+        self.server = peer.Server(WORDS.muxd, users=users)
+        self.folder = self.server.folder.name
+        self.give_rights()
+        self.window = Window(self.server.path, peer.OWNER, peer.TOKEN, b"shell") if window else None
+        peer.write_private(f"{self.folder}/wall.token", peer.TOKEN + b"\n")
+        self.wall = ["--watch", "wall", "--watch-token", f"{self.folder}/wall.token"]
+
+    def give_rights(self):
+        for line in RIGHTS:
+            said, gone = self.server.give(line)
+            assert gone == 0, (line, said)
+
+    def __exit__(self, *_):
+        self.server.__exit__()
+
+    def bridge(self, *words, **more):
+        return Bridge(WORDS.mux_web, self.server.path, self.folder, words, **more)
+
+
+def draws_for(path, user, rows, cols):
+    """The draws that a client of muxd is sent, until none comes for half a second, and what they show by vtcat: the lines,
+    and where the cursor is."""
+    direct, draws = peer.admitted(path, peer.attach(user, peer.TOKEN, rows, cols)), b""
+    direct.socket.settimeout(0.5)
+    with contextlib.suppress(TimeoutError):
+        while (got := direct.next())[0]:
+            draws += got[1] * (got[0] == peer.DRAW)
+    direct.close()
+    done = run(WORDS.vtcat, "--rows", rows, "--cols", cols, input=draws, text=False, errors=None, check=True)
+    *lines, cursor = done.stdout.decode().removesuffix("\n").split("\n")
+    return [it[1:-1].rstrip(" ") for it in lines], cursor.split(" ")
 
 
 class Server:

@@ -42,15 +42,11 @@ class Browser(contextlib.AbstractContextManager):
                 time.sleep(0.1)
 
     def __exit__(self, *_):
-        try:
+        with contextlib.suppress(ProcessLookupError, subprocess.TimeoutExpired):
             os.killpg(self.program.pid, 15)
             self.program.wait(10)
-        except (ProcessLookupError, subprocess.TimeoutExpired):
-            pass
-        try:
+        with contextlib.suppress(ProcessLookupError):
             os.killpg(self.program.pid, 9)
-        except ProcessLookupError:
-            pass
         self.program.wait()
         time.sleep(0.2)
         shutil.rmtree(self.folder, ignore_errors=True)
@@ -167,8 +163,6 @@ class Tab(Document):
 
     def close(self):
         """Closes the tab without asking it."""
-        try:
+        with contextlib.suppress(RuntimeError, bridge.Closed, socket.timeout):
             self("Page.setInterceptFileChooserDialog", enabled=False)
-        except (RuntimeError, bridge.Closed, socket.timeout):
-            pass
         self.link.close()

@@ -3,6 +3,7 @@
 
 Needs perl.
 """
+import contextlib
 import os
 import random
 import socket
@@ -57,12 +58,10 @@ class Servers(Place):
     def end(self, last=b""):
         self.listener.close()
         self.listener = None
-        try:
+        with contextlib.suppress(OSError):
             self.peer.sendall(last)
             # a thread may be reading it
             self.peer.shutdown(socket.SHUT_RDWR)
-        except OSError:
-            pass
         self.peer.close()
         os.unlink(self.path)
 

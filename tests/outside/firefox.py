@@ -1,5 +1,6 @@
 """A headless Firefox, driven by its Marionette protocol with the standard library.  Nothing here judges."""
 import base64
+import contextlib
 import json
 import os
 import shutil
@@ -132,11 +133,9 @@ class Tab(Document):
         if self.link:
             self.link.close()
         for how in (signal.SIGTERM, signal.SIGKILL):
-            try:
+            with contextlib.suppress(ProcessLookupError, subprocess.TimeoutExpired):
                 os.killpg(self.program.pid, how)
                 self.program.wait(10)
-            except (ProcessLookupError, subprocess.TimeoutExpired):
-                pass
         self.program.wait()
         time.sleep(0.2)
         shutil.rmtree(self.folder, ignore_errors=True)

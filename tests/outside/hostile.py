@@ -1,6 +1,7 @@
 #!/usr/bin/env python3
 """One user without any right tries to end a session, to fill its memory and its disk, to take all seats, and to have
 done later what is denied now; and a guest who may only read tries the same."""
+import contextlib
 import os
 import select
 import socket
@@ -237,14 +238,12 @@ class Listener(threading.Thread):
 
     def run(self):
         rest = b""
-        try:
+        with contextlib.suppress(OSError):
             while piece := self.it.recv(1 << 16):
                 now, rest = time.monotonic(), rest + piece
                 while found := cut(rest):
                     kind, payload, rest = found
                     self.frames.append((now, kind, payload))
-        except OSError:
-            pass
 
     def typed(self):
         """What a window's program was sent."""

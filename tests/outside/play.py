@@ -203,10 +203,8 @@ def said(done):
 def processes(file="cmdline"):
     """The number of each process, and what a file of its folder in /proc has."""
     for number in filter(str.isdigit, os.listdir("/proc")):
-        try:
+        with contextlib.suppress(OSError):
             yield int(number), Path("/proc", number, file).read_bytes()
-        except OSError:
-            pass
 
 
 def stat_of(data):

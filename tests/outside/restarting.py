@@ -207,7 +207,7 @@ class Window(threading.Thread):
 
     def run(self):
         while not self.is_over:
-            try:
+            with contextlib.suppress(OSError):
                 while self.held:
                     time.sleep(0.02)
                 its = peer.Peer(self.session.socket, self.first, 3600)
@@ -218,8 +218,6 @@ class Window(threading.Thread):
                 planned = its.gone == 4 and os.path.exists(f"{self.session.socket}.again")
                 if self.is_once or its.gone in (0, 3) or its.gone == 4 and not planned:
                     break
-            except OSError:
-                pass
             time.sleep(0.05)
         self.is_over = True
 

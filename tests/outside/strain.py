@@ -1,5 +1,6 @@
 #!/usr/bin/env python3
 """A server under strain: peers that stop reading, strangers that say nothing, servers that start at once, its end."""
+import contextlib
 import os
 import select
 import shutil
@@ -132,10 +133,8 @@ def winding_up():
 
         def knock():
             while not stop.wait(0.019):
-                try:
+                with contextlib.suppress(OSError):
                     server.connect().close()
-                except OSError:
-                    pass
 
         knocker = threading.Thread(target=knock)
         knocker.start()
@@ -184,10 +183,8 @@ def at_once():
         for _ in range(4):
             it = socket.socket(socket.AF_UNIX)
             it.setblocking(False)
-            try:
+            with contextlib.suppress(BlockingIOError):
                 it.connect(path)
-            except BlockingIOError:
-                pass
             waiting.append(it)
         try:
             late = subprocess.run(words, capture_output=True, timeout=5)
@@ -222,10 +219,8 @@ def one_who_floods():
         while time.time() - begin < 20:
             if sent < 20 * (time.time() - begin):
                 sent += 1
-                try:
+                with contextlib.suppress(BlockingIOError):
                     client.send(many)
-                except BlockingIOError:
-                    pass
             if has_come(shell, 0.01):
                 typed += shell.recv(1 << 20).count(b"x")
             if has_come(client, 0):

@@ -30,7 +30,7 @@ import time
 sys.dont_write_bytecode = True
 import bridge
 from play import (CONTRIB, PROGRAMS, TOP, Pane, Tmux, add_account, check, end_account, kill, main, once, processes,
-                  program, run)
+                  program, read, run, write)
 
 SPAN = re.compile(r"`((?:C-a: |(?:mux|muxd|muxsim|vtcat|new-token|mux-[a-z-]+|muxd-wait|own|turn|make|sudo|loginctl"
                   r"|systemctl|tic) |rm -r )[^`]*)`")
@@ -47,8 +47,7 @@ def unescaped(line):
 
 def blocks_of(path):
     """The literal blocks of a text, each a list of lines."""
-    with open(path, encoding="utf-8") as file:
-        lines = file.read().split("\n")
+    lines = read(path).split("\n")
     blocks, block, inside, fence = [], [], False, False
     for line in lines:
         if not path.endswith(".md"):
@@ -90,8 +89,7 @@ class Text:
             if self.lines:
                 self.lines.append(None)
         self.lines = [line for line in self.lines if line]
-        with open(path, encoding="utf-8") as file:
-            self.whole = text = file.read()
+        self.whole = text = read(path)
         self.pictures = re.findall(r"```text\n(.*?)```\n", text, re.DOTALL)
         self.spans = []
         if name.endswith(".md"):
@@ -153,8 +151,7 @@ class Terminals:
 
     def prompts(self, name):
         """How many prompts the shell of a terminal made."""
-        with open(f"{self.folder}/{name}.done", encoding="ascii") as file:
-            return len(file.readlines())
+        return len(read(f"{self.folder}/{name}.done").splitlines())
 
     def page(self, name):
         """The lines of a terminal."""
@@ -367,8 +364,7 @@ def first_session(play):
 
 def readme(play):
     """README.md: a first session with the defaults."""
-    on = play.on
-    text = play.text
+    on, text = play.on, play.text
     text.leave("tests/outside/share plays it, with three accounts", "mux-share --give cole", "mux-share --take",
                "mux-join dana@host")
     text.leave("it builds; tests/outside/package plays what it gives", "make try-server", "make build",
@@ -452,8 +448,7 @@ class Accounts:
 
 def lesson(play, accounts):
     """TEACHING's lesson."""
-    on = play.on
-    text = play.text
+    on, text = play.on, play.text
     on.open("root")
     for line in ("useradd -m -s /bin/bash lab", "echo 'tess ALL = (lab) NOPASSWD: ALL' > /etc/sudoers.d/mux-lab",
                  "install -d -m 2750 -o tess -g class /srv/class"):
@@ -523,8 +518,7 @@ def browsers(play, accounts):
         play.run("tess", text.lines[0][0][2:])
     text.leave("tests/outside/browser plays it", "$ mux-user --users users --page $ORIGIN link ann")
     home = os.path.expanduser("~tess") if accounts.real else play.on.home
-    with open(os.path.join(home, "class/ann.token"), "rb") as file:
-        token = file.read().strip()
+    token = read(os.path.join(home, "class/ann.token")).strip().encode()
     path = play.real("/srv/class/web")
     until = time.time() + 20
     while not os.path.exists(path) and time.time() < until:
@@ -541,8 +535,7 @@ def browsers(play, accounts):
 
 def turns(play, accounts):
     """What a teacher types during the lesson: ann and bob are attached, and tess in the terminal `lesson`."""
-    on = play.on
-    text = play.text
+    on, text = play.on, play.text
 
     def denied(pane):
         on.type(pane, "x")
@@ -592,8 +585,7 @@ def again(play):
 
 def policies(play):
     """docs/POLICIES.md: each policy on a server of its own, and what its guests may not."""
-    on = play.on
-    text = play.text
+    on, text = play.on, play.text
     text.leave("it is played with docs/TEACHING.md", "mux-shell --title shop sudo -iu lab")
     text.leave("tests/outside/policies plays it, for a shorter time", "$ mux-guest --read shop --for 30m sue")
     text.leave("it needs podman, and fetches an image", "mux-shell --title shop podman run --rm -it debian bash")
@@ -705,8 +697,7 @@ def policies(play):
 
 def operating(play):
     """docs/OPERATING.md: what its units start is started by hand."""
-    on = play.on
-    text = play.text
+    on, text = play.on, play.text
     for path in ("var/lib/mux/ops", "etc/mux/ops", "run/mux/ops"):
         os.makedirs(os.path.join(on.far, path))
     for name in ("own", "ann", "bob", "wall"):
@@ -877,8 +868,7 @@ def web_page(play):
     on.type("ann", play.real(line[2:]) + "\n")
     on.shows("ann", r"^(\$ )?mux-web: ready")
     play.text.take(line)
-    with open(os.path.join(on.home, ".config/mux/ann.token"), "rb") as file:
-        token = file.read().strip()
+    token = read(os.path.join(on.home, ".config/mux/ann.token")).strip().encode()
     try:
         page = bridge.Page(8090, "http://127.0.0.1:8090", b"ann", token)
         page.until("0 shell")
@@ -986,9 +976,7 @@ def programs(folder):
         if it.is_file() and os.access(it.path, os.X_OK):
             os.symlink(it.path, f"{folder}/bin/{it.name}")
     shell = "setpriv --reuid=65534 --regid=65534 --clear-groups env HOME=/ sh" if os.getuid() == 0 else "sh"
-    with open(f"{folder}/bin/sudo", "w", encoding="ascii") as file:
-        file.write(f"#!/bin/sh\ncd /\nexec {shell}\n")
-    os.chmod(f"{folder}/bin/sudo", 0o755)
+    write(f"{folder}/bin/sudo", f"#!/bin/sh\ncd /\nexec {shell}\n", 0o755)
 
 
 def played(name):
