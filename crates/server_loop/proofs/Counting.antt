@@ -1,5 +1,5 @@
 -- When the entries of users end, after a step was counted or had to wait.
-use Rattle.server_loop.proofs.Vocabulary.{◌≡◌, ◌∙◌, ◌/◌, ℕ, Bool, true, Option, Some, ap, subst, as_nanos, UserId}
+use Rattle.server_loop.proofs.Vocabulary.{◌≡◌, ◌∙◌, ◌/◌, ℕ, Bool, true, Option, Some, ap, sym, subst, as_nanos, UserId}
 use Rattle.server_loop.proofs.Vocabulary.{EventValue, State, Submits, Stay, cost_of}
 use Rattle.std.specs.Prelude.{option_map, unwrap_or}
 use Rattle.std.specs.declared.time.Duration.{Duration}
@@ -8,7 +8,7 @@ use Rattle.server_steps.specs.Settling.{came_of}
 use Rattle.server_users.specs.Rationed.{MayCause, end_of, later_end}
 use Rattle.server_users.specs.declared.allowance.Outcome.{Outcome}
 use Rattle.server_users.specs.declared.ration.Rations.{Rations}
-use Rattle.server_loop.specs.Submitting.{Answer}
+use Rattle.server_loop.specs.Submitting.{Answer, after_step}
 use Rattle.server_loop.specs.Trying.{EndsAt, IsTried, end_at}
 
 -- the entries of the others end as before
@@ -47,6 +47,16 @@ module _ (user : UserId) (old new : Rations) where
     others = λ u no. ap (λ (o : Option ℕ). unwrap_or o 0) (others u no ∙ stay u no);
     period = period ∙ same;
   }
+
+module _ {S J : Type 0} (calls : Calls J) (event : EventValue) (old new : State S J) where
+  -- a step was made and noted
+  pub submitted : (answer : Answer) (seat : J) → calls.submits old.seat event answer seat
+      → new ≡ after_step event answer seat old → Submits calls event old answer new
+  submitted answer seat step is =
+      let same : new.seat ≡ seat = ap (λ (s : State S J). s.seat) is in (
+        subst (λ (s : J). calls.submits old.seat event answer s) (sym same) step,
+        subst (λ (s : J). new ≡ after_step event answer s old) (sym same) is,
+      )
 
 module _ {S J : Type 0} (calls : Calls J) (event : EventValue) (old new : State S J) (user : UserId) where
   -- what is counted of so many entries

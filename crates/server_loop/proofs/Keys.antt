@@ -30,47 +30,31 @@ module _ {S J : Type 0} (calls : Calls J)
     pub waiting : (waits : Bool) (new : State S J) → target_at (peer_at key old) ≡ Some target
         → Stops calls target old.seat is_full → WaitsFor calls key target is_full old waits new
         → MustWait calls key old waits new
-    waiting waits new some stops waits_for = match_some (target_at (peer_at key old)) target
-        ((waits ≡ false) × (new ≡ old))
-        (λ t. (full : Bool) × Stops calls t old.seat full
-        × WaitsFor calls key t full old waits new) some (is_full, stops, waits_for)
-
-    abbrev Asked : Bool → State S J → Type 0
-    Asked waits new = (may : Bool) × calls.lets_type old.seat target.user.user target.window may
-        × IfBool may ((waits ≡ is_full) × (new ≡ (if is_full then with_peer held_keys key old else old)))
-        ((waits ≡ false) × (new ≡ with_peer freed_keys key old))
+    waiting waits new some stops waits_for = match_some _ target _ _ some (is_full, stops, waits_for)
 
     pub unasked : (is_full || target.is_held) ≡ false → WaitsFor calls key target is_full old false old
-    unasked isnt = if_false (is_full || target.is_held) (Asked false old) ((false ≡ false) × (old ≡ old)) isnt
-        (refl, refl)
+    unasked isnt = if_false _ _ _ isnt (refl, refl)
 
     pub forbidden : (is_full || target.is_held) ≡ true → calls.lets_type old.seat target.user.user target.window false
         → WaitsFor calls key target is_full old false (with_peer freed_keys key old)
-    forbidden is lets = if_true (is_full || target.is_held) (Asked false (with_peer freed_keys key old))
-        ((false ≡ false) × (with_peer freed_keys key old ≡ old)) is (false, lets, (refl, refl))
+    forbidden is lets = if_true _ _ _ is (false, lets, (refl, refl))
 
     pub held_on : (is_full || target.is_held) ≡ true → calls.lets_type old.seat target.user.user target.window true
         → is_full ≡ true → WaitsFor calls key target is_full old is_full (with_peer held_keys key old)
-    held_on is lets full = if_true (is_full || target.is_held) (Asked is_full (with_peer held_keys key old))
-        ((is_full ≡ false) × (with_peer held_keys key old ≡ old)) is (
-          true,
-          lets,
-          (
+    held_on is lets full = if_true _ _ _ is (
+      true,
+      lets,
+      (
+        refl,
+        subst (λ (b : Bool). with_peer held_keys key old ≡ (if b then with_peer held_keys key old else old)) (sym full)
             refl,
-            subst (λ (b : Bool). with_peer held_keys key old ≡ (if b then with_peer held_keys key old else old))
-                (sym full)
-                refl,
-          ),
-        )
+      ),
+    )
 
     pub goes_on : (is_full || target.is_held) ≡ true → calls.lets_type old.seat target.user.user target.window true
         → is_full ≡ false → WaitsFor calls key target is_full old is_full old
-    goes_on is lets not_full = if_true (is_full || target.is_held) (Asked is_full old)
-        ((is_full ≡ false) × (old ≡ old)) is (
-          true,
-          lets,
-          (
-            refl,
-            subst (λ (b : Bool). old ≡ (if b then with_peer held_keys key old else old)) (sym not_full) refl,
-          ),
-        )
+    goes_on is lets not_full = if_true _ _ _ is (
+      true,
+      lets,
+      (refl, subst (λ (b : Bool). old ≡ (if b then with_peer held_keys key old else old)) (sym not_full) refl),
+    )

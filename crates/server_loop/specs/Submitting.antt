@@ -1,5 +1,5 @@
 -- What a loop submits.
-use Rattle.std.specs.Prelude.{◌≡◌, ℕ, Bool, true, List, Option, Some, None, Result, Ok, Err, vec_len}
+use Rattle.std.specs.Prelude.{◌≡◌, ℕ, Bool, true, List, Option, Result, vec_len}
 use Rattle.std.specs.declared.time.Duration.{Duration}
 use Rattle.slab.specs.Slab.{get}
 use Rattle.session.specs.Trace.{EventValue}
@@ -9,9 +9,9 @@ use Rattle.server_connections.specs.declared.peer.Peer.{Peer}
 use Rattle.server_seat.specs.declared.news.News.{News}
 use Rattle.server_seat.specs.declared.seat.SeatAnswer.{SeatAnswer}
 use Rattle.server_seat.specs.declared.seat.SeatFault.{SeatFault}
-use Rattle.server_seat.specs.declared.seat.SeatFault.TheVariants as fault
 use Rattle.server_seat.specs.declared.seat.ServerEnd.{ServerEnd}
 use Rattle.server_seat.specs.declared.seat.SessionSeat.{Ghosts as Calls}
+use Rattle.server_steps.specs.Ending.{end_by}
 use Rattle.server_steps.specs.Submitted.{noted}
 use Rattle.server_steps.specs.Telling.{filled_by, with_any, with_news}
 use Rattle.server_steps.specs.declared.submitted.Submitted.{Submitted}
@@ -69,11 +69,6 @@ state_of own = record {
   end = own.end;
   news = own.news;
 }
-
--- why the server is to end, after an answer
-abbrev pub end_by : Answer → Option ServerEnd → Option ServerEnd
-end_by (Err (fault.Over end)) was = Some end
-end_by other was = was
 
 module _ {S J : Type 0} where
   -- its peer

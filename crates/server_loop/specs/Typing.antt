@@ -1,5 +1,5 @@
 -- What clients type and how large their terminals are, and what the session is told of it. Times are in milliseconds.
-use Rattle.std.specs.Prelude.{◌≡◌, ◌⊎◌, ◌||◌, ◌/◌, ◌^◌, ◌-◌, ℕ, Bool, false, Option, Some, None}
+use Rattle.std.specs.Prelude.{◌≡◌, ◌||◌, ◌/◌, ◌^◌, ◌-◌, ℕ, Bool, false, Option, Some, None}
 use Rattle.std.specs.Prelude.{MatchOption, codes, if◌then◌else◌, min}
 use Rattle.std.specs.Duration.{as_nanos}
 use Rattle.std.specs.declared.time.Duration.{Duration}
@@ -9,23 +9,20 @@ use Rattle.server_connections.specs.declared.connections.Connections.{Connection
 use Rattle.server_sending.specs.Frames.{PutsMessage}
 use Rattle.server_sending.specs.Written.{Waiting}
 use Rattle.server_steps.specs.Settling.{Tried, is_judged, is_refused, progress_of, settled}
-use Rattle.server_steps.specs.Typing.{GathersAt, answered, freed_keys, held_keys, idle_at, is_all, is_news_at}
-use Rattle.server_steps.specs.Typing.{size_at, sized, strayed, target_at, told_news, typed_at, unless_more}
+use Rattle.server_steps.specs.Typing.{GathersAt, answered, freed_keys, held_keys, idle_at, is_news_at}
+use Rattle.server_steps.specs.Typing.{size_at, sized, target_at, told_news, typed_at, unless_more}
 use Rattle.server_steps.specs.Typing.{user_at, wants_size, with_typed}
 use Rattle.server_steps.specs.declared.progress.Progress.{Progress}
 use Rattle.server_steps.specs.declared.progress.Progress.TheVariants as made
-use Rattle.server_steps.specs.declared.typing.Gathered.{Gathered}
-use Rattle.server_steps.specs.declared.typing.Gathered.TheVariants as gathered
 use Rattle.server_steps.specs.declared.typing.Target.{Target}
 use Rattle.server_typing.specs.Typed.{Typed, is_idle, untyped}
-use Rattle.server_users.specs.declared.ration.Rations.{Rations}
 use Rattle.server_users.specs.declared.user.Shown.{Shown}
 use Rattle.server_seat.specs.declared.seat.SessionSeat.{Ghosts as Calls}
 use Rattle.server_loop.specs.Handing.{Faults, SendsTo}
 use Rattle.server_loop.specs.Leaving.{IfBool}
 use Rattle.server_loop.specs.Obeying.{SubmitsFor}
 use Rattle.server_loop.specs.Submitting.{State, peer_at, with_peer}
-use Rattle.server_loop.specs.Trying.{IsSpent, Stay, Tries}
+use Rattle.server_loop.specs.Trying.{Tries}
 
 -- the time of a turn
 abbrev pub millis_of : Duration → ℕ
@@ -86,31 +83,23 @@ module _ {S J : Type 0} (calls : Calls J) where
     pub progress_is : progress ≡ progress_of answer (settled answer (typed_at (peer_at key old)))
     pub left : FaultsIf (is_refused answer) key (judged_on answer (typed_at (peer_at key old)) progress key mid) new
 
-  -- If the user may cause no more entries now, the keys wait. Else they were tried.
-  abbrev pub JudgesFor : ℕ → ℕ → Shown → State S J → Progress → State S J → Type 0
-  JudgesFor key client shown old progress new = (IsSpent old.rations old.now shown.user × (progress ≡ made.Held)
-      × Stay shown.user old.rations new.rations × (new ≡ record old { rations = new.rations }))
-      ⊎ ((rations : Rations) × Stay shown.user old.rations rations
-      × JudgesKeys key client shown (record old { rations = rations }) progress new)
-
   -- for the user who showed their token
   abbrev pub Judges : ℕ → ℕ → State S J → Progress → State S J → Type 0
   Judges key client old progress new = MatchOption (user_at (peer_at key old))
       ((progress ≡ made.Done) × (new ≡ old))
-      (λ shown. JudgesFor key client shown old progress new)
+      (λ shown. JudgesKeys key client shown old progress new)
 
-  -- the keys that wait have to wait on for their window, or a step of them was made
-  abbrev pub JudgesUnlessFull : ℕ → ℕ → State S J → Progress → State S J → Type 0
-  JudgesUnlessFull key client old progress new = (waits : Bool) × (mid : State S J)
-      × MustWait key old waits mid
-      × IfBool waits ((progress ≡ made.Held) × (new ≡ mid))
-      ((judged : State S J) × Judges key client mid progress judged
-      × (new ≡ record judged { connections = strayed progress key judged.connections }))
+  -- they have to wait on for their window, or a step of them was made; while more is to be taken in, nothing is held
+  abbrev pub JudgesUnlessFull : ℕ → ℕ → Bool → State S J → Option Progress → State S J → Type 0
+  JudgesUnlessFull key client is_through old result new = (waits : Bool) × (mid : State S J) × MustWait key old waits mid
+      × IfBool waits ((result ≡ Some (unless_more is_through made.Held)) × (new ≡ mid))
+      ((progress : Progress) × Judges key client mid progress new × (result ≡ Some (unless_more is_through progress)))
 
   -- or they wait for a size that waits
-  abbrev pub JudgesOrWaits : ℕ → ℕ → State S J → Progress → State S J → Type 0
-  JudgesOrWaits key client old progress new = IfBool (wants_size (peer_at key old))
-      ((progress ≡ made.Held) × (new ≡ old)) (JudgesUnlessFull key client old progress new)
+  abbrev pub JudgesOrWaits : ℕ → ℕ → Bool → State S J → Option Progress → State S J → Type 0
+  JudgesOrWaits key client is_through old result new = IfBool (wants_size (peer_at key old))
+      ((result ≡ Some (unless_more is_through made.Held)) × (new ≡ old))
+      (JudgesUnlessFull key client is_through old result new)
 
   -- a size and dropped keys were told, and if keys wait, a step of them was made or they wait on
   abbrev pub TypesOn : ℕ → ℕ → ℕ → Bool → State S J → Option Progress → State S J → Type 0
@@ -118,17 +107,16 @@ module _ {S J : Type 0} (calls : Calls J) where
       × Resizes now key client old resized × TellsDropped now key resized mid
       × IfBool (is_idle (typed_at (peer_at key mid)))
       ((result ≡ idle_at is_through (peer_at key mid)) × (new ≡ mid))
-      ((progress : Progress) × JudgesOrWaits key client mid progress new
-      × (result ≡ Some (unless_more is_through progress)))
+      (JudgesOrWaits key client is_through mid result new)
 
-  abbrev pub TypesBy : Gathered → ℕ → ℕ → ℕ → State S J → Option Progress → State S J → Type 0
-  TypesBy gathered.Shut now key client old result new = (result ≡ None) × (new ≡ old)
-  TypesBy gathered.NoMemory now key client old result new =
-      (result ≡ Some made.Done) × Faults calls key old new
-  TypesBy is_through now key client old result new = TypesOn now key client (is_all is_through) old result new
+  -- if the connection is read, and there was memory
+  abbrev pub TypesBy : Option (Option Bool) → ℕ → ℕ → ℕ → State S J → Option Progress → State S J → Type 0
+  TypesBy None now key client old result new = (result ≡ Some made.Done) × Faults calls key old new
+  TypesBy (Some None) now key client old result new = (result ≡ None) × (new ≡ old)
+  TypesBy (Some (Some is_through)) now key client old result new = TypesOn now key client is_through old result new
 
   -- keys and sizes that came were taken in, and done as far as they may be
   abbrev pub Types : ℕ → ℕ → ℕ → State S J → Option Progress → State S J → Type 0
-  Types now key client old result new = (by : Gathered) × (taken : Connections S)
-      × GathersAt now key old.connections by taken
-      × TypesBy by now key client (record old { connections = taken }) result new
+  Types now key client old result new = (far : Option (Option Bool)) × (taken : Connections S)
+      × GathersAt now key old.connections far taken
+      × TypesBy far now key client (record old { connections = taken }) result new

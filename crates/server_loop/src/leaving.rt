@@ -7,7 +7,7 @@ ghost use Rattle.server_steps.specs.Meaning.{role_at};
 ghost use Rattle.server_steps.specs.Telling.{misfit, with_any};
 ghost use Rattle.server_connections.specs.Changing.{changed, told_to_go};
 ghost use Rattle.server_loop.specs.Handing.{Faults};
-ghost use Rattle.server_loop.specs.Leaving.{Detaches, Expels, LeavesBy, Loses, TellsLeaving, TriesLeaving, leaving};
+ghost use Rattle.server_loop.specs.Leaving.{Detaches, Expels, Loses, TellsLeaving, TriesLeaving, leaving};
 ghost use Rattle.server_loop.specs.Naming.{NamesNobody};
 ghost use Rattle.server_loop.specs.Submitting.{state_of};
 ghost use Rattle.server_loop.specs.Turning.{Expires, Finishes, LetsOldestGo, PartsWith, Settles, TellsFull};
@@ -35,11 +35,13 @@ impl<S: PeerStream + Drop, G: Gate + Drop, J: SessionSeat + Drop> Loop<S, G, J> 
         }
     }
 
-    // Tells the session by this event that a connection left it.
-    fn tell_by(&mut self, rt: &impl Wait, key: usize, event: Event) -> bool
-        requires { NamesNobody (happening event) }
-        ensures { LeavesBy J.SessionSeat (happening event.entry) key (state_of self.old) result (state_of self.new) }
+    // Tells the session that a connection left it, if it did. Without memory for that it answers false, for now.
+    pub(crate) fn tell_leaving(&mut self, rt: &impl Wait, key: usize) -> bool
+        ensures { TellsLeaving J.SessionSeat key (state_of self.old) result (state_of self.new) }
     {
+        let Some(event) = self.leaving(key) else {
+            return true;
+        };
         match self.submit(rt, event) {
             Ok(_) => {
                 self.connections.note_gone(key);
@@ -53,16 +55,6 @@ impl<S: PeerStream + Drop, G: Gate + Drop, J: SessionSeat + Drop> Loop<S, G, J> 
                 self.has_refused = true;
                 false
             }
-        }
-    }
-
-    // Tells the session that a connection left it, if it did. Without memory for that it answers false, for now.
-    pub(crate) fn tell_leaving(&mut self, rt: &impl Wait, key: usize) -> bool
-        ensures { TellsLeaving J.SessionSeat key (state_of self.old) result (state_of self.new) }
-    {
-        match self.leaving(key) {
-            Some(event) => self.tell_by(rt, key, event),
-            None => true,
         }
     }
 

@@ -3,9 +3,9 @@
 ghost use Rattle.std.specs.Prelude.{◌≡◌, ◌++◌, IfSome, None, OnOk, Contains, length, unwrap_or};
 ghost use Rattle.slab.specs.Slab.{get};
 ghost use Rattle.session.specs.Texts.{text_of};
-ghost use Rattle.session.specs.Trace.{Output, happening};
-ghost use Rattle.server_inbox.specs.Asking.{advanced, piece_of};
-ghost use Rattle.server_loop.specs.Beginning.{Answers, Attempts, Begins, BeginsAs, Commands, Enters, IsShown, Joins};
+ghost use Rattle.session.specs.Trace.{happening};
+ghost use Rattle.server_inbox.specs.Asking.{advanced};
+ghost use Rattle.server_loop.specs.Beginning.{Answers, Begins, Commands, Enters, IsShown, Joins};
 ghost use Rattle.server_loop.specs.Beginning.{LetsIn, SaysDone, SendsAway, TurnsAway, known_of, too_many};
 ghost use Rattle.server_loop.specs.Naming.{IsOf, NamesNobody};
 ghost use Rattle.server_loop.specs.Obeying.{FollowsUp, ObeysBy, Prints, SubmitsFor, printed};
@@ -89,30 +89,17 @@ impl<S: PeerStream + Drop, G: Gate + Drop, J: SessionSeat + Drop> Loop<S, G, J> 
         self.follow_up(rt, key, &answer);
     }
 
-    // Submits the next piece of a window's output. Returns how many bytes it has.
-    fn submit_piece(&mut self, rt: &impl Wait, key: usize, window: u32, asked: &Asked) -> usize
-        ensures step { SubmitsFor J.SessionSeat (Output window (piece_of asked.now.message asked.now.done)) key
-            (state_of self.old) (state_of self.new) }
-        ensures count { result ≡ length (piece_of asked.now.message asked.now.done) }
-    {
-        let bytes = asked.piece();
-        self.change(rt, key, Event::Output { window, bytes });
-        bytes.len()
-    }
-
     // A step takes a piece of a window's output.
     fn output(&mut self, rt: &impl Wait, key: usize, window: u32, asked: &mut Asked) -> Progress
         ensures step { Prints J.SessionSeat window asked.old key (state_of self.old) (state_of self.new) }
         ensures asked { asked.new ≡ advanced asked.old }
         ensures progress { result ≡ printed asked.new }
     {
-        let taken = self.submit_piece(rt, key, window, asked);
+        let bytes = asked.piece();
+        let taken = bytes.len();
+        self.change(rt, key, Event::Output { window, bytes });
         self.reading.output_left = self.reading.output_left.saturating_sub(taken);
-        if asked.note_done(taken) {
-            Progress::Done
-        } else {
-            Progress::Part
-        }
+        Progress::by(asked.note_done(taken))
     }
 
     // The users who may connect by now.
@@ -168,47 +155,17 @@ impl<S: PeerStream + Drop, G: Gate + Drop, J: SessionSeat + Drop> Loop<S, G, J> 
         if !may_judge(self.looked, &self.connections, key) {
             return Progress::Held;
         }
-        match self.user_of(name, token) {
-            Some(user) => self.begin_as(rt, key, user, message),
-            None => {
-                self.tell(News::WrongToken);
-                self.turn_away(rt, key, UNKNOWN);
-                Progress::Done
-            }
-        }
-    }
-
-    fn begin_as(&mut self, rt: &impl Wait, key: usize, user: Shown, message: &Message) -> Progress
-        ensures { BeginsAs J.SessionSeat user message.now key (state_of self.old) result (state_of self.new) }
-    {
+        let Some(user) = self.user_of(name, token) else {
+            self.tell(News::WrongToken);
+            self.turn_away(rt, key, UNKNOWN);
+            return Progress::Done;
+        };
         let Some(event) = event_of(user, message) else {
             return Progress::Done;
         };
         match kind_of(message) {
             Some(kind) => self.join(rt, Newcomer { key, user, kind }, event),
             None => self.command(rt, key, user, event),
-        }
-    }
-
-    // Tries an event for its user. Without an answer the user has to wait, or the connection is told to go.
-    fn attempt(
-        &mut self,
-        rt: &impl Wait,
-        key: usize,
-        user: Shown,
-        event: Event,
-    ) -> Result<SeatAnswer, Progress>
-        requires { IsOf user.user (happening event) }
-        ensures { Attempts J.SessionSeat user.user (happening event.entry) key
-            (state_of self.old) result (state_of self.new) }
-    {
-        match self.try_for(rt, user, event) {
-            Ok(Some(answer)) => Ok(answer),
-            Ok(None) => Err(Progress::Held),
-            Err(fault) => {
-                self.dismiss(key, fault.why());
-                Err(Progress::Done)
-            }
         }
     }
 
@@ -227,14 +184,19 @@ impl<S: PeerStream + Drop, G: Gate + Drop, J: SessionSeat + Drop> Loop<S, G, J> 
             self.say_too_many(rt, newcomer, most);
             return Progress::Done;
         }
-        match self.attempt(rt, key, user, event) {
-            Ok(answer) => {
+        match self.try_for(rt, user, event) {
+            Ok(Some(answer)) => {
                 self.enter(rt, newcomer, &answer.reply);
                 Progress::Done
             }
-            Err(progress) => {
+            Ok(None) => {
                 self.seat.remove(rt, user.user(), kind);
-                progress
+                Progress::Held
+            }
+            Err(fault) => {
+                self.dismiss(key, fault.why());
+                self.seat.remove(rt, user.user(), kind);
+                Progress::Done
             }
         }
     }
@@ -275,13 +237,17 @@ impl<S: PeerStream + Drop, G: Gate + Drop, J: SessionSeat + Drop> Loop<S, G, J> 
             self.dismiss(key, Why::Fault);
             return Progress::Done;
         };
-        match self.attempt(rt, key, user, event) {
-            Ok(answer) => {
+        match self.try_for(rt, user, event) {
+            Ok(Some(answer)) => {
                 self.tell(news_of(user, &answer.reply));
                 self.tell_answer(rt, key, &answer.reply, is_quit);
                 Progress::Done
             }
-            Err(progress) => progress,
+            Ok(None) => Progress::Held,
+            Err(fault) => {
+                self.dismiss(key, fault.why());
+                Progress::Done
+            }
         }
     }
 

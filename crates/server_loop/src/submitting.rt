@@ -4,48 +4,38 @@ ghost use Rattle.std.specs.Prelude.{◌≡◌};
 ghost use Rattle.session.specs.Trace.{happening};
 ghost use Rattle.server_steps.specs.Submitted.{nothing_submitted};
 ghost use Rattle.server_loop.specs.Naming.{IsOf, NamesNobody};
-ghost use Rattle.server_loop.specs.Submitting.{Submits, end_by, state_of};
+ghost use Rattle.server_loop.specs.Submitting.{Submits, after_step, state_of};
 ghost use Rattle.server_loop.specs.Trying.{Tries};
 
 use crate::own::Loop;
 use server_connections::{SeatAnswer, SeatFault, SessionSeat};
-use server_steps::{Gate, Submitted, came_of, entries_of, filled_by, kept_of};
+use server_steps::{Gate, Submitted, came_of, end_by, entries_of, filled_by, kept_of};
 use server_users::{Shown, UNIT, price};
 use session::Event;
 use std::sync::Wait;
 
 impl<S: Drop, G: Gate + Drop, J: SessionSeat + Drop> Loop<S, G, J> {
-    /// Submits an event that names no user.
+    /// Submits an event that names no user: one step, or none if it is refused.
     pub(crate) fn submit(&mut self, rt: &impl Wait, event: Event) -> Result<SeatAnswer, SeatFault>
         requires { NamesNobody (happening event) }
-        ensures { Submits J.SessionSeat (happening event.entry) (state_of self.old) result (state_of self.new) }
-    {
-        self.submit_any(rt, event)
-    }
-
-    // Submits an event to the session: one step, or none if it is refused. Notes how the server ends, if it does.
-    fn submit_any(&mut self, rt: &impl Wait, event: Event<'_>) -> Result<SeatAnswer, SeatFault>
         ensures { Submits J.SessionSeat (happening event.entry) (state_of self.old) result (state_of self.new) }
     {
         self.gate.before();
         let answer = self.seat.submit(rt, event);
         self.gate.after();
-        self.is_behind = true;
-        self.submitted.note(event);
-        self.news.put_any(filled_by(&answer));
-        self.note_end(&answer);
+        self.note_step(event, &answer);
         answer
     }
 
-    // Notes how the server ends, if it does.
-    fn note_end(&mut self, answer: &Result<SeatAnswer, SeatFault>)
-        ensures { state_of self.new ≡ record (state_of self.old) { end = end_by answer.now self.old.end } }
+    // Notes that an event was submitted, what is to be told of its answer, and how the server ends, if it does.
+    fn note_step(&mut self, event: Event<'_>, answer: &Result<SeatAnswer, SeatFault>)
+        ensures { state_of self.new
+            ≡ after_step (happening event.entry) answer.now self.old.seat (state_of self.old) }
     {
-        match answer {
-            Ok(_) => {}
-            Err(SeatFault::Over(end)) => self.end = Some(*end),
-            Err(SeatFault::NoMemory) => {}
-        }
+        self.is_behind = true;
+        self.submitted.note(event);
+        self.news.put_any(filled_by(answer));
+        self.end = end_by(answer, self.end);
     }
 
     /// Tries a step for a user who showed their token, and counts what comes of it. There is no answer yet
@@ -69,9 +59,12 @@ impl<S: Drop, G: Gate + Drop, J: SessionSeat + Drop> Loop<S, G, J> {
             return Ok(None);
         }
         self.rations.count(user, self.now, cost / UNIT);
-        let answer = self.submit_any(rt, event);
-        self.seat.settle(rt, user, cost, came_of(&answer));
-        match answer {
+        self.gate.before();
+        let tried = self.seat.submit(rt, event);
+        self.gate.after();
+        self.note_step(event, &tried);
+        self.seat.settle(rt, user, cost, came_of(&tried));
+        match tried {
             Ok(answer) => Ok(Some(answer)),
             Err(fault) => Err(fault),
         }

@@ -2,17 +2,15 @@
 
 ghost use Rattle.std.specs.Prelude.{◌≡◌};
 ghost use Rattle.server_loop.specs.Submitting.{state_of};
-ghost use Rattle.server_loop.specs.Typing.{FaultsIf, Judges, JudgesKeys, JudgesOrWaits, MustWait, Resizes};
-ghost use Rattle.server_loop.specs.Typing.{Stops, TellsDropped, Types, TypesOn, millis_of};
+ghost use Rattle.server_loop.specs.Typing.{FaultsIf, Judges, MustWait, Resizes, Stops, TellsDropped, Types};
+ghost use Rattle.server_loop.specs.Typing.{millis_of};
 
 use crate::own::Loop;
 use server_connections::{PeerStream, Sending, SessionSeat};
 use server_steps::{
-    Gate, Gathered, Progress, Target, answer_keys, free_keys, free_strayed, gather, has_keys,
-    hold_keys, idle_at, is_judged, is_refused, next_size, take_keys, take_news, target_at, user_at,
-    wants_size,
+    Gate, Progress, Target, answer_keys, free_keys, gather, has_keys, hold_keys, idle_at,
+    is_judged, is_refused, next_size, take_keys, take_news, target_at, user_at, wants_size,
 };
-use server_users::Shown;
 use session::Event;
 use std::sync::Wait;
 
@@ -32,30 +30,27 @@ impl<S: PeerStream + Drop, G: Gate + Drop, J: SessionSeat + Drop> Loop<S, G, J> 
             (state_of self.old) result (state_of self.new) }
     {
         let now = self.millis();
-        match gather(&mut self.connections, key, now) {
-            Gathered::Shut => None,
-            Gathered::NoMemory => {
-                self.fault(rt, key);
-                Some(Progress::Done)
-            }
-            Gathered::More => self.type_on(rt, key, client, false),
-            Gathered::All => self.type_on(rt, key, client, true),
-        }
-    }
-
-    // Does what a client's keys and sizes ask for that were taken in: all that came next, or some.
-    fn type_on(&mut self, rt: &impl Wait, key: usize, client: u32, all: bool) -> Option<Progress>
-        ensures { TypesOn J.SessionSeat (millis_of self.old.now) key client
-            all (state_of self.old) result (state_of self.new) }
-    {
-        let now = self.millis();
+        let Ok(gathered) = gather(&mut self.connections, key, now) else {
+            self.fault(rt, key);
+            return Some(Progress::Done);
+        };
+        let Some(is_through) = gathered else {
+            return None;
+        };
         self.resize(rt, key, client, now);
         self.say_dropped(rt, key, now);
         if !has_keys(&self.connections, key) {
-            return idle_at(&self.connections, key, all);
+            return idle_at(&self.connections, key, is_through);
         }
-        let progress = self.judge_or_wait(rt, key, client);
-        Some(progress.unless_more(all))
+        // A size that was told before them changes first.
+        if wants_size(&self.connections, key) {
+            return Some(Progress::Held.unless_more(is_through));
+        }
+        if self.must_wait(rt, key) {
+            return Some(Progress::Held.unless_more(is_through));
+        }
+        let progress = self.judge(rt, key, client);
+        Some(progress.unless_more(is_through))
     }
 
     // Tells the session the last size that a client told, if it may change now.
@@ -91,7 +86,7 @@ impl<S: PeerStream + Drop, G: Gate + Drop, J: SessionSeat + Drop> Loop<S, G, J> 
         self.seat.is_full(rt, target.window)
     }
 
-    // Whether the keys that wait have to wait on. If their user may not type any more, none wait.
+    // Whether the keys that wait have to wait on for their window. If their user may not type any more, none wait.
     fn must_wait(&mut self, rt: &impl Wait, key: usize) -> bool
         ensures { MustWait J.SessionSeat key (state_of self.old) result (state_of self.new) }
     {
@@ -112,39 +107,13 @@ impl<S: PeerStream + Drop, G: Gate + Drop, J: SessionSeat + Drop> Loop<S, G, J> 
         is_full
     }
 
-    // Does a step of the keys that wait, unless they have to wait on: for a size that was told before them, or for
-    // their window. Keys that were held and can't be done are as old as they are if it isn't known where they go.
-    fn judge_or_wait(&mut self, rt: &impl Wait, key: usize, client: u32) -> Progress
-        ensures { JudgesOrWaits J.SessionSeat key client (state_of self.old) result (state_of self.new) }
-    {
-        if wants_size(&self.connections, key) {
-            return Progress::Held;
-        }
-        if self.must_wait(rt, key) {
-            return Progress::Held;
-        }
-        let progress = self.judge(rt, key, client);
-        free_strayed(&mut self.connections, key, progress);
-        progress
-    }
-
-    // Submits a step of the keys that wait, up to the first command, if their user may cause one more entry.
+    // Submits a step of the keys that wait, up to the first command, for their user. They wait on if the user has to.
     fn judge(&mut self, rt: &impl Wait, key: usize, client: u32) -> Progress
         ensures { Judges J.SessionSeat key client (state_of self.old) result (state_of self.new) }
     {
         let Some(shown) = user_at(&self.connections, key) else {
             return Progress::Done;
         };
-        if !self.rations.may(shown.user(), self.now) {
-            return Progress::Held;
-        }
-        self.judge_for(rt, key, client, shown)
-    }
-
-    // Submits the keys that wait for a user who showed their token.
-    fn judge_for(&mut self, rt: &impl Wait, key: usize, client: u32, shown: Shown) -> Progress
-        ensures { JudgesKeys J.SessionSeat key client shown (state_of self.old) result (state_of self.new) }
-    {
         let typed = take_keys(self.alloc, &mut self.connections, key);
         let bytes = typed.keys();
         let answer = self.try_for(rt, shown, Event::Keys { client, bytes });

@@ -1,6 +1,6 @@
 -- How connections end, and the server.
 use Rattle.std.specs.Prelude.{◌≡◌, ◌⊎◌, ◌+◌, ◌<◌, ◌≤◌, ℕ, zero, suc, Bool, false, Option, Some, None, IfSome}
-use Rattle.std.specs.Prelude.{if◌then◌else◌, is_some, nat_le}
+use Rattle.std.specs.Prelude.{Err, Result, if◌then◌else◌, is_some, nat_le}
 use Rattle.std.specs.Duration.{as_nanos}
 use Rattle.std.specs.declared.time.Duration.{Duration}
 use Rattle.attach_proto.specs.declared.why.Why.{Why}
@@ -20,6 +20,9 @@ use Rattle.server_connections.specs.declared.peer.Role.{Role}
 use Rattle.server_connections.specs.declared.peer.Role.TheVariants as role
 use Rattle.server_connections.specs.declared.peer_stream.PeerStream.{Ghosts as Streams}
 use Rattle.server_seat.specs.declared.news.Guest.{Guest}
+use Rattle.server_seat.specs.declared.seat.SeatAnswer.{SeatAnswer}
+use Rattle.server_seat.specs.declared.seat.SeatFault.{SeatFault}
+use Rattle.server_seat.specs.declared.seat.SeatFault.TheVariants as fault
 use Rattle.server_seat.specs.declared.seat.ServerEnd.{ServerEnd}
 use Rattle.server_seat.specs.declared.seat.ServerEnd.TheVariants as cause
 use Rattle.server_steps.specs.Sending.{IsWrittenOut}
@@ -28,6 +31,11 @@ use Rattle.server_steps.specs.Sending.{IsWrittenOut}
 abbrev pub end_after : Reason → Option ServerEnd → Option ServerEnd
 end_after reason.Quit end = Some cause.Quit
 end_after other end = end
+
+-- after an answer to a step
+abbrev pub end_by : Result SeatAnswer SeatFault → Option ServerEnd → Option ServerEnd
+end_by (Err (fault.Over end)) was = Some end
+end_by other was = was
 
 -- if nothing is written to the trail's file any more, as at a full trail
 abbrev pub full_if : Bool → Option ServerEnd

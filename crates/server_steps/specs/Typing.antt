@@ -1,8 +1,7 @@
 -- The keys and the size of one connection, before and after a step of them. Times are in milliseconds.
 use Rattle.std.specs.Prelude.{◌≡◌, ◌&&◌, ◌||◌, ℕ, Bool, true, false, Option, Some, None, is_none, is_some}
-use Rattle.std.specs.Prelude.{if◌then◌else◌}
+use Rattle.std.specs.Prelude.{if◌then◌else◌, unwrap_or}
 use Rattle.slab.specs.Slab.{get}
-use Rattle.server_connections.specs.Changing.{changed}
 use Rattle.server_connections.specs.Lending.{touched}
 use Rattle.server_connections.specs.Peers.{is_open}
 use Rattle.server_connections.specs.Streaming.{Gathers}
@@ -16,8 +15,6 @@ use Rattle.server_users.specs.declared.user.Shown.{Shown}
 use Rattle.server_steps.specs.Settling.{Tried, progress_of, settled, window_after}
 use Rattle.server_steps.specs.declared.progress.Progress.{Progress}
 use Rattle.server_steps.specs.declared.progress.Progress.TheVariants as progress
-use Rattle.server_steps.specs.declared.typing.Gathered.{Gathered}
-use Rattle.server_steps.specs.declared.typing.Gathered.TheVariants as gathered
 use Rattle.server_steps.specs.declared.typing.Target.{Target}
 
 -- a user types into this window, as far as it is known
@@ -34,17 +31,6 @@ target_in window user t = None
 abbrev pub unless_more : Bool → Progress → Progress
 unless_more false progress.Held = progress.Part
 unless_more is_through p = p
-
--- no more keys or sizes are there
-abbrev pub is_all : Gathered → Bool
-is_all gathered.More = false
-is_all other = true
-
--- whether no more are there, if there was memory
-abbrev pub far_of : Gathered → Option Bool
-far_of gathered.All = Some true
-far_of gathered.More = Some false
-far_of other = None
 
 module _ {S : Type 0} where
   -- a connection is there, and is read
@@ -65,11 +51,11 @@ module _ {S : Type 0} where
   user_at None = None
   user_at (Some peer) = peer.user
 
-  -- keys and sizes that come next were taken in, into the connection of a key and into no other
-  abbrev pub GathersAt : ℕ → ℕ → Connections S → Gathered → Connections S → Type 0
-  GathersAt now key old gathered.Shut new = (is_open_at (get old.peers key) ≡ false) × (new ≡ old)
-  GathersAt now key old by new = (peer : Peer S) × (left : Peer S) × (get old.peers key ≡ Some peer)
-      × (is_open peer.stage ≡ true) × Gathers now peer (far_of by) left × (new ≡ touched old key left)
+  -- keys and sizes that come next were taken in, into the connection of a key and into no other, unless it isn't read
+  abbrev pub GathersAt : ℕ → ℕ → Connections S → Option (Option Bool) → Connections S → Type 0
+  GathersAt now key old (Some None) new = (is_open_at (get old.peers key) ≡ false) × (new ≡ old)
+  GathersAt now key old far new = (peer : Peer S) × (left : Peer S) × (get old.peers key ≡ Some peer)
+      × (is_open peer.stage ≡ true) × Gathers now peer (unwrap_or far None) left × (new ≡ touched old key left)
 
   -- the size that is to be told now
   abbrev pub size_at : ℕ → Option (Peer S) → Option (ℕ × ℕ)
@@ -107,13 +93,9 @@ module _ {S : Type 0} where
   abbrev pub strayed_keys : Peer S → Peer S
   strayed_keys peer = if is_none peer.types_into then freed_keys peer else peer
 
-  abbrev pub strayed : Progress → ℕ → Connections S → Connections S
-  strayed progress.Held key s = changed strayed_keys key s
-  strayed p key s = s
-
-  -- these keys are left, and the next ones go into this window; if they are held that doesn't change
+  -- these keys are left, and the next ones go into this window; if they wait on that doesn't change
   abbrev pub put_keys : Typed → Option ℕ → Progress → Peer S → Peer S
-  put_keys t window progress.Held peer = with_typed t peer
+  put_keys t window progress.Held peer = strayed_keys (with_typed t peer)
   put_keys t window p peer = record (with_typed t peer) { types_into = window }
 
   -- it after the answer to a step of these keys

@@ -4,12 +4,14 @@ ghost use Rattle.std.specs.Prelude.{◌≡◌, ◌+◌, ◌<◌, ◌≤◌, ◌^
 ghost use Rattle.slab.specs.Slab.{get};
 ghost use Rattle.server_connections.specs.Changing.{changed};
 ghost use Rattle.server_connections.specs.Life.{without_guest};
-ghost use Rattle.server_steps.specs.Ending.{EachKey, FinishesAt, IsOldest, end_after, expired, fullness_at};
+ghost use Rattle.server_steps.specs.Ending.{EachKey, FinishesAt, IsOldest, end_after, end_by, expired, fullness_at};
 ghost use Rattle.server_steps.specs.Ending.{full_if, gone_at, looks_at, new_below, new_number, older, parted, seen_at};
 ghost use Rattle.server_steps.specs.Ending.{told_full};
 
 use attach_proto::Why;
-use server_connections::{Awaits, Connections, Guest, Peer, PeerStream, Role, ServerEnd};
+use server_connections::{
+    Awaits, Connections, Guest, Peer, PeerStream, Role, SeatAnswer, SeatFault, ServerEnd,
+};
 use session::Reason;
 use std::time::Duration;
 
@@ -19,6 +21,16 @@ pub fn end_after(reason: Reason, end: Option<ServerEnd>) -> Option<ServerEnd>
 {
     match reason {
         Reason::Quit => Some(ServerEnd::Quit),
+        _ => end,
+    }
+}
+
+/// Why the server is to end, after the answer to a step.
+pub fn end_by(answer: &Result<SeatAnswer, SeatFault>, end: Option<ServerEnd>) -> Option<ServerEnd>
+    ensures { result ≡ end_by answer.now end }
+{
+    match answer {
+        Err(SeatFault::Over(end)) => Some(*end),
         _ => end,
     }
 }

@@ -17,8 +17,8 @@ pub use asking::{
     put_back, read,
 };
 pub use ending::{
-    count_new, end_after, expire, finish, full_if, oldest_new, quit_if, set_look, take_fullness,
-    take_guest,
+    count_new, end_after, end_by, expire, finish, full_if, oldest_new, quit_if, set_look,
+    take_fullness, take_guest,
 };
 pub use meaning::{
     Meaning, event_of, guest_of, is_extra, kind_of, make_guest, many_of, may_judge, meaning_of,
@@ -30,6 +30,6 @@ pub use sending::{cut_off, drop_typed, is_laggard, typist_after, wanting, write}
 pub use submitted::{Gate, Open, Submitted, entries_of, is_quit, kept_of};
 pub use turns::{Pending, Reads, Writes, drawn_from, next_from};
 pub use typing::{
-    Gathered, Target, answer_keys, free_keys, free_strayed, gather, has_keys, hold_keys, idle_at,
-    is_open_at, next_size, take_keys, take_news, target_at, user_at, wants_size,
+    Target, answer_keys, free_keys, gather, has_keys, hold_keys, idle_at, is_open_at, next_size,
+    take_keys, take_news, target_at, user_at, wants_size,
 };

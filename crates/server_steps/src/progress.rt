@@ -22,6 +22,19 @@ pub enum Progress {
     Held,
 }
 
+impl Progress {
+    /// Of a message or of keys of which nothing is left, or some.
+    pub fn by(is_done: bool) -> Progress
+        ensures { result ≡ (if is_done then Progress.Done else Progress.Part) }
+    {
+        if is_done {
+            Progress::Done
+        } else {
+            Progress::Part
+        }
+    }
+}
+
 // How many keys were judged.
 fn taken_of(reply: &Reply) -> usize
     ensures { result ≡ taken_of reply.now }
@@ -58,11 +71,7 @@ fn leave(typed: &mut Typeahead, taken: usize) -> Progress
         taken
     };
     typed.judge(count);
-    if typed.is_empty() {
-        Progress::Done
-    } else {
-        Progress::Part
-    }
+    Progress::by(typed.is_empty())
 }
 
 /// What the answer to a step of keys makes of these.

@@ -1,31 +1,20 @@
 //! The keys and the size of one connection, before and after a step of them. Times are in milliseconds.
 
 ghost use Rattle.std.specs.Prelude.{◌≡◌, ◌||◌, not};
+ghost use Rattle.std.specs.Result.{result_ok};
 ghost use Rattle.slab.specs.Slab.{get};
 ghost use Rattle.server_connections.specs.Changing.{changed};
 ghost use Rattle.server_typing.specs.Typed.{is_idle, untyped};
 ghost use Rattle.server_steps.specs.Settling.{progress_of, settled};
 ghost use Rattle.server_steps.specs.Typing.{GathersAt, answered, freed_keys, held_keys, idle_at};
-ghost use Rattle.server_steps.specs.Typing.{is_news_at, is_open_at, size_at, sized, strayed, target_at};
+ghost use Rattle.server_steps.specs.Typing.{is_news_at, is_open_at, size_at, sized, target_at};
 ghost use Rattle.server_steps.specs.Typing.{put_keys, told_news, typed_at, unless_more, user_at};
 ghost use Rattle.server_steps.specs.Typing.{wants_size, with_typed};
 
 use crate::progress::{Progress, settle, window_after};
 use server_connections::{Connections, SeatAnswer, SeatFault, Size, Typeahead};
 use server_users::Shown;
-use std::alloc::Global;
-
-/// What came of taking in keys and sizes.
-#[derive(Clone, Copy)]
-pub enum Gathered {
-    /// The connection isn't read.
-    Shut,
-    NoMemory,
-    /// More are there.
-    More,
-    /// No more are there.
-    All,
-}
+use std::alloc::{AllocError, Global};
 
 /// Where the keys go that wait for a connection, as far as that is known.
 #[derive(Clone, Copy)]
@@ -68,20 +57,24 @@ pub fn is_open_at<S: Drop>(connections: &Connections<S>, key: usize) -> bool
     }
 }
 
-/// Takes in keys and sizes of a connection that come next, if it is read.
-pub fn gather<S: Drop>(connections: &mut Connections<S>, key: usize, now: u64) -> Gathered
-    ensures { GathersAt now key connections.old result connections.new }
+/// Takes in keys and sizes of a connection that come next. Returns whether no more are there; None if the
+/// connection isn't read.
+pub fn gather<S: Drop>(
+    connections: &mut Connections<S>,
+    key: usize,
+    now: u64,
+) -> Result<Option<bool>, AllocError>
+    ensures { GathersAt now key connections.old (result_ok result) connections.new }
 {
     if !is_open_at(connections, key) {
-        return Gathered::Shut;
+        return Ok(None);
     }
     let Some(peer) = connections.touch(key) else {
-        return Gathered::Shut;
+        return Ok(None);
     };
     match peer.gather(now) {
-        Ok(true) => Gathered::All,
-        Ok(false) => Gathered::More,
-        Err(_) => Gathered::NoMemory,
+        Ok(is_through) => Ok(Some(is_through)),
+        Err(error) => Err(error),
     }
 }
 
@@ -184,22 +177,6 @@ pub fn free_keys<S: Drop>(connections: &mut Connections<S>, key: usize)
     }
 }
 
-/// Keys that wait on are as old as they are if it isn't known where they go.
-pub fn free_strayed<S: Drop>(connections: &mut Connections<S>, key: usize, progress: Progress)
-    ensures { connections.new ≡ strayed progress key connections.old }
-{
-    match progress {
-        Progress::Held => {
-            if let Some(peer) = connections.touch(key) {
-                if peer.types_into.is_none() {
-                    peer.inbox.typed.let_go();
-                }
-            }
-        }
-        _ => {}
-    }
-}
-
 /// The user of a connection who showed their token.
 pub fn user_at<S: Drop>(connections: &Connections<S>, key: usize) -> Option<Shown>
     ensures { result ≡ user_at (get connections.now.peers key) }
@@ -221,7 +198,7 @@ pub fn take_keys<S: Drop>(alloc: Global, connections: &mut Connections<S>, key: 
     }
 }
 
-// Puts keys back, and notes where the next ones go.
+// Puts keys back, and notes where the next ones go. Those that wait on are as old as they are if that isn't known.
 fn put_keys<S: Drop>(
     connections: &mut Connections<S>,
     key: usize,
@@ -235,6 +212,8 @@ fn put_keys<S: Drop>(
         peer.inbox.typed = typed;
         if progress != Progress::Held {
             peer.types_into = window;
+        } else if peer.types_into.is_none() {
+            peer.inbox.typed.let_go();
         }
     }
 }

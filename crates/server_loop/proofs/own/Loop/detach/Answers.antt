@@ -1,5 +1,4 @@
-use Rattle.server_loop.proofs.Vocabulary.{◌≡◌, true, false, refl, subst, rules, Fault, Connections, Expels}
-use Rattle.server_loop.proofs.Vocabulary.{TellsLeaving, state_of}
+use Rattle.server_loop.proofs.Vocabulary.{◌≡◌, true, false, refl, subst, rules, Connections, TellsLeaving, state_of}
 use Rattle.server_loop.proofs.Telling.{if_false, if_true}
 use Rattle.server_loop.proofs.own.Loop.detach.Goals as goal
 
@@ -11,9 +10,7 @@ returns-then-tell_leaving g c =
       subst (λ (s : Connections g.row.S.Denot). TellsLeaving g.J.SessionSeat c.args.key
           (record (state_of c.args.self.now) { connections = s }) c.tell_leaving.result
           (state_of c.tell_leaving.new.self)) c.ask_to_go.ensures c.tell_leaving.ensures,
-      if_true c.tell_leaving.result (state_of c.tell_leaving.new.self ≡ state_of c.tell_leaving.new.self)
-          (Expels g.J.SessionSeat Fault c.args.key (state_of c.tell_leaving.new.self)
-          (state_of c.tell_leaving.new.self)) yes refl,
+      if_true _ _ _ yes refl,
     )
 
 pub returns : goal.returns
@@ -24,7 +21,5 @@ returns g c =
       subst (λ (s : Connections g.row.S.Denot). TellsLeaving g.J.SessionSeat c.args.key
           (record (state_of c.args.self.now) { connections = s }) c.tell_leaving.result
           (state_of c.tell_leaving.new.self)) c.ask_to_go.ensures c.tell_leaving.ensures,
-      if_false c.tell_leaving.result (state_of c.expel.new.self ≡ state_of c.tell_leaving.new.self)
-          (Expels g.J.SessionSeat Fault c.args.key (state_of c.tell_leaving.new.self)
-          (state_of c.expel.new.self)) no c.expel.ensures,
+      if_false _ _ _ no c.expel.ensures,
     )

@@ -1,26 +1,52 @@
-use Rattle.server_loop.proofs.Vocabulary.{◌≡◌, ◌∙◌, ℕ, Option, None, false, refl, sym, subst, inr, codes, UserId, get}
-use Rattle.server_loop.proofs.Vocabulary.{happening, Done, TurnsAway, state_of}
-use Rattle.std.proofs.Common.{◌⊎◌}
-use Rattle.server_steps.specs.Meaning.{is_extra_at}
-use Rattle.server_loop.specs.Beginning.{HasMost, IsCounted}
+use Rattle.server_loop.proofs.Vocabulary.{◌≡◌, ◌∙◌, ℕ, Option, None, false, refl, sym, subst, inl, inr, UserId, Why}
+use Rattle.server_loop.proofs.Vocabulary.{Dismisses, Ok, happening, state_of}
+use Rattle.server_seat.specs.declared.seat.SeatAnswer.{SeatAnswer}
+use Rattle.server_loop.specs.Trying.{Tries}
+use Rattle.server_loop.proofs.Begun.{dismissed}
 use Rattle.server_loop.proofs.Telling.{if_false}
 use Rattle.server_loop.proofs.own.Loop.join.Goals as goal
 
-pub returns-in-Ok : goal.returns-in-Ok
-returns-in-Ok g c =
+pub returns-in-Ok-Some : goal.returns-in-Ok-Some
+returns-in-Ok-Some g c =
     let J = g.J.SessionSeat in
     let by = c.args.newcomer in
-    let old = state_of c.args.self.now in
-    let new = state_of c.enter.new.self in
-    let extra : is_extra_at (get c.args.self.now.connections.peers by.key) ≡ false =
-    sym c.is_extra.ensures ∙ c.if-is_extra.false in
     let counted : J.counts c.args.self.now.seat by.user.user by.kind None = subst
     (λ (user : UserId). J.counts c.args.self.now.seat user by.kind None) c.user.ensures (subst
     (λ (most : Option ℕ). J.counts c.args.self.now.seat c.user.result by.kind most) c.in_default.is
     c.add.ensures) in
-    if_false (is_extra_at (get c.args.self.now.connections.peers by.key))
-    ((Done ≡ Done) × TurnsAway J (codes "the server has no room for more connections") by.key old new)
-    (HasMost J by.user by.kind by.key old Done new
-    ⊎ IsCounted J by.user by.kind (happening c.args.event) by.key old Done new)
-    extra
-    (inr (counted, inr (refl, c.in-Ok.answer, state_of c.attempt.new.self, c.in-Ok.ensures, c.enter.ensures)))
+    if_false _ _ _ (sym c.is_extra.ensures ∙ c.if-is_extra.false)
+    (inr (
+      counted,
+      inr (
+        refl,
+        c.in-Ok-Some.answer,
+        state_of c.try_for.new.self,
+        subst (λ (o : Option SeatAnswer). Tries J by.user.user (happening c.args.event) (state_of c.args.self.now) (Ok o)
+            (state_of c.try_for.new.self)) c.in-Ok-Some.field-0-is c.in-Ok-Some.ensures,
+        c.enter.ensures,
+      ),
+    ))
+
+pub returns-in-Err : goal.returns-in-Err
+returns-in-Err g c =
+    let J = g.J.SessionSeat in
+    let by = c.args.newcomer in
+    let counted : J.counts c.args.self.now.seat by.user.user by.kind None = subst
+    (λ (user : UserId). J.counts c.args.self.now.seat user by.kind None) c.user.ensures (subst
+    (λ (most : Option ℕ). J.counts c.args.self.now.seat c.user.result by.kind most) c.in_default.is
+    c.add.ensures) in
+    let mid = state_of c.try_for.new.self in
+    let new = state_of c.dismiss.new.self in
+    if_false _ _ _ (sym c.is_extra.ensures ∙ c.if-is_extra.false) (inr (
+      counted,
+      inl (
+        (
+          c.in-Err.fault,
+          mid,
+          c.in-Err.ensures,
+          subst (λ (w : Why). Dismisses w by.key mid new) c.why.ensures
+              (dismissed c.why.result by.key c.try_for.new.self c.dismiss.new.self c.dismiss.ensures),
+        ),
+        subst (λ (user : UserId). J.uncounts new.seat user by.kind) c.user-in-Err.ensures c.remove-in-Err.ensures,
+      ),
+    ))

@@ -1,20 +1,15 @@
-use Rattle.server_loop.proofs.Vocabulary.{◌∙◌, ◌-◌, ℕ, ap, state_of}
+use Rattle.server_loop.proofs.Vocabulary.{◌∙◌, ◌-◌, ℕ, List, ap, subst, state_of}
+use Rattle.std.proofs.Common.{length}
+use Rattle.session.specs.Trace.{Output}
+use Rattle.server_loop.specs.Obeying.{SubmitsFor}
 use Rattle.server_loop.proofs.own.Loop.output.Goals as goal
 
-pub returns-then-note_done-clause-step : goal.returns-then-note_done-clause-step
-returns-then-note_done-clause-step g c =
-    let mid = state_of c.submit_piece-taken.new.self in (
+pub returns-clause-step : goal.returns-clause-step
+returns-clause-step g c =
+    let mid = state_of c.change.new.self in (
       mid,
-      c.submit_piece-taken.ensures.step,
+      subst (λ (bytes : List ℕ). SubmitsFor g.J.SessionSeat (Output c.args.window bytes) c.args.key
+          (state_of c.args.self.now) mid) c.piece-bytes.ensures c.change.ensures,
       ap (λ (n : ℕ). record mid { output_left = n }) (c.saturating_sub-self.ensures
-          ∙ ap (λ (n : ℕ). mid.output_left - n) c.submit_piece-taken.ensures.count),
-    )
-
-pub returns-else-note_done-clause-step : goal.returns-else-note_done-clause-step
-returns-else-note_done-clause-step g c =
-    let mid = state_of c.submit_piece-taken.new.self in (
-      mid,
-      c.submit_piece-taken.ensures.step,
-      ap (λ (n : ℕ). record mid { output_left = n }) (c.saturating_sub-self.ensures
-          ∙ ap (λ (n : ℕ). mid.output_left - n) c.submit_piece-taken.ensures.count),
+          ∙ ap (λ (bytes : List ℕ). mid.output_left - length bytes) c.piece-bytes.ensures),
     )

@@ -1,6 +1,5 @@
-use Rattle.server_loop.proofs.Vocabulary.{◌≡◌, ◌∙◌, Bool, false, not, refl, sym, subst, rules, peer_at, state_of}
+use Rattle.server_loop.proofs.Vocabulary.{◌≡◌, ◌∙◌, Bool, false, not, refl, sym, subst, rules, state_of}
 use Rattle.server_connections.specs.declared.peer_stream.Arrival.{Arrival}
-use Rattle.server_steps.specs.Asking.{has_asked_at}
 use Rattle.server_loop.specs.Serving.{ObeysSome, ServesAfter, with_much}
 use Rattle.server_loop.proofs.Telling.{if_false}
 use Rattle.server_loop.proofs.own.Loop.serve_after.Goals as goal
@@ -10,11 +9,8 @@ returns-then-not-has_asked g c =
     let J = g.J.SessionSeat in
     let no : c.has_asked.result ≡ false = search rules in
     let old = state_of c.args.self.now in
-    subst (λ (arrival : Arrival). ServesAfter J arrival c.args.key old false
-    old) (sym c.in-Nothing.is)
-    (if_false (has_asked_at (peer_at c.args.key old))
-    (ObeysSome J c.args.key old false old)
-    ((false ≡ false) × (old ≡ old)) (sym c.has_asked.ensures ∙ no) (refl, refl))
+    subst (λ (arrival : Arrival). ServesAfter J arrival c.args.key old false old) (sym c.in-Nothing.is)
+    (if_false _ _ _ (sym c.has_asked.ensures ∙ no) (refl, refl))
 
 pub returns-in-Much : goal.returns-in-Much
 returns-in-Much g c =

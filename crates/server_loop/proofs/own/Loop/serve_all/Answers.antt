@@ -1,6 +1,6 @@
 use Rattle.server_loop.proofs.Vocabulary.{◌≡◌, ℕ, Bool, true, false, is_some, refl, rules, state_of, Loop}
 use Rattle.std.proofs.Common.{nat_le, nat_lt}
-use Rattle.server_loop.specs.Serving.{ServesOther, ServesWindow, ServesWindows}
+use Rattle.server_loop.specs.Serving.{ServesOther, ServesWindow}
 use Rattle.server_loop.proofs.Passing.{passed}
 use Rattle.server_loop.proofs.Telling.{if_false, if_true}
 use Rattle.server_loop.proofs.own.Loop.serve_all.Goals as goal
@@ -11,10 +11,7 @@ returns-then-is_some g c = (
   passed (λ (l : Loop g.row.S.Denot g.row.G.Denot g.row.J.Denot). state_of l)
       (ServesOther g.J.SessionSeat g.S.PeerStream) _ _ _ _ _ _ c.each_awake.ensures
       (λ shown left key p. search rules),
-  if_true (is_some c.each_awake.new.holder.draws.from)
-      (state_of c.each_awake.new.holder ≡ state_of c.each_awake.new.holder)
-      (ServesWindows g.J.SessionSeat g.S.PeerStream (state_of c.each_awake.new.holder)
-      (state_of c.each_awake.new.holder)) (search rules) refl,
+  if_true (is_some c.each_awake.new.holder.draws.from) _ _ (search rules) refl,
 )
 
 pub returns : goal.returns
@@ -23,18 +20,15 @@ returns g c = (
   passed (λ (l : Loop g.row.S.Denot g.row.G.Denot g.row.J.Denot). state_of l)
       (ServesOther g.J.SessionSeat g.S.PeerStream) _ _ _ _ _ _ c.each_awake.ensures
       (λ shown left key p. search rules),
-  if_false (is_some c.each_awake.new.holder.draws.from)
-      (state_of c.each_awake-3.new.holder ≡ state_of c.each_awake.new.holder)
-      (ServesWindows g.J.SessionSeat g.S.PeerStream (state_of c.each_awake.new.holder)
-      (state_of c.each_awake-3.new.holder)) (search rules) (
-        state_of c.each_awake-2.new.holder,
-        passed (λ (l : Loop g.row.S.Denot g.row.G.Denot g.row.J.Denot). state_of l)
-            (λ (key : ℕ). ServesWindow g.J.SessionSeat g.S.PeerStream
-            (nat_le c.each_awake.new.holder.reading.next key) key) _ _ _ _ _ _ c.each_awake-2.ensures
-            (λ shown left key p. search rules),
-        passed (λ (l : Loop g.row.S.Denot g.row.G.Denot g.row.J.Denot). state_of l)
-            (λ (key : ℕ). ServesWindow g.J.SessionSeat g.S.PeerStream
-            (nat_lt key c.each_awake.new.holder.reading.next) key) _ _ _ _ _ _ c.each_awake-3.ensures
-            (λ shown left key p. search rules),
-      ),
+  if_false (is_some c.each_awake.new.holder.draws.from) _ _ (search rules) (
+    state_of c.each_awake-2.new.holder,
+    passed (λ (l : Loop g.row.S.Denot g.row.G.Denot g.row.J.Denot). state_of l)
+        (λ (key : ℕ). ServesWindow g.J.SessionSeat g.S.PeerStream
+        (nat_le c.each_awake.new.holder.reading.next key) key) _ _ _ _ _ _ c.each_awake-2.ensures
+        (λ shown left key p. search rules),
+    passed (λ (l : Loop g.row.S.Denot g.row.G.Denot g.row.J.Denot). state_of l)
+        (λ (key : ℕ). ServesWindow g.J.SessionSeat g.S.PeerStream
+        (nat_lt key c.each_awake.new.holder.reading.next) key) _ _ _ _ _ _ c.each_awake-3.ensures
+        (λ shown left key p. search rules),
+  ),
 )

@@ -3,7 +3,7 @@ use Rattle.server_loop.proofs.Vocabulary.{subst, rules, as_nanos, UserId, happen
 use Rattle.std.proofs.Common.{◌*◌}
 use Rattle.server_steps.specs.Submitted.{entries_of}
 use Rattle.server_loop.specs.Trying.{HasToWait}
-use Rattle.server_loop.proofs.Counting.{begun, counted, stayed, tried}
+use Rattle.server_loop.proofs.Counting.{begun, counted, stayed, submitted, tried}
 use Rattle.server_loop.proofs.own.Loop.try_for.Goals as goal
 
 pub returns-then-not-may : goal.returns-then-not-may
@@ -48,11 +48,13 @@ returns-in-Ok g c =
     let cost : c.price-cost.result ≡ cost_of event = c.price-cost.ensures
     ∙ ap (λ (n : ℕ). 1000 * (n + min c.kept_of.result 65535 / 128)) c.entries_of.ensures
     ∙ ap (λ (n : ℕ). 1000 * (entries_of event + min n 65535 / 128)) c.kept_of.ensures in
-    tried g.J.SessionSeat event old (state_of c.submit_any-answer.new.self) user c.args.shown.user c.user-user.ensures
+    let step = submitted g.J.SessionSeat event (record old { rations = c.count.new.self }) (state_of c.note_step.new.self)
+    c.submit-tried.result c.submit-tried.new.self c.submit-tried.ensures.step c.note_step.ensures in
+    tried g.J.SessionSeat event old (state_of c.note_step.new.self) user c.args.shown.user c.user-user.ensures
     c.price-cost.result cost c.pay.result paid c.pay.ensures (c.may.ensures.may yes) c.count.new.self
     (counted user old.rations c.count.new.self (as_nanos old.now) (c.price-cost.result / 1000) c.may.new.self
     (c.may.ensures.own yes) c.may.ensures.others c.may.ensures.period c.count.ensures.own c.count.ensures.others
-    c.count.ensures.period) c.submit_any-answer.result c.submit_any-answer.ensures c.came_of.result
+    c.count.ensures.period) c.submit-tried.result step c.came_of.result
     c.came_of.ensures c.settle.ensures (Ok c.in-Ok.answer) c.in-Ok.is
 
 pub returns-in-Err : goal.returns-in-Err
@@ -65,9 +67,11 @@ returns-in-Err g c =
     let cost : c.price-cost.result ≡ cost_of event = c.price-cost.ensures
     ∙ ap (λ (n : ℕ). 1000 * (n + min c.kept_of.result 65535 / 128)) c.entries_of.ensures
     ∙ ap (λ (n : ℕ). 1000 * (entries_of event + min n 65535 / 128)) c.kept_of.ensures in
-    tried g.J.SessionSeat event old (state_of c.submit_any-answer.new.self) user c.args.shown.user c.user-user.ensures
+    let step = submitted g.J.SessionSeat event (record old { rations = c.count.new.self }) (state_of c.note_step.new.self)
+    c.submit-tried.result c.submit-tried.new.self c.submit-tried.ensures.step c.note_step.ensures in
+    tried g.J.SessionSeat event old (state_of c.note_step.new.self) user c.args.shown.user c.user-user.ensures
     c.price-cost.result cost c.pay.result paid c.pay.ensures (c.may.ensures.may yes) c.count.new.self
     (counted user old.rations c.count.new.self (as_nanos old.now) (c.price-cost.result / 1000) c.may.new.self
     (c.may.ensures.own yes) c.may.ensures.others c.may.ensures.period c.count.ensures.own c.count.ensures.others
-    c.count.ensures.period) c.submit_any-answer.result c.submit_any-answer.ensures c.came_of.result
+    c.count.ensures.period) c.submit-tried.result step c.came_of.result
     c.came_of.ensures c.settle.ensures (Err c.in-Err.fault) c.in-Err.is
