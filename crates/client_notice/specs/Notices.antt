@@ -21,6 +21,10 @@ IsNew text n = (n.text.items ≡ noted text) × (n.stage ≡ stage.New)
 abbrev pub TellsMore : List ℕ → Notice → Type 0
 TellsMore text n = (meaning : List ℕ) × IsNew (text ++ meaning) n
 
+-- how many lines the view was moved back, and how to come back
+abbrev pub scrolled : ℕ → List ℕ
+scrolled back = decimal back ++ codes " lines back; Shift-PgDn or Alt-PgDn: forward, other keys: to the end"
+
 -- a text of the server, which no status line has
 abbrev pub is_of_server : List ℕ → Bool
 is_of_server text =

@@ -19,7 +19,7 @@ const KEYS: [&str; 18] = [
     "C-a X, C-a Q    remove this region, keep only this one",
     "C-a a           type C-a",
     "C-a :           prompt: fit, title TEXT, scrollview N, wall TEXT ..",
-    "Shift-PgUp      scroll back (Shift-PgDn: forward, other keys: to the end)",
+    "Shift-PgUp      scroll back, also Alt-PgUp (PgDn: forward, others: to the end)",
     "",
     "denied: w ..    you may look and not type; who may is up to the owner",
     "Any key comes back.",

@@ -2,8 +2,9 @@
 
 ghost use Rattle.std.specs.Prelude.{◌≡◌, ◌⊎◌, ◌↔◌, [], IsTrue, true, false, IfOk, OnErr, OnOk};
 ghost use Rattle.client_notice.specs.Notices.{IsBeginning, IsNew, IsToShow, PutsLine, TellsMore, is_of_server, turned};
+ghost use Rattle.client_notice.specs.Notices.{scrolled};
 
-use client_words::{PeerFault, put_visible};
+use client_words::put_visible;
 use program_words::explain;
 use std::alloc::{AllocError, Global};
 use std::io::Write;
@@ -69,12 +70,12 @@ fn is_of_server(text: &[u8]) -> bool
 }
 
 // What a refusal by number means, for a client with texts of its own.
-fn meaning_of(alloc: Global, text: &str, assists: bool) -> Result<Vec<u8>, PeerFault>
+fn meaning_of(alloc: Global, text: &str, assists: bool) -> Result<Vec<u8>, AllocError>
     ensures { assists ≡ false → IfOk result (λ meaning. meaning.items ≡ []) }
 {
     let mut meaning = Vec::new(alloc);
-    if assists {
-        explain(text, "", &mut meaning)?;
+    if assists && explain(text, "", &mut meaning).is_err() {
+        return Err(AllocError);
     }
     if !meaning.is_empty() {
         meaning.extend_from_slice(b": C-a ? shows the keys")?;
@@ -111,7 +112,7 @@ impl Notice {
 
     /// Takes a text that came after the client was let in. One of the session stands on the status
     /// line, too; for a client with texts of its own, the meaning of a refusal by number is shown beside it.
-    pub fn hear_later(&mut self, alloc: Global, text: &str, assists: bool) -> Result<(), PeerFault>
+    pub fn hear_later(&mut self, alloc: Global, text: &str, assists: bool) -> Result<(), AllocError>
         ensures server { is_of_server text.now ≡ true → OnOk result (TellsMore text.now self.new) }
         ensures other { OnOk result ((self.new ≡ self.old) ⊎ TellsMore text.now self.new) }
         ensures err { OnErr result (self.new ≡ self.old) }
@@ -123,21 +124,18 @@ impl Notice {
         let mut said = Vec::new(alloc);
         said.extend_from_slice(text.as_bytes())?;
         said.extend_from_slice(&meaning)?;
-        self.notify(alloc, &said)?;
-        Ok(())
+        self.notify(alloc, &said)
     }
 
     /// Says how many lines the view was scrolled back, and how to come back.
-    pub fn tell_scrolled(&mut self, alloc: Global, back: u16) -> Result<(), PeerFault>
+    pub fn tell_scrolled(&mut self, alloc: Global, back: u16) -> Result<(), AllocError>
+        ensures ok { OnOk result (IsNew (scrolled back) self.new) }
         ensures err { OnErr result (self.new ≡ self.old) }
     {
-        let mut text = Vec::new(alloc);
-        write!(
-            text,
-            "{back} lines back; Shift-PgDn goes forward, any other key to the end"
+        let text = format!(in alloc;
+            "{back} lines back; Shift-PgDn or Alt-PgDn: forward, other keys: to the end"
         )?;
-        self.notify(alloc, &text)?;
-        Ok(())
+        self.notify(alloc, text.as_bytes())
     }
 
     /// What is to be done for the text at this time, in milliseconds. `is_free`: it can be shown, since no draw is
@@ -176,15 +174,16 @@ impl Notice {
         rows: u16,
         columns: u16,
         out: &mut Vec<u8>,
-    ) -> Result<(), PeerFault>
+    ) -> Result<(), AllocError>
         ensures ok { OnOk result (PutsLine self.now.text.items rows columns out.old.items out.new.items) }
         ensures err { OnErr result (out.new.items ≡ out.old.items) }
     {
         let mut line = Vec::new(alloc);
-        write!(line, "\x1b7\x1b[{rows};1H\x1b[0;7m")?;
+        if write!(line, "\x1b7\x1b[{rows};1H\x1b[0;7m").is_err() {
+            return Err(AllocError);
+        }
         line.extend_from_slice(cut(&self.text, usize::from(columns).saturating_sub(1)))?;
         line.extend_from_slice(b"\x1b[m\x1b[K\x1b8")?;
-        out.extend_from_slice(&line)?;
-        Ok(())
+        out.extend_from_slice(&line)
     }
 }

@@ -1,6 +1,7 @@
 -- What a peer hears, message after message.
 use Rattle.std.proofs.Common.{◌≡◌, ◌∙◌, List, [], ◌∷◌, ◌++◌, ℕ, ◌+◌, ◌<◌, length, take, drop, get_or, length-append}
-use Rattle.std.proofs.Common.{Option, Some, None, Result, Ok, Err, option_map, refl, sym, ap, subst, arith}
+use Rattle.std.proofs.Common.{Option, Some, None, IsSome, Result, Ok, Err, option_map, refl, sym, ap, subst, arith}
+use Rattle.std.proofs.Common.{◌⊎◌, inl, inr, MatchOption, append_assoc}
 use Rattle.std.proofs.lemmas.List.{take_more, take-append-drop}
 use Rattle.std.proofs.lemmas.Option.{none-some}
 use Rattle.attach_proto.specs.declared.fault.ProtoFault.{ProtoFault}
@@ -8,11 +9,13 @@ use Rattle.attach_proto.specs.declared.fault.ProtoFault.TheVariants.{NoMemory}
 use Rattle.attach_proto.specs.declared.message.Message.{Message}
 use Rattle.attach_proto.specs.declared.message.Message.TheVariants.{Gone}
 use Rattle.attach_proto.specs.declared.why.Why.{Why}
-use Rattle.attach_proto.specs.Streams.{Reading, TakesPiece}
+use Rattle.attach_proto.specs.Streams.{Answers, Reading, TakesPiece}
 use Rattle.client_words.specs.declared.fault.PeerFault.{PeerFault}
+use Rattle.client_words.specs.declared.fault.PeerFault.TheVariants.{NoServerOfOurs}
 use Rattle.client_peer.specs.declared.peer.Peer.{Peer}
 use Rattle.client_peer.specs.Ending.{end_for}
 use Rattle.client_peer.specs.Hearing.{Hears, HearsAll, HearsFirst, HearsRead, next, gone_in}
+use Rattle.client_peer.specs.Failing.{FailsAfter, FailsAt, FailsBy, FailsRead}
 
 -- only by GONE the server lets the peer go
 why_or : Why → Option Why → Why
@@ -24,14 +27,31 @@ unfolding why_or
 gone_is (Gone w) why e = ap Gone (sym (ap (why_or why) e))
 gone_is _ why e = absurd (none-some why (sym e))
 
-module _ (old middle new : Peer) (messages : List Message) (i : ℕ) (m : Message) (few : i < length messages)
-    (is : get_or messages i m ≡ m) (all : HearsAll old (take i messages) middle) (one : Hears middle m new) where
+module _ (old middle : Peer) (messages : List Message) (i : ℕ) (m : Message) (few : i < length messages)
+    (is : get_or messages i m ≡ m) (all : HearsAll old (take i messages) middle) where
   more : take (i + 1) messages ≡ take i messages ++ m ∷ []
   more = take_more messages i m few ∙ ap (λ (x : Message). take i messages ++ x ∷ []) is
 
+  -- it isn't heard
+  pub fails_at : (e : PeerFault) → FailsBy middle m e → FailsAt old messages e
+  fails_at e f = record {
+    heard = take i messages;
+    at = m;
+    later = drop (i + 1) messages;
+    middle = middle;
+    whole =
+        sym (take-append-drop (i + 1) messages) ∙ ap (λ (l : List Message). l ++ drop (i + 1) messages) more
+        ∙ append_assoc (take i messages) (m ∷ []) (drop (i + 1) messages);
+    hears = all;
+    fails = f;
+  }
+
+module _ (old middle new : Peer) (messages : List Message) (i : ℕ) (m : Message) (few : i < length messages)
+    (is : get_or messages i m ≡ m) (all : HearsAll old (take i messages) middle) (one : Hears middle m new) where
   -- one message more
   pub heard_more : HearsAll old (take (i + 1) messages) new
-  heard_more = subst (λ (ms : List Message). HearsAll old ms new) (sym more) (next m all one)
+  heard_more =
+      subst (λ (ms : List Message). HearsAll old ms new) (sym (more old middle messages i m few is all)) (next m all one)
 
   -- the last one
   pub heard_last : (why : Why) → Some why ≡ gone_in m → HearsFirst old messages (Some why) new
@@ -41,20 +61,20 @@ module _ (old middle new : Peer) (messages : List Message) (i : ℕ) (m : Messag
     whole = sym (take-append-drop (i + 1) messages);
     hears = heard_more;
     all = λ n. absurd (none-some why (sym n));
-    last = (take i messages, more ∙ ap (λ (x : Message). take i messages ++ x ∷ []) (gone_is m why gone));
+    last = (take i messages, more old middle messages i m few is all ∙ ap (λ (x : Message). take i messages ++ x ∷ []) (gone_is m why gone));
   }
 
 no_empty : (front later : List Message) (m : Message) → (front ++ m ∷ []) ++ later ≡ [] → ⊥
 no_empty front later m e =
     omega (arith, length-append (front ++ m ∷ []) later, length-append front (m ∷ []), ap length e)
 
-ok_err : (r : Result (Prim.Unit {0}) ProtoFault) → r ≡ Ok tt → r ≡ Err NoMemory → ⊥
-ok_err r ok err = cc
+ok_err : (r : Result (Prim.Unit {0}) ProtoFault) (f : ProtoFault) → r ≡ Ok tt → r ≡ Err f → ⊥
+ok_err r f ok err = cc
 
 -- memory wasn't refused for the messages that were heard
 not_refused : (old new : Peer) (all : List Message) (fed : Result (Prim.Unit {0}) ProtoFault) (gone : Option Why)
     → HearsFirst old all gone new → (gone ≡ None → fed ≡ Ok tt) → all ≡ [] → fed ≡ Err NoMemory → ⊥
-not_refused old new all fed None h whole none refused = ok_err fed (whole refl) refused
+not_refused old new all fed None h whole none refused = ok_err fed NoMemory (whole refl) refused
 not_refused old new all fed (Some why) h whole none refused =
     no_empty h.last.0 h.later (Gone why)
     (ap (λ (l : List Message). l ++ h.later) (sym h.last.1) ∙ (sym h.whole ∙ none))
@@ -81,3 +101,37 @@ module _ (old new : Peer) (reader later : Reading) (piece : List ℕ) (first mes
       → HearsRead old reader piece new later end
   heard_read whole refused reads =
       heard_got (reads (λ r. not_refused old new all fed gone h whole (same ∙ (refused r ∙ none)) r))
+
+-- ---- a fault
+
+-- a reader that answers a fault keeps it
+kept : (o : Option ProtoFault) (r : Result (Prim.Unit {0}) ProtoFault) (f : ProtoFault) → r ≡ Err f
+    → MatchOption o (r ≡ Ok tt) (λ g. r ≡ Err g) → IsSome o
+kept None r f is a = absurd (ok_err r f a is)
+kept (Some g) r f is a = refl
+
+none_fails : (old : Peer) (all : List Message) (e : PeerFault) → all ≡ [] → FailsAt old all e → ⊥
+none_fails old all e none f = omega (arith, length-append f.heard (f.at ∷ f.later), ap length (sym f.whole ∙ none))
+
+module _ (old : Peer) (reader later : Reading) (piece : List ℕ) (first messages all : List Message) (e : PeerFault)
+    (none : first ≡ []) (same : all ≡ messages) where
+  abbrev Takes : Type 0
+  Takes = (made : List Message) × (messages ≡ first ++ made) × TakesPiece reader piece made later
+
+  fails_got : Takes → FailsAt old all e ⊎ ((e ≡ NoServerOfOurs) × IsSome later.fault) → FailsRead old reader piece later e
+  fails_got got fails =
+      let is : all ≡ got.0 = same ∙ (got.1 ∙ ap (λ (l : List Message). l ++ got.0) none) in
+      inr (got.0, got.2, subst (λ (l : List Message). FailsAt old l e ⊎ ((e ≡ NoServerOfOurs) × IsSome later.fault)) is fails)
+
+  -- a read fails by its first fault
+  pub fails_read : (fed : Result (Prim.Unit {0}) ProtoFault) → FailsAt old all e ⊎ FailsAfter fed e
+      → (fed ≡ Err NoMemory → messages ≡ first) → ((fed ≡ Err NoMemory → ⊥) → Takes)
+      → ((fed ≡ Err NoMemory → ⊥) → Answers later fed) → FailsRead old reader piece later e
+  fails_read (Ok done) (inl at) refused reads answers = fails_got (reads (λ r. cc)) (inl at)
+  fails_read (Ok done) (inr is) refused reads answers = elim is [ ]
+  fails_read (Err NoMemory) (inl at) refused reads answers =
+      absurd (none_fails old all e (same ∙ (refused refl ∙ none)) at)
+  fails_read (Err NoMemory) (inr is) refused reads answers = inl is
+  fails_read (Err f) (inl at) refused reads answers = fails_got (reads (λ r. cc)) (inl at)
+  fails_read (Err f) (inr is) refused reads answers =
+      fails_got (reads (λ r. cc)) (inr (is, kept later.fault (Err f) f refl (answers (λ r. cc))))

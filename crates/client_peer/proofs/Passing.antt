@@ -1,7 +1,7 @@
 -- What a client passes on, step after step.
 use Rattle.std.proofs.Common.{◌≡◌, ℕ, List, [], ◌++◌, refl, sym, ap, ◌∙◌, subst, append-nil, append_assoc}
 use Rattle.std.proofs.Common.{Result, Ok, Err, OnErr}
-use Rattle.std.specs.Prelude.{OnOk}
+use Rattle.std.specs.Prelude.{IfErr, OnOk}
 use Rattle.client_words.specs.declared.arguments.Subcommand.TheVariants.{Attach}
 use Rattle.draw_check.specs.Functions.{BeginDraws}
 use Rattle.draw_check.specs.Places.{place_after}
@@ -108,6 +108,9 @@ passes_draw old middle new bytes same kept read begin a = record {
 pub on_err_given : {T E P : Type 0} (r : Result T E) → P → OnErr r P
 on_err_given (Ok x) p = tt
 on_err_given (Err e) p = p
+
+pub if_err_given : {T E : Type 0} (P : E → Type 0) (r : Result T E) (e : E) → P e → r ≡ Err e → IfErr r P
+if_err_given P r e p is = rw is p
 
 pub on_ok_given : {T E P : Type 0} (r : Result T E) → P → OnOk r P
 on_ok_given (Ok x) p = p

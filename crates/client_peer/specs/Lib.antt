@@ -1,5 +1,6 @@
 pub mod Beginning
 pub mod Ending
+pub mod Failing
 pub mod Hearing
 pub mod Looking
 pub mod Meeting

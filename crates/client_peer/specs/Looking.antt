@@ -120,8 +120,8 @@ IsDone p now =
 
 -- when a task is the next one
 abbrev pub DoesNext : Peer → ℕ → PeerTask → Type 0
-DoesNext p now task.Wait = IsIdle p × (p.end ≡ None → IsDue p → ⊥)
-DoesNext p now task.WaitShortly = IsIdle p
+DoesNext p now task.Wait = IsIdle p × (IsDone p now → ⊥) × (p.end ≡ None → IsDue p → ⊥)
+DoesNext p now task.WaitShortly = IsIdle p × (IsDone p now → ⊥)
 DoesNext p now task.Begin = (p.end ≡ None) × (p.times.left_at ≡ None) × (p.times.has_begun ≡ true) × MayBegin p now
 DoesNext p now task.Reopen = (p.end ≡ None) × (p.is_reopening ≡ true)
 DoesNext p now task.Send = MaySend p

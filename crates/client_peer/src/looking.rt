@@ -40,7 +40,7 @@ pub struct Timers {
     /// The byte that leaves was read last at this time, as this read.
     paired: Option<(u64, u32)>,
     /// The user left.
-    left_at: Option<u64>,
+    pub left_at: Option<u64>,
     ended_at: Option<u64>,
     /// When the server was lost.
     pub(crate) lost_at: u64,
@@ -208,7 +208,7 @@ impl Peer {
     }
 
     fn look_at_end(&mut self, now: u64) -> PeerTask
-        requires { IsSome self.old.end }
+        requires { IsSome self.old.end × (self.old.times.left_at ≡ None) }
         ensures next { DoesNext self.new now result }
         ensures same { self.new ≡ record self.old {
           times = record self.old.times { ended_at = self.new.times.ended_at };
@@ -298,13 +298,6 @@ impl Peer {
         if self.typing.fit(&mut keys).is_ok() {
             let _ = self.put_keys(&keys);
         }
-    }
-
-    /// Whether the user left.
-    pub fn has_left(&self) -> bool
-        ensures { IsTrue result ↔ IsSome self.now.times.left_at }
-    {
-        self.times.left_at.is_some()
     }
 
     /// Whether a text is to be shown on the last line.

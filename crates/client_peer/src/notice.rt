@@ -7,10 +7,11 @@ ghost use Rattle.client_peer.specs.Sending.{IsMore};
 use crate::peer::Peer;
 use client_notice::{NoticeStage, help_page};
 use client_words::PeerFault;
+use std::alloc::AllocError;
 
 impl Peer {
     /// Puts the text down.
-    pub fn put_notice(&mut self) -> Result<(), PeerFault>
+    pub fn put_notice(&mut self) -> Result<(), AllocError>
         ensures shows { OnOk result (ShowsNotice self.old self.new) }
         ensures err { OnErr result (Keeps self.old self.new) }
         ensures may { MayShow self.old self.new }

@@ -151,8 +151,7 @@ impl Peer {
         })
     }
 
-    /// Takes back what wasn't sent. `is_open` is false if the connection takes no more: then what it has
-    /// still to say tells why.
+    /// Takes back what wasn't sent. If not `is_open`, the connection takes no more: what it has still to say tells why.
     pub fn end_sending(&mut self, batch: Batch, is_open: bool) -> Result<(), AllocError>
         ensures back { OnOk result (HasBack self.old batch is_open self.new) }
         ensures ends { OnErr result (IsSome self.new.end) }

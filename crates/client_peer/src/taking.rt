@@ -1,12 +1,14 @@
 //! Sorts the messages that come from the server.
 
-ghost use Rattle.std.specs.Prelude.{◌≡◌, ◌↔◌, IsTrue, ◌++◌, ◌∷◌, ◌||◌, [], Ok, Err, Some, None, true, false, OnOk, OnErr, IfOk};
+ghost use Rattle.std.specs.Prelude.{◌≡◌, ◌↔◌, ◌⊎◌, IsTrue, ◌++◌, ◌∷◌, ◌||◌, [], Ok, Err, Some, None, true, false};
+ghost use Rattle.std.specs.Prelude.{OnOk, OnErr, IfOk, IfErr};
 ghost use Rattle.client_words.specs.declared.arguments.Subcommand.TheVariants.{Attach, Ping};
 ghost use Rattle.client_words.specs.Visible.{visible};
 ghost use Rattle.client_words.specs.declared.fault.PeerFault.TheVariants.{Ended};
 ghost use Rattle.client_peer.specs.Ending.{end_for};
 ghost use Rattle.client_peer.specs.Hearing.{Shows, Says, LetsIn, Delivers, Hears, HearsFirst, IsSized, TakesInput};
 ghost use Rattle.client_peer.specs.Hearing.{HearsRead, gone_in, size_line};
+ghost use Rattle.client_peer.specs.Failing.{FailsAfter, FailsAt, FailsBy, FailsRead, IsNoDraw, IsNotShown};
 ghost use Rattle.client_peer.specs.Meeting.{IsToOpen, Meets, Opens, StaysClosed, WaitsToOpen};
 ghost use Rattle.client_peer.specs.Sending.{IsBehind};
 ghost use Rattle.client_peer.specs.Showing.{Keeps, Adds, PassesOn, StopsAt};
@@ -16,8 +18,7 @@ use crate::meeting::{Meeting, SessionMark};
 use crate::peer::Peer;
 use attach_proto::{LONGEST, Message, ProtoFault, Reader, Told, Why};
 use client_words::{PeerFault, Subcommand, put_visible};
-use std::alloc::Global;
-use std::io::Write;
+use std::alloc::{AllocError, Global};
 
 // While more bytes than this wait for standard output, the server isn't read.
 const MOST_WAITING: usize = 65_536;
@@ -34,33 +35,34 @@ fn ended(subcommand: Subcommand, why: Why) -> Result<Why, PeerFault>
 }
 
 impl Peer {
-    pub(crate) fn put(&mut self, bytes: &[u8]) -> Result<(), PeerFault>
+    pub(crate) fn put(&mut self, bytes: &[u8]) -> Result<(), AllocError>
         ensures ok { OnOk result (Adds self.old self.new bytes.now) }
         ensures err { OnErr result (Keeps self.old self.new) }
         ensures same { self.new ≡ record self.old { bytes = self.new.bytes } }
     {
-        self.bytes.extend_from_slice(bytes)?;
-        Ok(())
+        self.bytes.extend_from_slice(bytes)
     }
 
-    // The bytes of a draw for a client's terminal. None is passed on unless all that came consist of
-    // the functions that draws use.
+    // The bytes of a draw for a client's terminal. They are passed on only if all that came is what draws use.
     pub(crate) fn put_draw(&mut self, bytes: &[u8]) -> Result<(), PeerFault>
         ensures ok { OnOk result (PassesOn self.old self.new) }
         ensures err { OnErr result (StopsAt self.old self.new) }
+        ensures fault { IfErr result (IsNoDraw self.old bytes.now) }
         ensures added { OnOk result (self.new.bytes.items ≡ self.old.bytes.items ++ bytes.now) }
         ensures same { self.new ≡ record self.old { bytes = self.new.bytes; draws = self.new.draws } }
     {
         if !self.draws.feed(bytes) {
             return Err(PeerFault::NoDraw);
         }
-        self.put(bytes)
+        self.put(bytes)?;
+        Ok(())
     }
 
     // Puts down a draw, unless the terminal shows the help: then a whole draw follows it.
     fn show(&mut self, bytes: &[u8]) -> Result<(), PeerFault>
         ensures ok { OnOk result (PassesOn self.old self.new) }
         ensures err { OnErr result (StopsAt self.old self.new) }
+        ensures fault { IfErr result (IsNotShown self.old bytes.now) }
         ensures closed { self.old.subcommand ≡ Attach → StaysClosed self.old self.new }
         ensures shows { OnOk result (Shows self.old.is_covered self.old bytes.now self.new) }
     {
@@ -97,18 +99,18 @@ impl Peer {
         self.is_covered = is_cut || self.is_helping;
     }
 
-    fn put_size(&mut self, rows: u16, columns: u16) -> Result<(), PeerFault>
+    fn put_size(&mut self, rows: u16, columns: u16) -> Result<(), AllocError>
         ensures keeps { Keeps self.old self.new }
         ensures same { self.new ≡ record self.old { rows = rows; columns = columns; sizes = self.new.sizes } }
         ensures size { OnOk result (self.new.sizes.items ≡ self.old.sizes.items ++ size_line rows columns) }
     {
         self.rows = rows;
         self.columns = columns;
-        writeln!(self.sizes, "{rows} {columns}")?;
-        Ok(())
+        let line = format!(in self.alloc; "{rows} {columns}\n")?;
+        self.sizes.extend_from_slice(line.as_bytes())
     }
 
-    fn put_line(&mut self, line: &str) -> Result<(), PeerFault>
+    fn put_line(&mut self, line: &str) -> Result<(), AllocError>
         ensures added { OnOk result (self.new.bytes.items ≡ self.old.bytes.items ++ (visible line.now ++ 0x0A ∷ [])) }
         ensures same { self.new ≡ record self.old { bytes = self.new.bytes } }
     {
@@ -118,7 +120,7 @@ impl Peer {
 
     // A text for a command is its output. Once a client is let in, its status line has the texts. The
     // last text before that is the reason if the peer isn't let in.
-    fn hear(&mut self, alloc: Global, text: &str) -> Result<(), PeerFault>
+    fn hear(&mut self, alloc: Global, text: &str) -> Result<(), AllocError>
         ensures subcommand { self.new.subcommand ≡ self.old.subcommand }
         ensures keeps { self.old.subcommand ≡ Attach → Keeps self.old self.new }
         ensures closed { StaysClosed self.old self.new }
@@ -132,7 +134,7 @@ impl Peer {
     }
 
     // Notes that the peer is let in. A window gets its first size, unless it is to be opened again first.
-    fn welcome(&mut self) -> Result<(), PeerFault>
+    fn welcome(&mut self) -> Result<(), AllocError>
         ensures keeps { Keeps self.old self.new }
         ensures closed { StaysClosed self.old self.new }
         ensures lets { OnOk result (LetsIn self.old.subcommand self.old.is_welcome self.old self.new) }
@@ -160,7 +162,7 @@ impl Peer {
         mark: &SessionMark,
         is_here: bool,
         is_hidden: bool,
-    ) -> Result<Meeting, PeerFault>
+    ) -> Result<Meeting, AllocError>
         ensures meets { IsToOpen self.old is_here → IfOk result (Meets self.old mark.now) }
         ensures gone { (IsToOpen self.old is_here → ⊥) → result ≡ Ok Meeting.Older }
         ensures ok { IfOk result (λ met. met ≡ Same → Opens self.old self.new is_hidden) }
@@ -184,7 +186,7 @@ impl Peer {
         self.is_welcome && self.is_reopening && self.end.is_none()
     }
 
-    fn open(&mut self, is_hidden: bool) -> Result<(), PeerFault>
+    fn open(&mut self, is_hidden: bool) -> Result<(), AllocError>
         ensures { OnOk result (Opens self.old self.new is_hidden) }
     {
         self.is_reopening = false;
@@ -199,7 +201,7 @@ impl Peer {
     }
 
     // Takes a window's new size.
-    fn resize_window(&mut self, rows: u16, columns: u16) -> Result<(), PeerFault>
+    fn resize_window(&mut self, rows: u16, columns: u16) -> Result<(), AllocError>
         ensures keeps { Keeps self.old self.new }
         ensures closed { StaysClosed self.old self.new }
         ensures same { self.new ≡ record self.old {
@@ -217,14 +219,13 @@ impl Peer {
     }
 
     // Takes input for a window's program. If the window comes back, the session may be another one: the input waits.
-    fn take_input(&mut self, bytes: &[u8]) -> Result<(), PeerFault>
+    fn take_input(&mut self, bytes: &[u8]) -> Result<(), AllocError>
         ensures takes { OnOk result (TakesInput self.old bytes.now self.new) }
         ensures closed { StaysClosed self.old self.new }
         ensures same { self.new ≡ record self.old { bytes = self.new.bytes; early = self.new.early } }
     {
         if self.was_welcome && !self.has_server() {
-            self.early.extend_from_slice(bytes)?;
-            return Ok(());
+            return self.early.extend_from_slice(bytes);
         }
         self.put(bytes)
     }
@@ -234,20 +235,22 @@ impl Peer {
     fn put_message(&mut self, message: &Message) -> Result<(), PeerFault>
         ensures ok { OnOk result (PassesOn self.old self.new) }
         ensures err { OnErr result (StopsAt self.old self.new) }
+        ensures fault { IfErr result (FailsBy self.old message.now) }
         ensures closed { StaysClosed self.old self.new }
         ensures delivers { OnOk result (Delivers self.old message.now self.new) }
     {
         match message {
             Message::Draw(bytes) if self.subcommand.is_attach() => self.show(bytes.as_slice()),
-            Message::Say(text) if self.subcommand.is_attach() && self.is_welcome => self
-                .notice
-                .hear_later(self.alloc, text.as_str(), self.typing.assists),
-            Message::Input(bytes) if self.subcommand.is_window() => self.take_input(
+            Message::Say(text) if self.subcommand.is_attach() && self.is_welcome => Ok(
+                self.notice
+                    .hear_later(self.alloc, text.as_str(), self.typing.assists)?,
+            ),
+            Message::Input(bytes) if self.subcommand.is_window() => Ok(self.take_input(
                 bytes.as_slice(),
-            ),
-            Message::Size { rows, columns } if self.subcommand.is_window() => self.resize_window(
+            )?),
+            Message::Size { rows, columns } if self.subcommand.is_window() => Ok(self.resize_window(
                 *rows, *columns,
-            ),
+            )?),
             Message::Welcome(number) => {
                 self.number = *number;
                 Ok(())
@@ -263,6 +266,7 @@ impl Peer {
     fn take(&mut self, alloc: Global, message: &Message) -> Result<Option<Why>, PeerFault>
         ensures ok { OnOk result (PassesOn self.old self.new) }
         ensures err { OnErr result (StopsAt self.old self.new) }
+        ensures fault { IfErr result (FailsBy self.old message.now) }
         ensures closed { StaysClosed self.old self.new }
         ensures hears { IfOk result (λ gone. Hears self.old message.now self.new × (gone ≡ gone_in message.now)) }
     {
@@ -289,6 +293,7 @@ impl Peer {
     ) -> Result<Option<Why>, PeerFault>
         ensures ok { OnOk result (PassesOn self.old self.new) }
         ensures err { OnErr result (StopsAt self.old self.new) }
+        ensures fault { IfErr result (λ e. FailsAt self.old messages.now e ⊎ FailsAfter fed e) }
         ensures closed { StaysClosed self.old self.new }
         ensures hears { IfOk result (λ gone. HearsFirst self.old messages.now gone self.new) }
         ensures fed { IfOk result (λ gone. gone ≡ None → fed ≡ Ok tt) }
@@ -324,6 +329,7 @@ impl Peer {
     ) -> Result<Option<Result<Why, PeerFault>>, PeerFault>
         ensures ok { OnOk result (PassesOn self.old self.new) }
         ensures err { OnErr result (StopsAt self.old self.new) }
+        ensures fault { IfErr result (FailsRead self.old reader.old bytes.now reader.new) }
         ensures closed { StaysClosed self.old self.new }
         ensures ends { (self.old.subcommand ≡ Ping → ⊥) → bytes.now ≡ [] → result ≡ Ok (Some (Err Ended)) }
         ensures ping { self.old.subcommand ≡ Ping → (result ≡ Ok (Some (Ok Why.Detached))) × (self.new ≡ self.old) }

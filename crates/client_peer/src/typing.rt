@@ -95,7 +95,8 @@ impl Peer {
             self.notice.stage = NoticeStage::Nothing;
             return self.redraw();
         }
-        self.notice.tell_scrolled(self.alloc, self.typing.back)
+        self.notice.tell_scrolled(self.alloc, self.typing.back)?;
+        Ok(())
     }
 
     /// Takes the end of standard input.

@@ -1,24 +1,16 @@
 use Rattle.std.proofs.Common.{refl}
-use Rattle.std.proofs.lemmas.Result.{on_ok_weaker, on_err_weaker}
 use Rattle.client_peer.specs.declared.peer.Peer.{Peer}
-use Rattle.client_peer.specs.Showing.{Keeps, Adds, PassesOn, StopsAt}
-use Rattle.client_peer.proofs.Passing.{passes_draw, stops_kept}
+use Rattle.client_peer.specs.Showing.{StopsAt}
+use Rattle.client_peer.proofs.Passing.{on_err_given, passes_draw, stops_kept}
 use Rattle.client_peer.proofs.peer.Peer.put_draw.Goals as goal
 
 pub returns-clause-ok : goal.returns-clause-ok
 returns-clause-ok c =
     let old : Peer = c.args.self.now in
-    let middle : Peer = record old { draws = c.feed.new.self } in
-    let new : Peer = c.put.new.self in
-    on_ok_weaker {P = Adds middle new c.args.bytes.now} {Q = PassesOn old new} c.put.result
-    (λ a. passes_draw old middle new c.args.bytes.now refl refl c.feed.ensures.stands
-    (λ came stands. (c.if-not-feed.ensures.passes came stands).0 refl) a)
-    c.put.ensures.ok
+    passes_draw old (record old { draws = c.feed.new.self }) c.put.new.self c.args.bytes.now refl refl c.feed.ensures.stands
+    (λ came stands. (c.if-not-feed.ensures.passes came stands).0 refl) c.in_ok-put.ensures.ok
 
-pub returns-clause-err : goal.returns-clause-err
-returns-clause-err c =
-    let old : Peer = c.args.self.now in
-    let middle : Peer = record old { draws = c.feed.new.self } in
-    let new : Peer = c.put.new.self in
-    on_err_weaker {P = Keeps middle new} {Q = StopsAt old new} c.put.result (λ k. stops_kept old new k.kept)
-    c.put.ensures.err
+pub returns-in_err-put-clause-err : goal.returns-in_err-put-clause-err
+returns-in_err-put-clause-err c =
+    on_err_given {P = StopsAt c.args.self.now c.put.new.self} c.from_residual.result
+    (stops_kept c.args.self.now c.put.new.self c.in_err-put.ensures.err.kept)

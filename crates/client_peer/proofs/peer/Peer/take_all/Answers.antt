@@ -1,9 +1,10 @@
-use Rattle.std.proofs.Common.{◌∙◌, sym, arith}
+use Rattle.std.proofs.Common.{rules, ◌∙◌, ◌⊎◌, inl, sym, arith}
 use Rattle.client_peer.specs.Showing.{StopsAt}
 use Rattle.client_peer.proofs.Closing.{closed_same, closed_then}
-use Rattle.client_peer.proofs.Passing.{passes_same, passes_then, stops_then, on_err_given}
+use Rattle.client_peer.proofs.Passing.{passes_same, passes_then, stops_then, if_err_given, on_err_given}
 use Rattle.client_peer.specs.Hearing.{none}
-use Rattle.client_peer.proofs.Hearing.{heard_more, heard_last}
+use Rattle.client_peer.specs.Failing.{FailsAfter, FailsAt}
+use Rattle.client_peer.proofs.Hearing.{fails_at, heard_more, heard_last}
 use Rattle.client_peer.proofs.peer.Peer.take_all.Goals as goal
 
 pub loop-message-init : goal.loop-message-init
@@ -50,3 +51,10 @@ returns-in-Some-clause-hears c =
     heard_last c.args.self.now c.loop-message.self c.take.new.self c.args.messages.now c.loop-message.message-index
     c.message-item.result (omega arith) (sym c.message-item.is) c.loop-message.invariant.hears
     c.in_ok-why.ensures.hears.0 c.in-Some.why (sym c.in-Some.is ∙ c.in_ok-why.ensures.hears.1)
+
+pub returns-in_err-why-clause-fault : goal.returns-in_err-why-clause-fault
+returns-in_err-why-clause-fault c =
+    if_err_given (λ e. FailsAt c.args.self.now c.args.messages.now e ⊎ FailsAfter c.args.fed e) c.from_residual.result _
+    (inl (fails_at c.args.self.now c.loop-message.self c.args.messages.now c.loop-message.message-index
+    c.message-item.result (omega arith) (sym c.message-item.is) c.loop-message.invariant.hears _ c.in_err-why.ensures.fault))
+    (search rules)

@@ -1,7 +1,8 @@
-use Rattle.std.proofs.Common.{◌∙◌, sym, ap, Some, None, option_map}
+use Rattle.std.proofs.Common.{rules, ◌∙◌, sym, ap, Some, None, option_map}
 use Rattle.client_peer.specs.Ending.{end_for}
-use Rattle.client_peer.proofs.Hearing.{heard_read}
-use Rattle.client_peer.proofs.Passing.{passes_same}
+use Rattle.client_peer.specs.Failing.{FailsRead}
+use Rattle.client_peer.proofs.Hearing.{fails_read, heard_read}
+use Rattle.client_peer.proofs.Passing.{if_err_given, passes_same}
 use Rattle.client_peer.proofs.peer.Peer.take_read.Goals as goal
 
 pub returns-then-matches-clause-ok : goal.returns-then-matches-clause-ok
@@ -27,3 +28,11 @@ returns-clause-hears c = λ ping empty.
     c.in_ok-why.field-0 c.new-messages.ensures.items c.as_slice.ensures.value c.in_ok-why.ensures.hears None
     (ap (option_map (end_for c.args.self.now.subcommand)) (sym c.in-None.is)) c.in_ok-why.ensures.fed
     (λ r. (c.feed-fed.ensures.memory r).1) c.feed-fed.ensures.reads
+
+pub returns-in_err-why-clause-fault : goal.returns-in_err-why-clause-fault
+returns-in_err-why-clause-fault c =
+    if_err_given (FailsRead c.args.self.now c.args.reader.now c.args.bytes.now c.feed-fed.new.self) c.from_residual.result _
+    (fails_read c.args.self.now c.args.reader.now c.feed-fed.new.self c.args.bytes.now c.new-messages.result.items
+    c.feed-fed.new.out.items c.as_slice.result.now _ c.new-messages.ensures.items c.as_slice.ensures.value c.feed-fed.result
+    c.in_err-why.ensures.fault (λ r. (c.feed-fed.ensures.memory r).1) c.feed-fed.ensures.reads c.feed-fed.ensures.answer)
+    (search rules)
