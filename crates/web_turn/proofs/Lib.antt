@@ -1,3 +1,4 @@
 pub mod Accepting
+pub mod Linking
 pub mod Places
 pub mod Waking

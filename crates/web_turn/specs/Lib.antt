@@ -1,3 +1,4 @@
 pub mod Accepting
+pub mod Links
 pub mod Turning
 pub mod Waking

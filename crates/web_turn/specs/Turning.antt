@@ -21,6 +21,7 @@ use Rattle.web_relay.specs.Relaying.{Connects, EndsBy, HasPage, HearsServer, IsB
 use Rattle.web_relay.specs.Relaying.{ReadsBrowser, TurnsAway, WantsServer, WritesAll}
 use Rattle.web_relay.specs.Seeing.{Seats, ShowsPage}
 use Rattle.web_turn.specs.declared.bridge.Bridge.{Bridge}
+use Rattle.web_turn.specs.Links.{StandsAt}
 use Rattle.web_turn.specs.declared.links.TheConstants.{USED}
 use Rattle.web_turn.specs.declared.turning.Arrival.{Arrival}
 use Rattle.web_turn.specs.declared.turning.TheConstants.{FULL}
@@ -69,15 +70,18 @@ abbrev pub IsLink : Identity → Type 0
 IsLink (Link secret) = Unit {0}
 IsLink _ = ⊥
 
--- a page is told a user and a token, and ends
-abbrev pub Hands : Relay → Relay → Type 0
-Hands old new = (name token : List ℕ) × EndsBy (TellsLast (handed name token)) old new
+-- A page is told the user and the token that the file of its link stands for, and ends; or that it stands for nothing.
+abbrev pub Gives : (text : List ℕ) (seconds : ℕ) (old new : Relay) → Type 0
+Gives text seconds old new =
+    ((name token : List ℕ) × StandsAt text seconds name token × EndsBy (TellsLast (handed name token)) old new)
+    ⊎ (((name token : List ℕ) → StandsAt text seconds name token → ⊥) × EndsBy (Refuses USED.now) old new)
 
--- An open page that shows a link is given what it stands for, or told that it stands for nothing. Nobody else is given
--- a user, and without a folder of links nobody is.
+-- An open page that shows a link is given what its file stands for; or told that it stands for nothing, if no file was
+-- found. Nobody else is given a user, and without a folder of links nobody is.
 pub record Redeems (links : Option (Bor (List ℕ))) (old new : Relay) : Type 0 where
   pub link : IsOpen old.visitor → IsLink old.visitor.identity
-      → (IsSome links × Hands old new) ⊎ EndsBy (Refuses USED.now) old new
+      → (IsSome links × (text : List ℕ) × (seconds : ℕ) × Gives text seconds old new)
+      ⊎ EndsBy (Refuses USED.now) old new
   pub other : (IsOpen old.visitor × IsLink old.visitor.identity → ⊥) → new ≡ old
 
 -- it is logged that it is there

@@ -1,5 +1,5 @@
 -- Which places events concern, and what a round of the loop does.
-use Rattle.std.specs.Prelude.{◌≡◌, ℕ, Bool, true, List, [], ◌∷◌}
+use Rattle.std.specs.Prelude.{◌≡◌, ◌⊎◌, ℕ, Bool, true, List, [], ◌∷◌}
 use Rattle.std.specs.declared.time.Duration.{Duration}
 use Rattle.mio.specs.Event.{event_token}
 use Rattle.mio.specs.declared.event.event.Event.{Event}
@@ -24,7 +24,8 @@ abbrev pub wakes_all : List Event → Bridge → Bridge
 wakes_all [] b = b
 wakes_all (event ∷ later) b = wakes_all later (wakes (woken (event_token event).0) b)
 
--- Each event is noted, browsers are accepted, and all have their turn. Who has work left has the next turn at once.
+-- Each event is noted, browsers are accepted, and all have their turn. If work is left, or more browsers may be
+-- accepted, the next round comes at once.
 pub record Rounds (now : Duration) (events : List Event) (old : Bridge) (is_busy : Bool) (new : Bridge) : Type 0 where
   pub woken : Bridge
   pub wakes : woken ≡ wakes_all events old
@@ -33,3 +34,4 @@ pub record Rounds (now : Duration) (events : List Event) (old : Bridge) (is_busy
       × (came ≡ record woken { relays = came.relays; has_comers = came.has_comers })
   pub turns : Turns now came new
   pub waits : HasWork new → is_busy ≡ true
+  pub rests : is_busy ≡ true → HasWork new ⊎ (came.has_comers ≡ true)

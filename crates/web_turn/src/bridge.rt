@@ -242,22 +242,22 @@ impl Bridge<'_> {
         }
     }
 
-    /// One round of the loop: notes what events are for, accepts browsers, and gives each its turn. Returns whether the
-    /// next round is to begin at once.
-    pub fn round<R: WebHost + Wait>(
+    // One round of the loop: notes what events are for, accepts browsers, and gives each its turn. Returns whether the
+    // next round is to begin at once.
+    fn round<R: WebHost + Wait>(
         &mut self,
         rt: &R,
         registry: &Registry,
         events: &Events,
         listeners: &[WebListener],
-    ) -> io::Result<bool>
-        ensures { IfOk result (λ is_busy. (now : Duration) × Rounds now (items events.now) self.old is_busy self.new) }
+        now: Duration,
+    ) -> bool
+        ensures { Rounds now (items events.now) self.old result self.new }
     {
-        let now = rt.monotonic()?;
         self.wake_all(events);
         let has_more = self.accept_all(listeners, registry, now);
         self.turn(rt, registry, now);
-        Ok(self.is_busy() || has_more)
+        self.is_busy() || has_more
     }
 }
 
@@ -282,7 +282,8 @@ pub fn serve<R: WebHost + Wait>(
             Err(error) if error.kind() == ErrorKind::Interrupted => continue,
             Err(error) => return Err(error),
         }
-        is_busy = bridge.round(rt, &registry, &events, &listeners)?;
+        let now = rt.monotonic()?;
+        is_busy = bridge.round(rt, &registry, &events, &listeners, now);
     }
     Ok(())
 }

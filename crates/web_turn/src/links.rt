@@ -1,10 +1,12 @@
 //! Links: each stands for a user and a token, and is good for one use.
 
-ghost use Rattle.std.specs.Prelude.{IsSome};
-ghost use Rattle.web_turn.specs.Turning.{Redeems};
+ghost use Rattle.std.specs.Prelude.{◌≡◌, ◌++◌, ◌∷◌, ℕ, List, None, IfOk, IfSome, IsSome};
+ghost use Rattle.std.specs.String.{string_bytes};
+ghost use Rattle.web_turn.specs.Links.{IsLinkFile, StandsAt};
+ghost use Rattle.web_turn.specs.Turning.{Gives, Redeems};
 
 use attach_proto::Token;
-use std::alloc::AllocGlobal;
+use std::alloc::{AllocError, AllocGlobal, Global};
 use std::fs;
 use std::fs::{File, Files};
 use std::time::{Clock, SystemTime};
@@ -16,38 +18,59 @@ const MOST: u64 = 200;
 /// What a page is told if its link stands for nothing.
 pub const USED: &str = "this link was used, or is too old: ask for a new one";
 
-// What a link stands for.
-#[derive(Drop)]
-struct Linked {
-    name: String,
-    token: String,
+// The name, the token and the number that the file of a link has.
+fn parts_of(text: &str) -> Option<(&str, &str, u64)>
+    ensures some { IfSome result (λ it. IsLinkFile text.now it.0.now it.1.now it.2) }
+    ensures none { result ≡ None → (name token : List ℕ) (end : ℕ) → IsLinkFile text.now name token end → ⊥ }
+{
+    let Some((name, rest)) = text.split_once(' ') else {
+        return None;
+    };
+    let Some((token, rest)) = rest.split_once(' ') else {
+        return None;
+    };
+    let Some((end, _)) = rest.split_once('\n') else {
+        return None;
+    };
+    match end.parse::<u64>() {
+        Ok(end) => Some((name, token, end)),
+        Err(_) => None,
+    }
 }
 
-// What the file of a link says, a line NAME TOKEN SECONDS: it counts until that many seconds after 1970.
-fn read_link<R: Clock + AllocGlobal>(rt: &R, text: &str) -> Option<Linked> {
-    let (name, rest) = text.trim_ascii_end().split_once(' ')?;
-    let (token, end) = rest.split_once(' ')?;
-    let end = end.parse::<u64>().ok()?;
+// The user and the token that a link with this file stands for, this number of seconds after 1970.
+#[tactic(auto, using(crate::proofs::Linking::is_over))]
+fn link_at(text: &str, seconds: u64) -> Option<(&str, &str)>
+    ensures some { IfSome result (λ it. StandsAt text.now seconds it.0.now it.1.now) }
+    ensures none { result ≡ None → (name token : List ℕ) → StandsAt text.now seconds name token → ⊥ }
+{
+    let Some((name, token, end)) = parts_of(text) else {
+        return None;
+    };
+    if end <= seconds {
+        return None;
+    }
+    Some((name, token))
+}
+
+// The path of the link with this secret: the secret is its name in the folder.
+fn path_of(alloc: Global, folder: &str, secret: &str) -> Result<String, AllocError>
+    ensures { IfOk result (λ path. string_bytes path ≡ folder.now ++ 0x2F ∷ secret.now) }
+{
+    format!(in alloc; "{folder}/{secret}")
+}
+
+// Takes the file of the link with this secret: only one use can remove it. Returns its text, and the number of seconds
+// after 1970. None if it was used or never was, or if something else than a short file has that name.
+fn take_file<R>(rt: &R, folder: &str, secret: &Token) -> Option<(String, u64)>
+where
+    R: Files<File = File> + Clock + AllocGlobal,
+{
     let now = SystemTime::now(rt)
         .ok()?
         .duration_since(SystemTime::UNIX_EPOCH)
         .ok()?;
-    if now.as_secs() >= end {
-        return None;
-    }
-    let name = String::from_str(rt.alloc(), name).ok()?;
-    let token = String::from_str(rt.alloc(), token).ok()?;
-    Some(Linked { name, token })
-}
-
-// What the link with this secret stands for. Its file in the folder has the secret as its name, and only one use can
-// remove it. None if it was used, is too old, or never was, or if something else than a short file has that name.
-fn take_link<R>(rt: &R, folder: &str, secret: &Token) -> Option<Linked>
-where
-    R: Files<File = File> + Clock + AllocGlobal,
-{
-    let digits = str::from_utf8(secret.as_slice()).ok()?;
-    let path = format!(in rt.alloc(); "{folder}/{digits}").ok()?;
+    let path = path_of(rt.alloc(), folder, str::from_utf8(secret.as_slice()).ok()?).ok()?;
     // Opening a FIFO would wait.
     let found = fs::metadata(rt, path.as_str()).ok()?;
     if !found.is_file() || found.len() > MOST {
@@ -55,18 +78,28 @@ where
     }
     let text = fs::read_to_string(rt, path.as_str()).ok()?;
     fs::remove_file(rt, path.as_str()).ok()?;
-    read_link(rt, text.as_str())
+    Some((text, now.as_secs()))
 }
 
-// What the link with this secret stands for, if there is a folder of links.
-fn find<R>(rt: &R, links: Option<&str>, secret: &Token) -> Option<Linked>
+// Takes the file of the link with this secret, if there is a folder of links.
+fn take_link<R>(rt: &R, links: Option<&str>, secret: &Token) -> Option<(String, u64)>
 where
     R: Files<File = File> + Clock + AllocGlobal,
     ensures { IsSome result → IsSome links.entry }
 {
     match links {
-        Some(folder) => take_link(rt, folder, secret),
+        Some(folder) => take_file(rt, folder, secret),
         None => None,
+    }
+}
+
+// Gives a page what its link stands for.
+fn give(text: &str, seconds: u64, relay: &mut Relay)
+    ensures { Gives text.now seconds relay.old relay.new }
+{
+    match link_at(text, seconds) {
+        Some((name, token)) => relay.hand(name, token),
+        None => relay.refuse(USED),
     }
 }
 
@@ -79,9 +112,8 @@ where
     let Some(secret) = relay.secret() else {
         return;
     };
-    let found = find(rt, links, &secret);
-    match &found {
-        Some(it) => relay.hand(it.name.as_str(), it.token.as_str()),
-        None => relay.refuse(USED),
-    }
+    let Some((text, seconds)) = take_link(rt, links, &secret) else {
+        return relay.refuse(USED);
+    };
+    give(text.as_str(), seconds, relay);
 }
