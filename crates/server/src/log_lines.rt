@@ -1,6 +1,7 @@
 //! What the log says: news of peers, and what becomes of the trail's file.
 
 use attach_proto::Why;
+use program_words::SystemError;
 use server_loop::{Name, News};
 use server_session::Recorder;
 use server_system::Log;
@@ -60,12 +61,14 @@ impl Display for DiskLine<'_> {
         match news {
             DiskNews::Refuses(error, _) => write!(
                 f,
-                "trail {path}: can't write it: {error}: {waiting} bytes wait: make room before {MOST} do"
+                "trail {path}: can't write it: {}: {waiting} bytes wait: make room before {MOST} do",
+                SystemError(error)
             ),
             DiskNews::Resumes => write!(f, "trail {path}: it is written again"),
             DiskNews::Unsynced(error) => write!(
                 f,
-                "trail {path}: it may not be whole on the disk: a sync failed: {error}: check its disk"
+                "trail {path}: it may not be whole on the disk: a sync failed: {}: check its disk",
+                SystemError(error)
             ),
         }
     }

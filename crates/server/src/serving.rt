@@ -7,7 +7,7 @@ use crate::setup_file::Setup;
 use acl::UserId;
 use clap::{ArgMatches, Error};
 use mio::net::UnixListener;
-use program_words::{of_server, tell};
+use program_words::{SystemError, of_server, tell};
 use server_loop::{Gate, Open};
 use server_session::{Accounts, Limits, Start};
 use server_system::{
@@ -273,6 +273,7 @@ where
     let filled = match fill_closed(&runtime) {
         Ok(filled) => filled,
         Err(error) => {
+            let error = SystemError(error);
             let _ = writeln!(
                 errors,
                 "muxd: /dev/null: {error}: a standard stream is closed"

@@ -36,7 +36,7 @@ why_unready _ = fault.NoMemory
 abbrev pub served : Result Bool ServeFault → Option (Result ⊤ Error) → Option Unready → Result Bool ServeFault
 served (Err why) said missing = Err why
 served (Ok agrees) (Some (Ok is)) missing = Ok agrees
-served (Ok agrees) (Some (Err error)) missing = Err (fault.Untold error)
+served (Ok agrees) (Some (Err error)) missing = Err (fault.Untold (record { 0 = error }))
 served (Ok agrees) None missing = Err (why_unready missing)
 
 -- the peers have had two seconds to read that the server ends, or a hundred looks without a clock

@@ -6,6 +6,7 @@ ghost use Rattle.server_system.specs.Ending.{cause_of, is_late, most_new, outcom
 ghost use Rattle.server_system.specs.Ending.{why_unready};
 
 use crate::fault::ServeFault;
+use program_words::SystemError;
 use server_seat::ServerEnd;
 use server_trail::Cause;
 use std::io;
@@ -90,7 +91,7 @@ pub fn served(
     match (kept, said) {
         (Err(fault), _) => Err(fault),
         (Ok(agrees), Some(Ok(()))) => Ok(agrees),
-        (Ok(_), Some(Err(error))) => Err(ServeFault::Untold(error)),
+        (Ok(_), Some(Err(error))) => Err(ServeFault::Untold(SystemError(error))),
         (Ok(_), None) => Err(why_unready(missing)),
     }
 }

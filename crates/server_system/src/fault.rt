@@ -67,9 +67,9 @@ pub enum ServeFault {
     #[error("out of memory")]
     NoMemory,
     #[error("can't write to standard output: {0}")]
-    Untold(io::Error),
+    Untold(SystemError),
     #[error("the system refused a loop: {0}")]
-    Other(io::Error),
+    Other(SystemError),
     #[error("the system refused a thread: raise TasksMax of the unit, or ulimit -u")]
     NoThread,
     #[error("the session's trail is full: start another session")]
@@ -97,7 +97,7 @@ impl From<io::Error> for ServeFault {
     fn from(error: io::Error) -> ServeFault {
         match error.kind() {
             ErrorKind::OutOfMemory => ServeFault::NoMemory,
-            _ => ServeFault::Other(error),
+            _ => ServeFault::Other(SystemError(error)),
         }
     }
 }

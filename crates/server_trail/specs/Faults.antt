@@ -8,15 +8,15 @@ use Rattle.server_trail.specs.declared.journal.JournalFault.TheVariants as fault
 
 -- of a file that had to stop for its disk, from the error of its last write
 abbrev pub stopped_by : Option Error → JournalFault
-stopped_by (Some error) = fault.Refused error
+stopped_by (Some error) = fault.Refused (record { 0 = error })
 stopped_by None = fault.TooSlow
 
 -- of a file that didn't stop, from whether its last line was written, and the errors of its last write and of a sync
 abbrev pub lost_by : Bool → Option Error → Option Error → Option JournalFault
 lost_by true refused None = None
-lost_by true refused (Some error) = Some (fault.Unsynced error)
-lost_by false (Some error) unsynced = Some (fault.Cut error)
-lost_by false None (Some error) = Some (fault.Unsynced error)
+lost_by true refused (Some error) = Some (fault.Unsynced (record { 0 = error }))
+lost_by false (Some error) unsynced = Some (fault.Cut (record { 0 = error }))
+lost_by false None (Some error) = Some (fault.Unsynced (record { 0 = error }))
 lost_by false None None = Some fault.Unended
 
 abbrev pub fault_of : Option StopCause → Bool → Option Error → Option Error → Option JournalFault
@@ -28,4 +28,4 @@ fault_of None ended refused unsynced = lost_by ended refused unsynced
 abbrev pub read_as : Result Bool Error → Option JournalFault
 read_as (Ok true) = None
 read_as (Ok false) = Some fault.Differs
-read_as (Err error) = Some (fault.NotRead error)
+read_as (Err error) = Some (fault.NotRead (record { 0 = error }))

@@ -10,6 +10,7 @@ use crate::recorder::Recorder;
 use crate::waiting::Written;
 use acl::{Edition, UserId};
 use hub::EntryList;
+use program_words::SystemError;
 use session::Bytes;
 use std::alloc::Global;
 use std::fs::{File, OpenOptions};
@@ -33,26 +34,26 @@ pub enum JournalFault {
     #[error("can't make it: it is there already: set another --trail")]
     Exists,
     #[error("can't make it: {0}: set another --trail")]
-    NotMade(io::Error),
+    NotMade(SystemError),
     /// Its disk is full.
     #[error("can't make it: {0}: make room on its disk, or set another --trail")]
-    NoRoom(io::Error),
+    NoRoom(SystemError),
     /// The disk refused it, until too many bytes waited.
     #[error("can't write it: {0}: make room on its disk: the session ended for that")]
-    Refused(io::Error),
+    Refused(SystemError),
     #[error("its disk is too slow: the session ended for that")]
     TooSlow,
     #[error("out of memory: the session ended for that")]
     Memory,
     #[error("it isn't written to its end: {0}: mux-trail check says how far it goes")]
-    Cut(io::Error),
+    Cut(SystemError),
     #[error("it isn't written to its end: mux-trail check says how far it goes")]
     Unended,
     /// The disk refused a sync.
     #[error("it may not be whole on the disk: a sync failed: {0}: copy it, and check its disk")]
-    Unsynced(io::Error),
+    Unsynced(SystemError),
     #[error("can't read it back: {0}")]
-    NotRead(io::Error),
+    NotRead(SystemError),
     #[error("it differs from the session's trail")]
     Differs,
 }
@@ -63,8 +64,10 @@ impl JournalFault {
         match error.kind() {
             ErrorKind::NotFound => JournalFault::NoFolder,
             ErrorKind::AlreadyExists => JournalFault::Exists,
-            ErrorKind::StorageFull | ErrorKind::QuotaExceeded => JournalFault::NoRoom(error),
-            _ => JournalFault::NotMade(error),
+            ErrorKind::StorageFull | ErrorKind::QuotaExceeded => JournalFault::NoRoom(SystemError(
+                error,
+            )),
+            _ => JournalFault::NotMade(SystemError(error)),
         }
     }
 }
@@ -74,7 +77,7 @@ fn stopped_by(refused: Option<io::Error>) -> JournalFault
     ensures { result ≡ stopped_by refused }
 {
     match refused {
-        Some(error) => JournalFault::Refused(error),
+        Some(error) => JournalFault::Refused(SystemError(error)),
         None => JournalFault::TooSlow,
     }
 }
@@ -90,11 +93,11 @@ fn lost_by(
 {
     if !is_ended {
         if let Some(error) = refused {
-            return Some(JournalFault::Cut(error));
+            return Some(JournalFault::Cut(SystemError(error)));
         }
     }
     match unsynced {
-        Some(error) => Some(JournalFault::Unsynced(error)),
+        Some(error) => Some(JournalFault::Unsynced(SystemError(error))),
         None => {
             if is_ended {
                 None
@@ -132,7 +135,7 @@ fn read_as(is_whole: io::Result<bool>) -> Option<JournalFault>
                 Some(JournalFault::Differs)
             }
         }
-        Err(error) => Some(JournalFault::NotRead(error)),
+        Err(error) => Some(JournalFault::NotRead(SystemError(error))),
     }
 }
 
@@ -149,10 +152,12 @@ pub struct Journal<'a> {
     ended: Condvar,
 }
 
-// Whether nothing is written to the file any more, and its fault, if it has one.
+// Whether nothing is written to the file any more, and its fault, unless it was read back and is the trail.
 #[derive(Drop)]
 struct JournalEnd {
     is_over: bool,
+    // It was written to its end, and is to be read back.
+    is_ended: bool,
     fault: Option<JournalFault>,
 }
 
@@ -191,7 +196,8 @@ impl<'a> Journal<'a> {
             file: Mutex::new(file),
             end: Mutex::new(JournalEnd {
                 is_over: false,
-                fault: None,
+                is_ended: false,
+                fault: Some(JournalFault::Unended),
             }),
             ended: Condvar::new(),
         })
@@ -242,7 +248,10 @@ impl<'a> Journal<'a> {
         };
         let (refused, unsynced) = (disk.refused(), disk.unsynced());
         let mut end = self.end.lock(rt);
-        end.fault = fault_of(stopped, is_ended, refused, unsynced);
+        match fault_of(stopped, is_ended, refused, unsynced) {
+            Some(fault) => end.fault = Some(fault),
+            None => end.is_ended = true,
+        }
         end.is_over = true;
         drop(end);
         self.ended.notify_all();
@@ -274,12 +283,12 @@ impl<'a> Journal<'a> {
     /// its edition, its owner and its entries.
     pub fn compare(&self, rt: &impl Wait, edition: Edition, owner: UserId, entries: &EntryList) {
         let mut end = self.end.lock(rt);
-        if end.fault.is_none() {
+        if end.is_ended {
             end.fault = read_as(self.is_whole(edition, owner, entries));
         }
     }
 
-    /// The fault of the file, if it has one. The next call gives none.
+    /// The fault of the file, if it has one: it has none only after it was read back. The next call gives none.
     pub fn fault(&self, rt: &impl Wait) -> Option<JournalFault> {
         self.end.lock(rt).fault.take()
     }
