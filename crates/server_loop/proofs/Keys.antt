@@ -1,6 +1,6 @@
 -- Keys that wait, by cases.
 use Rattle.server_loop.proofs.Vocabulary.{◌≡◌, ◌||◌, ℕ, Bool, true, false, not, Option, Some, None, refl, sym, subst}
-use Rattle.server_loop.proofs.Vocabulary.{false≢true, IfBool, State, peer_at, with_peer, MustWait}
+use Rattle.server_loop.proofs.Vocabulary.{false≢true, State, peer_at, with_peer, MustWait}
 use Rattle.std.proofs.Common.{if◌then◌else◌}
 use Rattle.std.specs.Prelude.{MatchOption}
 use Rattle.server_seat.specs.declared.seat.SessionSeat.{Ghosts as Calls}

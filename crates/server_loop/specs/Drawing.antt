@@ -2,7 +2,7 @@
 use Rattle.std.specs.Prelude.{◌≡◌, ◌⊎◌, ◌+◌, ◌-◌, ◌<◌, ℕ, zero, suc, Bool, true, false, Option, Some, None}
 use Rattle.std.specs.Prelude.{Err, MatchOption, Ok, min}
 use Rattle.slab.specs.Slab.{get}
-use Rattle.session.specs.Trace.{EventValue, Draw}
+use Rattle.session.specs.Trace.{Draw}
 use Rattle.server_connections.specs.Changing.{drawn}
 use Rattle.server_connections.specs.Telling.{told_if_any}
 use Rattle.server_connections.specs.declared.connections.Connections.{Connections}

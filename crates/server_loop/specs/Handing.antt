@@ -4,7 +4,6 @@ use Rattle.acl.specs.declared.user_id.UserId.{UserId}
 use Rattle.attach_proto.specs.declared.kind.Kind.TheVariants as kind
 use Rattle.attach_proto.specs.declared.message.Message.TheVariants as message
 use Rattle.attach_proto.specs.declared.why.Why.TheVariants as why
-use Rattle.session.specs.Trace.{EventValue}
 use Rattle.session.specs.event.Effect.{Effect}
 use Rattle.session.specs.event.Effect.TheVariants as effect
 use Rattle.session.specs.event.Peer.TheVariants as peer
@@ -16,7 +15,7 @@ use Rattle.server_connections.specs.declared.peer.Role.{Role}
 use Rattle.server_connections.specs.declared.peer.Role.TheVariants as role
 use Rattle.server_seat.specs.declared.seat.SessionSeat.{Ghosts as Calls}
 use Rattle.server_loop.specs.Leaving.{Expels, IfBool}
-use Rattle.server_loop.specs.Submitting.{Answer, State, peer_at}
+use Rattle.server_loop.specs.Submitting.{State, peer_at}
 use Rattle.server_sending.specs.Causes.{told_of}
 use Rattle.server_sending.specs.Frames.{PutsFrames, PutsFront, PutsMessage}
 use Rattle.server_sending.specs.Written.{Waiting}

@@ -1,5 +1,5 @@
 -- What a turn of a loop leaves behind, and how connections go.
-use Rattle.std.specs.Prelude.{◌≡◌, ◌⊎◌, ◌<◌, ◌≤◌, ℕ, Bool, true, false, Option, Some, None, IfSome, if◌then◌else◌}
+use Rattle.std.specs.Prelude.{◌≡◌, ◌⊎◌, ◌<◌, ◌≤◌, ℕ, Bool, true, false, None, IfSome, if◌then◌else◌}
 use Rattle.std.specs.declared.time.Duration.{Duration}
 use Rattle.attach_proto.specs.declared.why.Why.TheVariants as why
 use Rattle.slab.specs.Slab.{Updates, get}

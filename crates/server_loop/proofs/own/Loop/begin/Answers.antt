@@ -1,4 +1,4 @@
-use Rattle.server_loop.proofs.Vocabulary.{◌≡◌, ◌∙◌, Some, None, true, ap, inl, refl, sym, subst, rules, codes, get}
+use Rattle.server_loop.proofs.Vocabulary.{◌≡◌, ◌∙◌, Some, None, true, ap, inl, refl, sym, subst, rules, codes}
 use Rattle.server_loop.proofs.Vocabulary.{Done, TurnsAway, State, happening, state_of, Loop}
 use Rattle.std.specs.Prelude.{option_map}
 use Rattle.server_steps.specs.Meaning.{shown_in}

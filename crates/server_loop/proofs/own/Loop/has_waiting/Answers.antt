@@ -1,4 +1,4 @@
-use Rattle.server_loop.proofs.Vocabulary.{◌≡◌, true, false, rules}
+use Rattle.server_loop.proofs.Vocabulary.{◌≡◌, false, rules}
 use Rattle.server_loop.proofs.Telling.{if_either, if_false}
 use Rattle.server_loop.proofs.own.Loop.has_waiting.Goals as goal
 

@@ -1,4 +1,4 @@
-use Rattle.server_loop.proofs.Vocabulary.{◌≡◌, ◌∙◌, ℕ, Option, None, false, refl, sym, subst, inl, inr, UserId, Why}
+use Rattle.server_loop.proofs.Vocabulary.{◌∙◌, ℕ, Option, None, refl, sym, subst, inl, inr, UserId, Why}
 use Rattle.server_loop.proofs.Vocabulary.{Dismisses, Ok, happening, state_of}
 use Rattle.server_seat.specs.declared.seat.SeatAnswer.{SeatAnswer}
 use Rattle.server_loop.specs.Trying.{Tries}

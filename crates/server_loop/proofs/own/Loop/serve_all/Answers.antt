@@ -1,4 +1,4 @@
-use Rattle.server_loop.proofs.Vocabulary.{◌≡◌, ℕ, Bool, true, false, is_some, refl, rules, state_of, Loop}
+use Rattle.server_loop.proofs.Vocabulary.{ℕ, is_some, refl, rules, state_of, Loop}
 use Rattle.std.proofs.Common.{nat_le, nat_lt}
 use Rattle.server_loop.specs.Serving.{ServesOther, ServesWindow}
 use Rattle.server_loop.proofs.Passing.{passed}
