@@ -1,13 +1,17 @@
 //! Runs `mux`: a client, a window, a command, or a question whether the server answers.
 
+ghost use Rattle.std.specs.Prelude.{◌≡◌, ◌⊎◌};
+ghost use Rattle.std.specs.Io.KnownBytes.{Appends};
+
 use crate::ending::{PeerEnding, tell_end, tell_fault, tell_unseen};
-use crate::opening::{prepare, warn_of_token};
+use crate::opening::{prepare, warn_of_mark, warn_of_token};
 use crate::shared::{SharedPeer, start_thread};
 use crate::typing::{resize, type_out};
 use crate::waiting::{start, wait};
 use crate::writing::write_out;
 use crate::{PeerHost, Sink, Source};
 use client_words::{Arguments, PeerFault, arguments_of};
+use program_words::SystemError;
 use std::alloc::{AllocError, Global};
 use std::fs::{File, Files};
 use std::io::Write;
@@ -70,6 +74,25 @@ fn run<R: PeerHost + Threads + Wait + Files<File = File> + AllocGlobal, I: Sourc
     Ok(wait(rt, &shared, arguments, sources))
 }
 
+// Prints what the arguments ask for in place of a session, as the help. Returns the exit status: 1 if that fails.
+fn print<O: Write, E: Write>(asked: &[u8], status: u8, output: &mut O, errors: &mut E) -> u8
+    ensures prints { result ≡ 0 → Appends (O.contents output.old) (O.contents output.new) asked.now }
+    ensures status { (result ≡ status) ⊎ (result ≡ 1) }
+{
+    if status != 0 {
+        return status;
+    }
+    let Err(error) = output.write_all(asked) else {
+        return 0;
+    };
+    let _ = writeln!(
+        errors,
+        "mux: can't write to standard output: {}",
+        SystemError(error)
+    );
+    1
+}
+
 /// Runs `mux`. The first word is the program's name. Returns the exit status: 0, 1 for a fault, 2 for
 /// invalid arguments.
 pub fn client<
@@ -79,11 +102,13 @@ pub fn client<
     E: Write,
 >(rt: &R, words: &[String], input: I, output: O, errors: &mut E) -> u8 {
     let mut output = output;
-    let arguments = match arguments_of(rt.alloc(), words, &mut output, errors) {
+    let mut asked = Vec::new(rt.alloc());
+    let arguments = match arguments_of(rt.alloc(), words, &mut asked, errors) {
         Ok(arguments) => arguments,
-        Err(status) => return status,
+        Err(status) => return print(&asked, status, &mut output, errors),
     };
     warn_of_token(rt, arguments.token, errors);
+    warn_of_mark(rt, &arguments, errors);
     match run(rt, &arguments, input, output) {
         Ok(ending) => tell_end(rt.alloc(), &ending, &arguments, errors),
         Err(fault) => {

@@ -40,7 +40,7 @@ impl PeerEnding {
             end: peer.ending(),
             said: peer.said.take(),
             has_dropped: peer.has_dropped,
-            has_left: peer.has_left(),
+            has_left: peer.times.left_at.is_some(),
             was_welcome: peer.was_welcome,
             is_unsure: peer.is_unsure,
         }

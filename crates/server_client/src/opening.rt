@@ -25,6 +25,9 @@ const PATIENCE: u64 = 20;
 // shows none.
 const GRACE: u64 = 300;
 
+// The most bytes of a file beside the socket that is read.
+const MOST_BESIDE: u64 = 65_536;
+
 // Modes of a file: those of its group and of all others.
 const OTHERS_READ: u32 = 0o044;
 
@@ -124,6 +127,39 @@ fn sizes_of<R: fs::Files<File = File>>(
     Ok(files)
 }
 
+// Whether a path names something that isn't read: a FIFO would wait for a writer, and a device may have no end.
+fn is_unreadable<R: fs::Files<File = File>>(rt: &R, path: &str) -> bool {
+    match fs::metadata(rt, path) {
+        Ok(found) => !found.is_file() || found.len() > MOST_BESIDE,
+        Err(_) => false,
+    }
+}
+
+/// Reads a short plain file beside the socket. None if there is none, or if it can't be read.
+pub fn read_beside<R: fs::Files<File = File> + AllocGlobal>(rt: &R, path: &str) -> Option<Vec<u8>> {
+    if is_unreadable(rt, path) {
+        return None;
+    }
+    fs::read(rt, path).ok()
+}
+
+/// Warns on standard error, if the peer is to come back, of a session's mark that isn't read.
+pub fn warn_of_mark<R: fs::Files<File = File> + AllocGlobal, E: Write>(
+    rt: &R,
+    arguments: &Arguments<'_>,
+    errors: &mut E,
+) {
+    if arguments.again > 0
+        && let Ok(path) = format!(in rt.alloc(); "{}.session", arguments.socket)
+        && is_unreadable(rt, path.as_str())
+    {
+        let _ = writeln!(
+            errors,
+            "mux: the session's name isn't read: {path} isn't a short plain file: remove it"
+        );
+    }
+}
+
 /// What stands beside the socket about the session that is served there. A mark is made anew for each server, so one
 /// that is older than the socket isn't this server's.
 pub fn mark_of<R: fs::Files<File = File> + AllocGlobal>(rt: &R, socket: &str) -> SessionMark {
@@ -132,7 +168,7 @@ pub fn mark_of<R: fs::Files<File = File> + AllocGlobal>(rt: &R, socket: &str) ->
         is_current: false,
     };
     if let Ok(path) = format!(in rt.alloc(); "{socket}.session")
-        && let Ok(name) = fs::read(rt, path.as_str())
+        && let Some(name) = read_beside(rt, path.as_str())
     {
         mark.name = name;
         mark.is_current = is_as_new(rt, path.as_str(), socket);

@@ -6,7 +6,7 @@ ghost use Rattle.server_client.specs.Lines.{has_line};
 use crate::attach::Sources;
 use crate::comeback::Comeback;
 use crate::ending::PeerEnding;
-use crate::opening::{Door, another_door, mark_of};
+use crate::opening::{Door, another_door, mark_of, read_beside};
 use crate::reading::serve;
 use crate::shared::{SharedPeer, start_thread};
 use crate::writing::send;
@@ -102,9 +102,9 @@ fn is_hidden<R: Files<File = File> + AllocGlobal>(
     let (Ok(line), Ok(path)) = (line, path) else {
         return true;
     };
-    match fs::read(rt, path.as_str()) {
-        Ok(lines) => has_line(&lines, line.as_bytes()),
-        Err(_) => true,
+    match read_beside(rt, path.as_str()) {
+        Some(lines) => has_line(&lines, line.as_bytes()),
+        None => true,
     }
 }
 
@@ -143,8 +143,8 @@ fn reopen<R: PeerHost + Wait + Files<File = File> + AllocGlobal>(
     let is_hidden = is_hidden(rt, arguments, number);
     let is_here = seat.is_here();
     let opened = seat.peer.reopen(&mark, is_here, is_hidden);
-    if let Err(fault) = opened {
-        seat.peer.end_by(Err(fault));
+    if opened.is_err() {
+        seat.peer.end_by(Err(PeerFault::NoMemory));
     }
     drop(seat);
     shared.work.notify_all();
