@@ -9,7 +9,7 @@ use MuxShare::Place;
 use MuxShare::Wire;
 
 # How long muxd, the shell and the end may take, and a command that ended at once to be gone, in seconds.
-use constant { START => 10, STOP => 3, STEP => 0.01, ENDED => 5 };
+use constant { START => 20, STOP => 3, STEP => 0.01, ENDED => 5 };
 # How long the shell and its terminals may take to come back when muxd was killed, and how often in a session.
 use constant { STAY => 60, OFTEN => 100 };
 # How many terminals one user may have, so that no guest takes all 64, and how long a title is at most.
@@ -156,7 +156,7 @@ sub wait_for {
 sub last_line_of_log {
     my ($self) = @_;
     $self->read_news;
-    return (split /\n/, content("$self->{own}/log"))[-1] // '';
+    return (split /\n/, content("$self->{own}/log"))[-1] // 'it took too long: try again';
 }
 
 # Starts a program whose standard error the keeper reads (read_news), with standard output as OUT, or there as well.
