@@ -3,6 +3,7 @@
 use crate::loop_handle::{HandedStream, LoopHandle};
 use mio::Registry;
 use mio::net::{UnixListener, UnixStream};
+use server_turns::Backlog;
 use std::alloc::{AllocError, Global};
 use std::io;
 use std::io::ErrorKind;
@@ -15,6 +16,12 @@ const SPARES: usize = 8;
 // At most this many connections are taken in before those that are there have their turn.
 const MOST: usize = 16;
 
+/// No connection waits.
+pub const NONE: Backlog = Backlog {
+    has_more: false,
+    is_stuck: false,
+};
+
 /// Takes connections in as they come, and hands the kth to loop k modulo the number of loops.
 #[derive(Drop)]
 pub struct Acceptor {
@@ -23,10 +30,7 @@ pub struct Acceptor {
     // Cloned to keep a descriptor: to let go of a clone frees its descriptor.
     registry: Registry,
     spares: Vec<Registry>,
-    /// More connections may wait.
-    pub has_more: bool,
-    /// Connections wait that couldn't be taken in.
-    pub is_stuck: bool,
+    pub backlog: Backlog,
 }
 
 impl Acceptor {
@@ -40,8 +44,7 @@ impl Acceptor {
             count: 0,
             registry,
             spares: Vec::with_capacity(alloc, SPARES)?,
-            has_more: false,
-            is_stuck: false,
+            backlog: NONE,
         })
     }
 
@@ -58,8 +61,7 @@ impl Acceptor {
     /// Takes in connections that wait, 16 at most. If the system refuses a descriptor, a kept one is
     /// used; if none is left, it tries again later.
     pub fn accept(&mut self, rt: &impl Wait, loops: &[LoopHandle]) -> io::Result<()> {
-        self.has_more = false;
-        self.is_stuck = false;
+        self.backlog = NONE;
         self.keep_spares();
         for _ in 0..MOST {
             let is_extra = self.spares.len() < SPARES;
@@ -70,13 +72,13 @@ impl Acceptor {
                     ErrorKind::Interrupted | ErrorKind::ConnectionAborted => {}
                     _ if self.spares.pop().is_some() => {}
                     _ => {
-                        self.is_stuck = true;
+                        self.backlog.is_stuck = true;
                         return Ok(());
                     }
                 },
             }
         }
-        self.has_more = true;
+        self.backlog.has_more = true;
         Ok(())
     }
 

@@ -1,6 +1,5 @@
--- How a server ends, and how long its loops wait.
-use Rattle.std.specs.Prelude.{ℕ, ◌-◌, ◌/◌, Bool, true, false, Option, Some, None, Result, Ok, Err, ⊤}
-use Rattle.std.specs.Prelude.{if◌then◌else◌, max, min, nat_le}
+-- How a server ends.
+use Rattle.std.specs.Prelude.{Bool, true, false, Option, Some, None, Result, Ok, Err, ⊤}
 use Rattle.std.specs.declared.io.Error.{Error}
 use Rattle.server_seat.specs.declared.seat.ServerEnd.{ServerEnd}
 use Rattle.server_seat.specs.declared.seat.ServerEnd.TheVariants as end
@@ -38,22 +37,3 @@ served (Err why) said missing = Err why
 served (Ok agrees) (Some (Ok is)) missing = Ok agrees
 served (Ok agrees) (Some (Err error)) missing = Err (fault.Untold (record { 0 = error }))
 served (Ok agrees) None missing = Err (why_unready missing)
-
--- the peers have had two seconds to read that the server ends, or a hundred looks without a clock
-abbrev pub is_late : Option ℕ → Option ℕ → ℕ → Bool
-is_late (Some began) (Some now) looks = nat_le 2000000000 (now - began)
-is_late _ _ looks = nat_le 100 looks
-
--- the nanoseconds that a loop sleeps at most: none with work, not beyond the time at which draws and other loops want
--- a look, and else until what was refused is tried again, or connections used up their time
-abbrev pub sleep_for : Bool → Bool → Bool → Option ℕ → Option ℕ
-sleep_for true retries waits longest = Some 0
-sleep_for false retries waits (Some longest) = Some longest
-sleep_for false true waits None = Some 20000000
-sleep_for false false waits None = if waits then Some 1000000000 else None
-
--- how many connections of a loop may wait for their first message: 256 by all loops together, but one at least; of
--- those that aren't to stay one
-abbrev pub most_new : ℕ → Bool → ℕ
-most_new loops true = 1
-most_new loops false = 256 / min 256 (max 1 loops)

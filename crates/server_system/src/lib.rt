@@ -11,7 +11,7 @@ mod users_file;
 mod watched;
 mod wired;
 
-pub use ending::{Unready, cause_of, is_late, most_new, outcome_of, served, sleep_for};
+pub use ending::{Unready, cause_of, outcome_of, served};
 pub use fault::ServeFault;
 pub use log::Log;
 pub use socket::SocketPath;

@@ -1,16 +1,18 @@
 -- One turn of a loop with what it has around it, and its last ones.
-use Rattle.std.specs.Prelude.{◌≡◌, ◌⊎◌, ◌||◌, ◌≤◌, ℕ, zero, suc, Bool, true, false, Option, Some, None, Result, Ok, Err}
-use Rattle.std.specs.Prelude.{⊤, [], if◌then◌else◌}
+use Rattle.std.specs.Prelude.{◌≡◌, ◌⊎◌, ◌↔◌, ◌&&◌, ◌||◌, ◌+◌, ◌<◌, ◌≤◌, ℕ, Bool, true, false, Option, Some, None}
+use Rattle.std.specs.Prelude.{Result, Ok, Err, ⊤, [], IfSome, IsSome, IsSomeAnd, is_some, not, option_map}
+use Rattle.std.specs.Duration.{as_nanos}
 use Rattle.std.specs.Option.{option_or}
 use Rattle.std.specs.declared.io.Error.{Error}
 use Rattle.std.specs.declared.time.Duration.{Duration}
 use Rattle.slab.specs.Slab.{slab_len}
 use Rattle.server_connections.specs.declared.peer.Awaits.TheVariants as awaited
-use Rattle.server_connections.specs.declared.peer.Peer.{Peer}
 use Rattle.server_connections.specs.declared.peer_stream.PeerStream.{Ghosts as Streams}
+use Rattle.server_pace.specs.declared.pace.Pace.{Pace}
 use Rattle.server_seat.specs.declared.seat.ServerEnd.{ServerEnd}
 use Rattle.server_seat.specs.declared.seat.SessionSeat.{Ghosts as Calls}
 use Rattle.server_steps.specs.Ending.{EachKey, seen_at}
+use Rattle.server_steps.specs.declared.submitted.Submitted.{Submitted}
 use Rattle.server_steps.specs.declared.turns.Reads.{Reads}
 use Rattle.server_steps.specs.declared.turns.Writes.{Writes}
 use Rattle.server_loop.specs.Awaiting.{AnyAwaits}
@@ -19,23 +21,11 @@ use Rattle.server_loop.specs.Serving.{ReadsAll}
 use Rattle.server_loop.specs.Submitting.{State}
 use Rattle.server_loop.specs.Turning.{EndsTurn, Expires, Finishes}
 use Rattle.server_loop.specs.Walking.{VisitsAll}
-use Rattle.server_turns.specs.declared.around.Around.{Ghosts as Arounds}
+use Rattle.server_turns.specs.Calls.{Call, Ask, Await, Close, End, Know, Now, Pause, Tell, Wake}
+use Rattle.server_turns.specs.Course.{Course}
+use Rattle.server_turns.specs.Steps.{Many, Until}
+use Rattle.server_turns.specs.Waits.{is_late}
 use Rattle.server_turns.specs.declared.around.Learned.{Learned}
-
-module _ {S : Type 0} where
-  abbrev pub readied : Bool → Bool → Peer S → Peer S
-  readied is_ready has_hung_up peer = if is_ready then record peer {
-    has_more = true;
-    has_hung_up = peer.has_hung_up || has_hung_up;
-  } else peer
-
-  abbrev pub roomed : Bool → Peer S → Peer S
-  roomed has_room peer = if has_room then record peer { is_full = false } else peer
-
-  -- there is something to read, it takes bytes again, or its other end was closed, which is read and written to see
-  abbrev pub marked : Bool → Bool → Bool → Peer S → Peer S
-  marked is_readable is_writable has_hung_up peer =
-      roomed (is_writable || has_hung_up) (readied (is_readable || has_hung_up) has_hung_up peer)
 
 module _ {S J : Type 0} where
   -- what a loop knows of who may connect, after it learned this
@@ -43,106 +33,170 @@ module _ {S J : Type 0} where
   learned None s = s
   learned (Some known) s = record s { looked = Some known.look; users = option_or known.users s.users }
 
-module _ {S J A : Type 0} (arounds : Arounds A) where
-  -- what is known of who may connect was asked for, once; the loop takes users that it hasn't
-  abbrev pub Learns : A → ℕ → ℕ → State S J → State S J → Type 0
-  Learns around count after old new =
-      (known : Option Learned) × arounds.knows around count known after × (new ≡ learned known old)
+-- ---- when draws wait
 
-  -- it was if a message waits; then looks that end from now on wake the loop
-  abbrev pub Looks : A → ℕ → ℕ → State S J → State S J → Type 0
-  Looks around count after old new = (waits : Bool) × AnyAwaits awaited.Ration old waits
-      × IfBool waits (arounds.awaits around × Learns around count after old new) ((after ≡ count) × (new ≡ old))
+-- it was noted whether much comes to a loop, which ends less than a millisecond after that
+pub record NotesMuch (now : Option Duration) (much : Bool) (old : Pace) (changed : Bool) (new : Pace) : Type 0 where
+  pub comes : much ≡ true → IsSome new.much × (IsSome now → new.much ≡ now)
+  pub lately : much ≡ false → IfSome new.much (λ at. (old.much ≡ Some at)
+      × IsSomeAnd now (λ n. as_nanos n < as_nanos at + 1000000))
+  pub over : much ≡ false → new.much ≡ None
+      → IfSome old.much (λ at. IfSome now (λ n. as_nanos at + 1000000 ≤ as_nanos n))
+  pub is_news : (changed ≡ false) ↔ (is_some new.much ≡ is_some old.much)
+  pub same : new ≡ record old { much = new.much }
 
-  -- first messages that waited for a look that nobody asked for wait for one that was asked for now
-  abbrev pub AsksLook : A → State S J → State S J → Type 0
-  AsksLook around old new = arounds.awaits around × (look : ℕ) × arounds.asks around look
-      × EachKey (λ key was now. now ≡ seen_at look key was) old.connections.peers.capacity 0
-      old.connections new.connections
-      × (new ≡ record old { connections = new.connections })
+-- draws wait as they did or since now, and for less than 20 milliseconds
+pub record HoldsDraws (now : Option Duration) (holds : Bool) (old new : Pace) : Type 0 where
+  pub since : IfSome new.since (λ s. (old.since ≡ Some s) ⊎ ((old.since ≡ None) × (now ≡ Some s)))
+  pub held : holds ≡ is_some new.since
+  pub bound : holds ≡ true → IsSomeAnd new.since (λ since. IsSomeAnd now (λ at.
+      as_nanos at < as_nanos since + 20000000))
 
-  -- a look was asked for if one waits so
-  abbrev pub Asks : A → State S J → State S J → Type 0
-  Asks around old new = (waits : Bool) × AnyAwaits awaited.Look old waits
-      × IfBool waits (AsksLook around old new) (new ≡ old)
+-- a crowd was drawn
+pub record NotesDrawn (now : Option Duration) (clients : ℕ) (old new : Pace) : Type 0 where
+  pub crowd : 8 ≤ clients → new ≡ record old { drawn = now }
+  pub few : clients < 8 → new ≡ old
 
-  -- what happened was told to the log, all of it and once
-  abbrev pub Tells : A → State S J → State S J → Type 0
-  Tells around old new = arounds.tells around old.news × (new ≡ record old { news = [] })
+module _ {S J A : Type 0} where
+  abbrev pub Notes : Option Duration → Bool → Course S J A → Bool → Course S J A → Type 0
+  Notes now much old changed new =
+      NotesMuch now much old.pace changed new.pace × (new ≡ record old { pace = new.pace })
 
-module _ {A : Type 0} (arounds : Arounds A) where
-  -- the server ends, if it is to
-  abbrev pub EndsServer : Option ServerEnd → A → Result ⊤ Error → Type 0
-  EndsServer None around result = result ≡ Ok tt
-  EndsServer (Some end) around result = arounds.ends around end result
+  abbrev pub Holds : Option Duration → Course S J A → Bool → Course S J A → Type 0
+  Holds now old holds new = HoldsDraws now holds old.pace new.pace × (new ≡ record old { pace = new.pace })
 
-module _ {S J A : Type 0} (calls : Calls J) (streams : Streams S) (arounds : Arounds A) where
-  -- unless the other loops can't be woken, what happened was told, and the server ends if it is to
-  abbrev pub EndsBy : Result ⊤ Error → Option ServerEnd → A → State S J → Result ⊤ Error → State S J → Type 0
-  EndsBy (Err error) end around old result new = (result ≡ Err error) × (new ≡ old)
-  EndsBy (Ok done) end around old result new = Tells arounds around old new × EndsServer arounds end around result
+  module _ (does : A → Call → A → Type 0) where
+    -- what is known of who may connect was asked for, once; the loop takes users that it hasn't
+    abbrev pub Learns : Course S J A → Course S J A → Type 0
+    Learns old new = (known : Option Learned) × does old.around (Know old.count known new.count) new.around
+        × (new ≡ record old { own = learned known old.own; around = new.around; count = new.count })
 
-  -- a loop's turn ended, once, and the others were woken for what it brought
-  pub record Ends (now : Option Duration) (holds : Bool) (around : A) (old : State S J) (result : Result ⊤ Error)
-      (left : A) (new : State S J)
-      : Type 0 where
-    pub writes : Writes
-    pub ended : State S J
-    pub ends : EndsTurn calls streams holds old writes ended
-    pub woken : Result ⊤ Error
-    pub wakes : arounds.wakes around now writes woken left
-    pub after : EndsBy woken writes.end left ended result new
+    -- it was if a message waits; then looks that end from now on wake the loop
+    abbrev pub Looks : Course S J A → Course S J A → Type 0
+    Looks old new = (waits : Bool) × AnyAwaits awaited.Ration old.own waits
+        × IfBool waits ((mid : A) × does old.around Await mid × Learns (record old { around = mid }) new) (new ≡ old)
 
-  -- unless the other loops can't be woken, connections that were waited for too long went, and the turn ended
-  abbrev pub EndsReads : Result Bool Error → Option Duration → A → State S J → Result ⊤ Error → A → State S J → Type 0
-  EndsReads (Err error) now around old result left new = (result ≡ Err error) × (left ≡ around) × (new ≡ old)
-  EndsReads (Ok holds) now around old result left new = (expired : State S J)
-      × VisitsAll (Expires old.now) old expired
-      × Ends now holds around expired result left new
+    -- first messages that waited for a look that nobody asked for wait for one that was asked for now
+    abbrev pub AsksLook : Course S J A → Course S J A → Type 0
+    AsksLook old new = (mid : A) × does old.around Await mid × (look : ℕ) × does mid (Ask look) new.around
+        × EachKey (λ key was now. now ≡ seen_at look key was) old.own.connections.peers.capacity 0
+        old.own.connections new.own.connections
+        × (new ≡ record old { around = new.around; own = record old.own { connections = new.own.connections } })
 
-  -- One turn: all that is awake was read and served, once. A look at the users' file was asked for if a first message
-  -- waits for it, and the others were woken for what the reads brought. Then the turn ended.
-  pub record Turns (now : Option Duration) (around : A) (old : State S J) (result : Result ⊤ Error) (left : A)
-      (new : State S J)
-      : Type 0 where
-    pub reads : Reads
-    pub read : State S J
-    pub reads_all : ReadsAll calls streams old reads read
-    pub asked : State S J
-    pub asks : Asks arounds around read asked
-    pub held : Result Bool Error
-    pub mid : A
-    pub holds : arounds.holds around now reads held mid
-    pub after : EndsReads held now mid asked result left new
+    -- a look was asked for if one waits so
+    abbrev pub Asks : Course S J A → Course S J A → Type 0
+    Asks old new = (waits : Bool) × AnyAwaits awaited.Look old.own waits
+        × IfBool waits (AsksLook old new) (new ≡ old)
 
-  -- one round more: nobody is left, the peers had their time, or all were told again why the server ends
-  abbrev pub WindsOn : ServerEnd → A → State S J → Result Bool Error → A → State S J → Type 0
-  WindsOn end around old (Ok false) left new = (new ≡ old)
-      × ((slab_len old.connections.peers ≡ 0) ⊎ ((count : ℕ) × arounds.pauses around count (Ok false) left))
-  WindsOn end around old (Ok true) left new =
-      (count : ℕ) × arounds.pauses around count (Ok true) left × Finishes calls streams end old new
-  WindsOn end around old (Err error) left new =
-      (new ≡ old) × (count : ℕ) × arounds.pauses around count (Err error) left
+    -- The other loops were woken for a step that may be more than a draw, or for news. While much comes to this one
+    -- they weren't for output.
+    abbrev pub WakesIf : Submitted → Bool → Course S J A → Result ⊤ Error → Course S J A → Type 0
+    WakesIf submitted news old result new =
+        IfBool (news || (submitted.has_acted || (submitted.is_some && not (is_some old.pace.much))))
+        (does old.around (Wake result) new.around × (new ≡ record old { around = new.around }))
+        ((result ≡ Ok tt) × (new ≡ old))
 
-  -- all were told why the server ends, and written to, this many times
-  abbrev pub Winds : ServerEnd → ℕ → State S J → State S J → Type 0
-  Winds end zero old new = new ≡ old
-  Winds end (suc count) old new = (mid : State S J) × Winds end count old mid × Finishes calls streams end mid new
+    -- a turn's reads ended: if the others could be woken, it is known whether draws wait
+    abbrev pub EndsReads : Option Duration → Reads → Course S J A → Result Bool Error → Course S J A → Type 0
+    EndsReads now reads old (Ok holds) new = (mid : Course S J A) × (news : Bool)
+        × Notes now reads.is_much old news mid × (woken : Course S J A)
+        × WakesIf reads.submitted news mid (Ok tt) woken × Holds now woken holds new
+    EndsReads now reads old (Err error) new = (mid : Course S J A) × (news : Bool)
+        × Notes now reads.is_much old news mid × WakesIf reads.submitted news mid (Err error) new
 
-  -- nobody is left, the peers had their time, or they were told so many times
-  abbrev pub IsOver : ℕ → A → State S J → Type 0
-  IsOver count left s = (slab_len s.connections.peers ≡ 0)
-      ⊎ (((was : A) × (pauses : ℕ) × arounds.pauses was pauses (Ok false) left) ⊎ (18446744073709551615 ≤ count))
+    abbrev pub EndsWrites : Option Duration → Writes → Course S J A → Result ⊤ Error → Course S J A → Type 0
+    EndsWrites now writes old result new = (drawn : Pace) × NotesDrawn now writes.drawn old.pace drawn
+        × WakesIf writes.submitted false (record old { pace = drawn }) result new
 
-  -- all were told why the server ends, once or more, until nobody is left or the peers had their time
-  abbrev pub WindsAll : ServerEnd → State S J → Result ⊤ Error → A → State S J → Type 0
-  WindsAll end old (Ok done) left new =
-      (count : ℕ) × Winds end (suc count) old new × IsOver count left new
-  WindsAll end old (Err error) left new = (count : ℕ) × Winds end (suc count) old new
-      × (was : A) × (pauses : ℕ) × arounds.pauses was pauses (Err error) left
+    -- what happened was told to the log, all of it and once
+    abbrev pub Tells : Course S J A → Course S J A → Type 0
+    Tells old new = does old.around (Tell old.own.news) new.around
+        × (new ≡ record old { around = new.around; own = record old.own { news = [] } })
 
-  -- then what happened was told to the log
-  abbrev pub WindsUp : ServerEnd → State S J → Result ⊤ Error → A → State S J → Type 0
-  WindsUp end old (Ok done) left new =
-      (mid : State S J) × WindsAll end old (Ok done) left mid × Tells arounds left mid new
-  WindsUp end old (Err error) left new = WindsAll end old (Err error) left new
+    -- the server ends, if it is to
+    abbrev pub EndsServer : Option ServerEnd → Course S J A → Result ⊤ Error → Course S J A → Type 0
+    EndsServer None old result new = (result ≡ Ok tt) × (new ≡ old)
+    EndsServer (Some end) old result new =
+        does old.around (End end result) new.around × (new ≡ record old { around = new.around })
+
+    -- unless the other loops can't be woken, what happened was told, and the server ends if it is to
+    abbrev pub EndsBy : Result ⊤ Error → Option ServerEnd → Course S J A → Result ⊤ Error → Course S J A → Type 0
+    EndsBy (Err error) end old result new = (result ≡ Err error) × (new ≡ old)
+    EndsBy (Ok done) end old result new =
+        (mid : Course S J A) × Tells old mid × EndsServer end mid result new
+
+  module _ (calls : Calls J) (streams : Streams S) (does : A → Call → A → Type 0) where
+    -- a loop's turn ended, once, and the others were woken for what it brought
+    pub record Ends (now : Option Duration) (holds : Bool) (old : Course S J A) (result : Result ⊤ Error)
+        (new : Course S J A)
+        : Type 0 where
+      pub writes : Writes
+      pub ended : State S J
+      pub ends : EndsTurn calls streams holds old.own writes ended
+      pub woken : Result ⊤ Error
+      pub mid : Course S J A
+      pub wakes : EndsWrites does now writes (record old { own = ended }) woken mid
+      pub after : EndsBy does woken writes.end mid result new
+
+    -- unless the other loops can't be woken, connections that were waited for too long went, and the turn ended
+    abbrev pub EndsFrom : Result Bool Error → Option Duration → Course S J A → Result ⊤ Error → Course S J A → Type 0
+    EndsFrom (Err error) now old result new = (result ≡ Err error) × (new ≡ old)
+    EndsFrom (Ok holds) now old result new = (expired : State S J)
+        × VisitsAll (Expires old.own.now) old.own expired
+        × Ends now holds (record old { own = expired }) result new
+
+    -- The users who may connect were taken if a message waits. All that is awake was read and served, once. A look at
+    -- the users' file was asked for if a first message waits for it, and the others were woken for what this brought.
+    pub record ReadsTurn (now : Option Duration) (old : Course S J A) (held : Result Bool Error) (new : Course S J A)
+        : Type 0 where
+      pub looked : Course S J A
+      pub looks : Looks does old looked
+      pub reads : Reads
+      pub read : State S J
+      pub reads_all : ReadsAll calls streams looked.own reads read
+      pub asked : Course S J A
+      pub asks : Asks does (record looked { own = read }) asked
+      pub holds : EndsReads does now reads asked held new
+
+    -- one turn: what came was read, and then the turn ended
+    abbrev pub Turns : Option Duration → Course S J A → Result ⊤ Error → Course S J A → Type 0
+    Turns now old result new = (held : Result Bool Error) × (mid : Course S J A) × ReadsTurn now old held mid
+        × EndsFrom held now mid result new
+
+    -- the peers had their time to read how the server ends
+    abbrev pub AreLate : ℕ → Course S J A → Type 0
+    AreLate count at = (now : Option Duration) × does at.around (Now now) at.around
+        × (is_late (option_map as_nanos at.ended) (option_map as_nanos now) count ≡ true)
+
+    -- one round more: nobody is left, the peers had their time, or all were told again why the server ends
+    abbrev pub WindsOn : ServerEnd → ℕ → Course S J A → Result Bool Error → Course S J A → Type 0
+    WindsOn end count old (Ok false) new = (new ≡ old)
+        × ((slab_len old.own.connections.peers ≡ 0) ⊎ AreLate count old)
+    WindsOn end count old (Ok true) new = does old.around (Pause (Ok tt)) new.around
+        × Finishes calls streams end old.own new.own × (new ≡ record old { around = new.around; own = new.own })
+    WindsOn end count old (Err error) new =
+        does old.around (Pause (Err error)) new.around × (new ≡ record old { around = new.around })
+
+    abbrev pub WindsUntil : ServerEnd → Course S J A → Result ⊤ Error → Course S J A → Type 0
+    WindsUntil end old (Ok done) new = Until (λ count was now. WindsOn end count was (Ok true) now)
+        (λ count was now. WindsOn end count was (Ok false) now) old new
+    WindsUntil end old (Err error) new = (count : ℕ) × (mid : Course S J A)
+        × Many (λ count was now. WindsOn end count was (Ok true) now) count old mid
+        × WindsOn end count mid (Err error) new
+
+    -- all were told why the server ends, once or more, until nobody is left, or the peers had their time
+    abbrev pub WindsAll : ServerEnd → Course S J A → Result ⊤ Error → Course S J A → Type 0
+    WindsAll end old result new = (told : State S J) × Finishes calls streams end old.own told
+        × WindsUntil end (record old { own = told }) result new
+
+    -- no connection was taken in any more, and the time was noted
+    abbrev pub Closes : Course S J A → Course S J A → Type 0
+    Closes old new = does old.around Close new.around × (now : Option Duration)
+        × does new.around (Now now) new.around × (new ≡ record old { around = new.around; ended = now })
+
+    -- then all were told, and what happened was told to the log
+    abbrev pub WindsUp : ServerEnd → Course S J A → Result ⊤ Error → Course S J A → Type 0
+    WindsUp end old (Ok done) new = (closed : Course S J A) × Closes old closed
+        × (mid : Course S J A) × WindsAll end closed (Ok done) mid × Tells does mid new
+    WindsUp end old (Err error) new =
+        (closed : Course S J A) × Closes old closed × WindsAll end closed (Err error) new

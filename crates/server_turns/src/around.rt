@@ -1,12 +1,10 @@
 //! What a loop has around it.
 
-ghost use Rattle.std.specs.Prelude.{◌≡◌};
-
 use server_seat::{News, ServerEnd};
-use server_steps::{Reads, Writes};
 use server_users::Users;
 use std::io;
 use std::sync::Wait;
+use std::sync::atomic::AtomicU64;
 use std::time::{Clock, Duration};
 
 /// What a loop learns of who may connect.
@@ -18,71 +16,122 @@ pub struct Learned {
     pub users: Option<Users>,
 }
 
-/// What a loop has around it: the other loops, the users' file, and the log. Each relation is shown by a
-/// call of its function alone. What the others see of a call lies behind threads, and no clause tells it.
-pub trait Around {
-    ghost use Rattle.std.specs.Prelude.{ℕ, Bool, List, Option, Result, ⊤};
-    ghost use Rattle.std.specs.declared.io.Error.{Error as Fault};
-    ghost use Rattle.std.specs.declared.time.Duration.{Duration as Time};
-    ghost use Rattle.server_seat.specs.declared.news.News.{News as Told};
-    ghost use Rattle.server_seat.specs.declared.seat.ServerEnd.{ServerEnd as End};
-    ghost use Rattle.server_steps.specs.declared.turns.Reads.{Reads as Read};
-    ghost use Rattle.server_steps.specs.declared.turns.Writes.{Writes as Written};
-    ghost use Rattle.server_turns.specs.declared.around.Learned.{Learned as Known};
+/// What came to a loop.
+#[derive(Clone, Copy)]
+pub enum Came {
+    /// News of the other loops.
+    Wake,
+    /// Connections may wait to be handed to the loops.
+    Listener,
+    /// Something came to the connection of this key: there may be something to read, it may take bytes
+    /// again, or its other end was closed.
+    Peer {
+        key: usize,
+        is_readable: bool,
+        is_writable: bool,
+        has_hung_up: bool,
+    },
+}
 
-    // The loop is woken by each look at the users' file that ends after this.
-    ghost awaits: { Self → Type 0 };
+/// How it stands with connections that weren't handed to the loops yet, if this loop does so.
+#[derive(Clone, Copy)]
+pub struct Backlog {
+    /// More may wait.
+    pub has_more: bool,
+    /// Some wait that couldn't be taken in.
+    pub is_stuck: bool,
+}
 
-    // The number of the look that was asked for.
-    ghost asks: { Self → ℕ → Type 0 };
+/// What a loop has around it: the other loops, the listener, the users' file, the log and the system. What
+/// they see of a call lies behind threads, and no clause tells it.
+pub trait Around<S> {
+    ghost use Rattle.std.specs.Prelude.{ℕ, Bool, Option};
+    ghost use Rattle.server_turns.specs.Calls.{Call, Accept, Arrive, Ask, Await, Close, End, Event, Hand, Know, Note};
+    ghost use Rattle.server_turns.specs.Calls.{Now, Over, Pause, Queue, Take, Tell, Wait as Sleep, Wake as Rouse};
 
-    // The count of the users that the loop has, what it learns, and the count of the users that it has then.
-    ghost knows: { Self → ℕ → Option Known → ℕ → Type 0 };
+    // What a call was given and answered. Only that call shows it, and one call shows no second one.
+    ghost does: { Self → Call → Self → Type 0 };
 
-    // The time, what a turn's reads brought, and whether its draws wait.
-    ghost holds: { Self → Option Time → Read → Result Bool Fault → Self → Type 0 };
+    // The key of a connection, and its stream.
+    ghost wires: { Self → ℕ → Option S → Self → Type 0 };
 
-    // The time, and what a turn's end brought.
-    ghost wakes: { Self → Option Time → Written → Result ⊤ Fault → Self → Type 0 };
+    /// The loop is ready. It waits until all loops are. Returns whether they are to serve.
+    fn arrive<R: Wait>(&mut self, rt: &R) -> bool
+        ensures { does self.old (Arrive result) self.new };
 
-    ghost tells: { Self → List Told → Type 0 };
+    /// How many loops much comes to.
+    fn busy(&self) -> &AtomicU64;
 
-    ghost ends: { Self → End → Result ⊤ Fault → Type 0 };
+    /// The time, if there is a clock.
+    fn now<R: Clock>(&self, rt: &R) -> Option<Duration>
+        ensures { does self.now (Now result) self.now };
 
-    // How often was paused before, and whether the peers have time to read yet.
-    ghost pauses: { Self → ℕ → Result Bool Fault → Self → Type 0 };
+    fn backlog(&self) -> Backlog
+        ensures { does self.now (Queue result) self.now };
+
+    /// Waits until something comes, at most this long. News of the other loops end it at once.
+    fn wait(&mut self, longest: Option<Duration>) -> io::Result<()>
+        ensures { does self.old (Sleep longest result) self.new };
+
+    /// What else came by the end of the last wait.
+    fn next_event(&mut self) -> Option<Came>
+        ensures { does self.old (Event result) self.new };
+
+    /// Hands connections that wait to the loops.
+    fn accept<R: Wait>(&mut self, rt: &R) -> io::Result<()>
+        ensures { does self.old (Accept result) self.new };
+
+    /// Takes the news that came before this; what they tell of is looked at after this.
+    fn take_news(&mut self)
+        ensures { does self.old Take self.new };
+
+    /// The next connection that was handed to this loop: whether it is extra, as no more are to stay.
+    fn next_handed<R: Wait>(&mut self, rt: &R) -> Option<bool>
+        ensures { does self.old (Hand result) self.new };
+
+    /// The stream of the connection that was handed last, which wakes the loop under this key. None if the
+    /// system refuses.
+    fn wire(&mut self, key: usize) -> Option<S>
+        ensures { wires self.old key result self.new };
+
+    /// The loop has this many connections. While it has none it isn't woken for the others' steps.
+    fn note_peers(&mut self, count: usize)
+        ensures { does self.old (Note count) self.new };
 
     /// From now on a look that ends wakes the loop.
-    fn await_look(&self)
-        ensures { awaits self.now };
+    fn await_look(&mut self)
+        ensures { does self.old Await self.new };
 
     /// Asks for a look at the users' file that begins after this, and gives its number.
-    fn ask<R: Wait>(&self, rt: &R) -> u64
-        ensures { asks self.now result };
+    fn ask<R: Wait>(&mut self, rt: &R) -> u64
+        ensures { does self.old (Ask result) self.new };
 
     /// What is known by now, for a loop that has the users of this count. None if there is no memory for a
     /// copy of the users.
-    fn newest<R: Clock + Wait>(&self, rt: &R, count: &mut u64) -> Option<Learned>
-        ensures { knows self.now count.old result count.new };
+    fn newest<R: Clock + Wait>(&mut self, rt: &R, count: &mut u64) -> Option<Learned>
+        ensures { does self.old (Know count.old result count.new) self.new };
 
-    /// A turn's reads are done: wakes the other loops if they may have something to do. Returns whether the
-    /// turn's draws wait.
-    fn end_reads(&mut self, now: Option<Duration>, reads: Reads) -> io::Result<bool>
-        ensures { holds self.old now reads result self.new };
-
-    /// A turn's writes are done: wakes the other loops if they may have something to do.
-    fn end_writes(&mut self, now: Option<Duration>, writes: Writes) -> io::Result<()>
-        ensures { wakes self.old now writes result self.new };
+    /// Wakes the other loops that have connections.
+    fn wake_others(&mut self) -> io::Result<()>
+        ensures { does self.old (Rouse result) self.new };
 
     /// Tells the log what happened.
-    fn tell<R: Clock + Wait>(&self, rt: &R, news: &[News])
-        ensures { tells self.now news.now };
+    fn tell<R: Clock + Wait>(&mut self, rt: &R, news: &[News])
+        ensures { does self.old (Tell news.now) self.new };
 
     /// The server is to end: the first cause holds.
-    fn end(&self, end: ServerEnd) -> io::Result<()>
-        ensures { ends self.now end result };
+    fn end(&mut self, end: ServerEnd) -> io::Result<()>
+        ensures { does self.old (End end result) self.new };
 
-    /// Waits a while for peers that read how the server ends. The answer is false once they had their time.
-    fn pause<R: Clock + Wait>(&mut self, rt: &R, count: u64) -> io::Result<bool>
-        ensures { pauses self.old count result self.new };
+    /// Why the server ends, once it does.
+    fn over(&self) -> Option<ServerEnd>
+        ensures { does self.now (Over result) self.now };
+
+    /// No connection is handed to the loops any more.
+    fn close(&mut self)
+        ensures { does self.old Close self.new };
+
+    /// Waits some milliseconds for peers that read how the server ends.
+    fn pause(&mut self) -> io::Result<()>
+        ensures { does self.old (Pause result) self.new };
 }

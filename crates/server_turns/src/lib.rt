@@ -2,7 +2,10 @@
 #![tactic(auto)]
 
 mod around;
+mod begin;
+mod turner;
 mod turns;
+mod waits;
 
-pub use around::{Around, Learned};
-pub use turns::{mark, turn, wind_up};
+pub use around::{Around, Backlog, Came, Learned};
+pub use turner::Turner;
