@@ -9,7 +9,7 @@ use clap::{ArgMatches, Error};
 use mio::net::UnixListener;
 use program_words::{SystemError, of_server, tell};
 use server_loop::{Gate, Open};
-use server_session::{Accounts, Limits, Start};
+use server_session::{Accounts, Books, Limits, Start};
 use server_system::{
     Host, LastLine, LastLook, Log, ServeFault, SocketPath, Stamp, UsersFile, WatchedUsers,
     fill_closed,
@@ -179,7 +179,7 @@ where
         gate: handles.gate,
         files,
         place,
-        accounts: Accounts::new(alloc, users.owner(), options.limits),
+        accounts: Accounts::new(Books::new(alloc, users.owner(), options.limits)),
         setup,
         log: files.stderr(),
         journal,

@@ -1,4 +1,5 @@
 pub mod Counting
+pub mod Gauging
 pub mod Loading
 pub mod Outcomes
 pub mod Seating

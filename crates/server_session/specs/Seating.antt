@@ -1,17 +1,20 @@
 -- What a seat shows of the session that it is in.
-use Rattle.std.specs.Prelude.{◌≡◌, ℕ, Bool, Option, Some, None, Result, Ok, Err, IfSome, IsSome}
+use Rattle.std.specs.Prelude.{◌≡◌, ℕ, Bool, List, [], ◌∷◌, Option, Some, None, Result, Ok, Err, IfSome, IsSome}
+use Rattle.acl.specs.declared.user_id.UserId.{UserId}
 use Rattle.hub.specs.Filing.{kept_of}
 use Rattle.hub.specs.Seats.{Sitting, Told}
 use Rattle.hub.specs.Trails.{Entry}
 use Rattle.hub.specs.answer.HubFault.{HubFault}
 use Rattle.hub.specs.answer.HubFault.TheVariants as hub
 use Rattle.session.specs.Trace.{EventValue}
+use Rattle.session.specs.event.Effect.{Effect}
 use Rattle.server_seat.specs.declared.seat.SeatAnswer.{SeatAnswer}
 use Rattle.server_seat.specs.declared.seat.SeatFault.{SeatFault}
 use Rattle.server_seat.specs.declared.seat.SeatFault.TheVariants as fault
 use Rattle.server_seat.specs.declared.seat.ServerEnd.TheVariants as end
 use Rattle.server_trail.specs.declared.waiting.Stopped.{Stopped}
-use Rattle.server_session.specs.Loading.{opened_by, size_of}
+use Rattle.server_session.specs.Gauging.{IsGauged}
+use Rattle.server_session.specs.Loading.{closed_by, opened_by, size_of}
 use Rattle.server_session.specs.Outcomes.{outcome_of}
 
 -- if an answer has an entry, and the trail a file, then the entry was put down at its place
@@ -35,6 +38,15 @@ IsRefused event hub.NoMemory = Unit {0}
 IsRefused event (hub.TrailFull why) = IsSome (kept_of event)
 IsRefused event (hub.Strange why) = IsSome (kept_of event)
 
+module _ {B : Type 0} (closes : B → ℕ → B → Type 0) where
+  -- a window that is gone by an effect isn't counted any more
+  abbrev pub IsClosed : Effect → Type 0
+  IsClosed effect = IfSome (closed_by effect) (λ window. (was : B) × (then : B) × closes was window then)
+
+  abbrev pub AreClosed : List (Effect × Option UserId) → Type 0
+  AreClosed [] = Unit {0}
+  AreClosed (sent ∷ rest) = IsClosed sent.0 × AreClosed rest
+
 module _ {B : Type 0} (types_in : B → ℕ → ℕ → B → Type 0) (opens : B → ℕ → Bool → B → Type 0) where
   -- what a step typed into a window was counted, and so was a window that it opened
   pub record IsCounted (told : Told) : Type 0 where
@@ -42,13 +54,14 @@ module _ {B : Type 0} (types_in : B → ℕ → ℕ → B → Type 0) (opens : B
     pub opened : IfSome (opened_by told.event told.reply)
         (λ window. (done : Bool) × (was : B) × (then : B) × opens was window done then)
 
-  module _ (answers : Sitting → EventValue → Told → Sitting → Type 0)
+  module _ (adds : ℕ → ℕ → Type 0) (answers : Sitting → EventValue → Told → Sitting → Type 0)
       (refuses : Sitting → EventValue → HubFault → Type 0) where
     -- the session answered this event by one step for the seat, and this is what the loop is told of it
     pub record IsAnswered (event : EventValue) (answer : SeatAnswer) (old new : Sitting) : Type 0 where
       pub told : Told
       pub is_told : answers old event told new
       pub reply : answer.reply ≡ told.reply
+      pub filled : IsGauged adds told answer.filled
       pub typed : answer.typed ≡ told.typed
       pub outcome : answer.outcome ≡ outcome_of told.reply told.checks told.checks_execute
       pub counted : IsCounted told

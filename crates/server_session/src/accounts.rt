@@ -3,21 +3,21 @@
 ghost use Rattle.std.specs.Prelude.{◌≡◌};
 ghost use Rattle.server_session.specs.Counting.{millis_of};
 
-use crate::books::{Books, Counting, Limits};
+use crate::books::Counting;
 use crate::trail_size::TrailSize;
 use acl::UserId;
 use server_seat::GuestKind;
 use server_users::Outcome;
-use std::alloc::Global;
+use std::sync::atomic::AtomicU64;
 use std::sync::{Mutex, Wait};
 use std::time::Duration;
 
 /// What the loops count of users and windows, under a lock, and how large the trail is. What lies under
 /// a lock before and after a call isn't known to its caller, but that the call counts it.
 #[derive(Drop)]
-pub struct Accounts<B, T = TrailSize> {
+pub struct Accounts<B, T = AtomicU64> {
     books: Mutex<B>,
-    pub(crate) trail: T,
+    pub(crate) trail: TrailSize<T>,
 }
 
 // The time in whole milliseconds.
@@ -27,11 +27,11 @@ fn millis(now: Duration) -> u64
     u64::try_from(now.as_millis()).unwrap_or(u64::MAX)
 }
 
-impl Accounts<Books> {
-    /// Nobody has tried or opened anything yet in the session of this owner.
-    pub fn new(alloc: Global, owner: UserId, limits: Limits) -> Accounts<Books> {
+impl<B> Accounts<B> {
+    /// What is counted so by now, and a trail that takes nothing.
+    pub fn new(books: B) -> Accounts<B> {
         Accounts {
-            books: Mutex::new(Books::new(alloc, owner, limits)),
+            books: Mutex::new(books),
             trail: TrailSize::new(),
         }
     }

@@ -19,4 +19,4 @@ pub use seated::Seated;
 pub use server_trail::Recorder;
 pub use setting_up::Agreement;
 pub use shared_session::{LoopSession, SharedSession, TrailLines};
-pub use trail_size::{TrailCount, TrailSize};
+pub use trail_size::SharedSum;

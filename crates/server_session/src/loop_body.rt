@@ -181,6 +181,7 @@ where
         × (parts.loops ≡ L.parts) × (0 < parts.loops) × (parts.loops ≤ 8) }
     requires session { (L.edition ≡ Second) × (L.owner ≡ parts.owner) }
     ensures seats { IfOk result (λ made. length made.1.items ≡ L.parts) }
+    ensures users { IfOk result (λ made. made.0.shared.users ≡ users) }
     ensures set_up { IfOk result (λ made. HasBegun parts.owner setup.now made.1.items) }
 {
     let Parts {

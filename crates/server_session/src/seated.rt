@@ -1,25 +1,26 @@
 //! A loop's seat in the session that it shares.
 
-ghost use Rattle.std.specs.Prelude.{◌≡◌, ◌||◌, Option, is_some, true};
+ghost use Rattle.std.specs.Prelude.{◌≡◌, ◌||◌, Option, is_some, nat_lt, true, ℕ};
 ghost use Rattle.session.specs.Trace.{happening};
 ghost use Rattle.hub.specs.Seats.{Ruled};
 ghost use Rattle.server_session.specs.Loading.{closed_by, opened_by, size_of};
 ghost use Rattle.server_session.specs.Counting.{millis_of};
+ghost use Rattle.server_session.specs.Gauging.{IsGauged};
 ghost use Rattle.server_session.specs.Outcomes.{checked, outcome_of};
 ghost use Rattle.server_trail.specs.declared.waiting.Stopped.{Stopped as Stop};
-ghost use Rattle.server_session.specs.Seating.{IsCounted, Steps, fault_of};
-ghost use Rattle.server_session.specs.declared.trail_size.Filled.{Filled as Full};
+ghost use Rattle.server_session.specs.Seating.{AreClosed, IsClosed, IsCounted, Steps, fault_of};
 
 use crate::accounts::Accounts;
 use crate::books::Counting;
 use crate::shared_session::LoopSession;
-use crate::trail_size::{TrailCount, TrailSize};
+use crate::trail_size::SharedSum;
 use acl::UserId;
 use hub::{Answer, Begun, HubFault, Seat};
 use server_seat::{GuestKind, SeatAnswer, SeatFault, ServerEnd, SessionSeat};
 use server_users::{Outcome, Users};
 use session::{Effect, Event, Peer, Refusal, Reply};
 use std::sync::Wait;
+use std::sync::atomic::AtomicU64;
 use std::time::{Clock, Duration};
 
 // What came of a step that was done, from whether all its checks passed and whether one was for a command.
@@ -91,7 +92,7 @@ fn closed_by(effect: &Effect) -> Option<u32>
 
 /// A seat in a session, with the session and its users' accounts.
 #[derive(Drop)]
-pub struct Seated<'a, L: Begun, S, B, T = TrailSize> {
+pub struct Seated<'a, L: Begun, S, B, T = AtomicU64> {
     shared: &'a S,
     accounts: &'a Accounts<B, T>,
     seat: Seat<L>,
@@ -122,7 +123,35 @@ impl<'a, L: Begun, S, B, T> Seated<'a, L, S, B, T> {
     }
 }
 
-impl<L: Begun, S, B: Counting, T> Seated<'_, L, S, B, T> {
+impl<L: Begun, S, B: Counting, T: SharedSum> Seated<'_, L, S, B, T> {
+    // Counts the entry of an answer. Returns how full the trail is by it, if that is news.
+    fn gauge(&self, answer: &Answer) -> Option<u8>
+        ensures { IsGauged (T.adds self.now.accounts.now.trail.bytes) answer.now result }
+    {
+        let Some(place) = answer.place() else {
+            return None;
+        };
+        self.accounts.trail.add(place, answer.entry())
+    }
+
+    // A window that is gone by an effect isn't counted any more.
+    fn close_by(&self, rt: &impl Wait, effect: &Effect)
+        ensures { IsClosed B.closes effect.now }
+    {
+        if let Some(window) = closed_by(effect) {
+            self.accounts.close(rt, window);
+        }
+    }
+
+    // Nor are the windows that are gone by these effects.
+    fn close_all(&self, rt: &impl Wait, effects: &[(Effect, Option<UserId>)])
+        ensures { AreClosed B.closes effects.now }
+    {
+        'effects: for sent in effects {
+            self.close_by(rt, &sent.0);
+        }
+    }
+
     // Counts what an answered event typed. A window that it opened is counted from now on.
     fn count(&self, rt: &impl Wait, answer: &Answer)
         ensures { IsCounted B.types_in B.opens answer.now }
@@ -136,16 +165,18 @@ impl<L: Begun, S, B: Counting, T> Seated<'_, L, S, B, T> {
     }
 }
 
-impl<L: Begun, S: LoopSession<L>, B: Counting, T: TrailCount> SessionSeat
+impl<L: Begun, S: LoopSession<L>, B: Counting, T: SharedSum> SessionSeat
     for Seated<'_, L, S, B, T> {
     ghost known = { λ s. S.known s.shared.now };
 
     // The session answered by one step for this seat, or refused.
     ghost submits = { λ s event result left.
-        Steps B.types_in B.opens (S.answers s.shared.now) (S.refuses s.shared.now) s.seat event result left.seat };
+        Steps B.types_in B.opens (T.adds s.accounts.now.trail.bytes) (S.answers s.shared.now)
+        (S.refuses s.shared.now) s.seat event result left.seat };
 
-    // The session handed these effects to this seat.
-    ghost takes = { λ s effects told left. S.hands s.shared.now s.seat effects told left.seat };
+    // The session handed these effects to this seat. Windows that are gone by them aren't counted any more.
+    ghost takes = { λ s effects told left. S.hands s.shared.now s.seat effects told left.seat
+        × AreClosed B.closes effects };
 
     // The session ruled so.
     ghost lets_type = { λ s user window may.
@@ -157,8 +188,8 @@ impl<L: Begun, S: LoopSession<L>, B: Counting, T: TrailCount> SessionSeat
 
     // The trail's file has stopped, or the trail takes as much memory as it may.
     ghost stops = { λ s has_stopped. (stop : Option Stop) × S.stops s.shared.now stop
-        × (full : Option Full) × T.fills s.accounts.now.trail full
-        × (has_stopped ≡ (is_some stop || is_some full)) };
+        × (bytes : ℕ) × T.sums s.accounts.now.trail.bytes bytes
+        × (has_stopped ≡ (is_some stop || nat_lt 2147483648 bytes)) };
 
     ghost pays = { λ s user now cost is_paid.
         (was : B) × (then : B) × B.pays was user (millis_of now) cost is_paid then };
@@ -176,10 +207,7 @@ impl<L: Begun, S: LoopSession<L>, B: Counting, T: TrailCount> SessionSeat
     fn submit<R: Wait>(&mut self, rt: &R, event: Event<'_>) -> Result<SeatAnswer, SeatFault> {
         match self.shared.submit(rt, &mut self.seat, event) {
             Ok(answer) => {
-                let filled = match answer.place() {
-                    Some(place) => self.accounts.trail.add(place, answer.entry()),
-                    None => None,
-                };
+                let filled = self.gauge(&answer);
                 let (checks, execute) = (answer.checks(), answer.checks_execute());
                 let outcome = outcome_of(answer.reply(), checks, execute);
                 let typed = answer.typed();
@@ -217,17 +245,13 @@ impl<L: Begun, S: LoopSession<L>, B: Counting, T: TrailCount> SessionSeat
 
     fn has_stopped(&self) -> bool {
         let stopped = self.shared.stopped();
-        let filled = self.accounts.trail.filled();
-        stopped.is_some() || filled.is_some()
+        let is_full = self.accounts.trail.is_full();
+        stopped.is_some() || is_full
     }
 
     fn take<R: Wait>(&mut self, rt: &R) -> (Vec<(Effect, Option<UserId>)>, bool) {
         let (handed, is_told) = self.shared.take(rt, &mut self.seat);
-        for (effect, _) in handed.as_slice() {
-            if let Some(window) = closed_by(effect) {
-                self.accounts.close(rt, window);
-            }
-        }
+        self.close_all(rt, handed.as_slice());
         (handed.into_items(), is_told)
     }
 

@@ -148,7 +148,10 @@ pub struct SharedSession<L: Begun, T> {
 }
 
 impl<L: Begun, T> SharedSession<L, T> {
-    pub(crate) fn new(hub: Hub<L>, users: Users, recorder: Option<T>) -> SharedSession<L, T> {
+    pub(crate) fn new(hub: Hub<L>, users: Users, recorder: Option<T>) -> SharedSession<L, T>
+        ensures users { result.users ≡ users }
+        ensures recorder { result.recorder ≡ recorder }
+    {
         SharedSession {
             hub,
             users,

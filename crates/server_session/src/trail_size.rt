@@ -1,5 +1,9 @@
 //! How large a session's trail is.
 
+ghost use Rattle.std.specs.Prelude.{◌≡◌, ◌≤◌, ℕ, nat_lt};
+ghost use Rattle.std.specs.Option.{option_copied};
+ghost use Rattle.server_session.specs.Gauging.{Gauges, entry_size, if_passed, mark_between, text_size};
+
 use acl::Act;
 use hub::{FULL, Kept, TrailEntry};
 use session::Verdict;
@@ -9,22 +13,39 @@ use std::sync::atomic::{AtomicU64, Ordering};
 // The most bytes of memory for a trail's entries: 2 GiB.
 const MOST: u64 = 2_147_483_648;
 
-// The percentages of the most entries, and of the most bytes, that are news.
-const MARKS: [u64; 4] = [50, 75, 90, 99];
+// What an entry takes, and each check and each act of it.
+const ENTRY: usize = size_of::<TrailEntry>();
 
-// The percentage of `most` that is reached between two numbers, if that is news.
-fn mark_between(before: u64, after: u64, most: u64) -> Option<u8> {
-    for mark in MARKS {
-        let reached = most / 100 * mark;
-        if before <= reached && reached < after {
-            return u8::try_from(mark).ok();
-        }
+const CHECK: usize = size_of::<Verdict>();
+
+const ACT: usize = size_of::<Act>();
+
+// This percentage of `most`, if it is passed between two numbers.
+fn if_passed(before: u64, after: u64, most: u64, mark: u8) -> Option<u8>
+    requires { mark ≤ 100 }
+    ensures { result ≡ if_passed before after most mark }
+{
+    let reached = most / 100 * u64::from(mark);
+    if before <= reached && reached < after {
+        Some(mark)
+    } else {
+        None
     }
-    None
+}
+
+// The percentage of `most` that is passed between two numbers, if that is news.
+fn mark_between(before: u64, after: u64, most: u64) -> Option<u8>
+    ensures { result ≡ mark_between before after most }
+{
+    let low = if_passed(before, after, most, 50).or(if_passed(before, after, most, 75));
+    let high = if_passed(before, after, most, 90).or(if_passed(before, after, most, 99));
+    low.or(high)
 }
 
 // How many bytes an event's line or title takes.
-fn text_size(event: &Kept) -> usize {
+fn text_size(event: &Kept) -> usize
+    ensures { result ≡ text_size event.now }
+{
     match event {
         Kept::Command { line, .. } => line.as_slice().len(),
         Kept::Open { title, .. } => title.as_slice().len(),
@@ -33,40 +54,54 @@ fn text_size(event: &Kept) -> usize {
 }
 
 // At most how many bytes an entry takes. (Equal entries share them.)
-fn entry_size(entry: &TrailEntry) -> u64 {
-    let checked = entry.verdicts().len().saturating_mul(size_of::<Verdict>());
-    let done = entry.acts().len().saturating_mul(size_of::<Act>());
-    let size = size_of::<TrailEntry>()
+fn entry_size(entry: &TrailEntry) -> u64
+    ensures { result ≡ entry_size entry.now }
+{
+    let checked = entry.verdicts().len().saturating_mul(CHECK);
+    let done = entry.acts().len().saturating_mul(ACT);
+    let size = ENTRY
         .saturating_add(text_size(entry.event()))
         .saturating_add(checked)
         .saturating_add(done);
     size as u64
 }
 
-/// Shows that a trail takes as much memory as it may.
-#[derive(Clone, Copy, Debug)]
-pub struct Filled(());
+/// A number to which threads add. Each relation is shown by a call of its function alone.
+pub trait SharedSum {
+    ghost use Rattle.std.specs.Prelude.{ℕ};
 
-/// What is counted of a session's trail. Only a call of `filled` shows what it answered.
-pub trait TrailCount {
-    ghost use Rattle.std.specs.Prelude.{Option};
-    ghost use Rattle.server_session.specs.declared.trail_size.Filled.{Filled as Full};
+    // What was added, and the sum before that.
+    ghost adds: { Self → ℕ → ℕ → Type 0 };
 
-    ghost fills: { Self → Option Full → Type 0 };
+    ghost sums: { Self → ℕ → Type 0 };
 
-    /// Counts the entry at this place. Returns the percentage of the most entries or bytes that the
-    /// trail reaches by it, if that is news.
-    fn add(&self, place: usize, entry: Option<&TrailEntry>) -> Option<u8>;
+    /// Adds to the sum. Returns what it was before.
+    fn add(&self, more: u64) -> u64
+        ensures { adds self.now more result };
 
-    /// What shows that the trail takes as much as it may; None as long as it may grow.
-    fn filled(&self) -> Option<Filled>
-        ensures { fills self.now result };
+    fn sum(&self) -> u64
+        ensures { sums self.now result };
+}
+
+impl SharedSum for AtomicU64 {
+    // What an atomic number is, no clause can say.
+    ghost adds = { λ sum more before. Unit {0} };
+
+    ghost sums = { λ sum now. Unit {0} };
+
+    fn add(&self, more: u64) -> u64 {
+        self.fetch_add(more, Ordering::SeqCst)
+    }
+
+    fn sum(&self) -> u64 {
+        self.load(Ordering::SeqCst)
+    }
 }
 
 /// At most how many bytes of memory a session's trail takes.
 #[derive(Drop)]
-pub struct TrailSize {
-    bytes: AtomicU64,
+pub struct TrailSize<T = AtomicU64> {
+    bytes: T,
 }
 
 impl TrailSize {
@@ -77,26 +112,26 @@ impl TrailSize {
     }
 }
 
-impl TrailCount for TrailSize {
-    // An atomic number hides it.
-    ghost fills = { λ size full. Unit {0} };
-
-    fn add(&self, place: usize, entry: Option<&TrailEntry>) -> Option<u8> {
+impl<T: SharedSum> TrailSize<T> {
+    /// Counts the entry at this place. Returns the percentage of the most entries or bytes that the
+    /// trail passes by it, if that is news.
+    pub fn add(&self, place: usize, entry: Option<&TrailEntry>) -> Option<u8>
+        ensures { Gauges (T.adds self.now.bytes) place (option_copied entry.entry) result }
+    {
         let place = place as u64;
         let by_entries = mark_between(place, place.saturating_add(1), FULL as u64);
         let size = match entry {
             Some(entry) => entry_size(entry),
             None => 0,
         };
-        let before = self.bytes.fetch_add(size, Ordering::SeqCst);
+        let before = self.bytes.add(size);
         by_entries.or(mark_between(before, before.saturating_add(size), MOST))
     }
 
-    fn filled(&self) -> Option<Filled> {
-        if self.bytes.load(Ordering::SeqCst) > MOST {
-            Some(Filled(()))
-        } else {
-            None
-        }
+    /// Whether the trail takes more than 2 GiB, as much as it may.
+    pub fn is_full(&self) -> bool
+        ensures { (bytes : ℕ) × T.sums self.now.bytes bytes × (result ≡ nat_lt 2147483648 bytes) }
+    {
+        self.bytes.sum() > MOST
     }
 }

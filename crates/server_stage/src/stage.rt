@@ -263,7 +263,7 @@ pub fn perform(rt: &impl System, loops: usize, acts: &[StageAct]) -> Result<Seen
         places.push(place)?;
     }
     let users = users(alloc)?;
-    let accounts = Accounts::new(alloc, users.owner(), Limits::none());
+    let accounts = Accounts::new(Books::new(alloc, users.owner(), Limits::none()));
     let start = Start {
         alloc,
         users,
