@@ -56,21 +56,13 @@ fn is_faulty(alloc: Global, row: &FaultRow, cut: usize) -> bool {
 
 /// Whether a row's last byte shows its fault, wherever the bytes before it are cut in two.
 fn is_faulty_at_each_cut(alloc: Global, row: &FaultRow) -> bool {
-    for cut in 0..row.1.len() {
-        if !is_faulty(alloc, row, cut) {
-            return false;
-        }
-    }
-    true
+    (0..row.1.len()).all(|cut| is_faulty(alloc, row, cut))
 }
 
 fn first_wrong(alloc: Global) -> Option<usize> {
-    for (number, row) in FAULTS.iter().enumerate() {
-        if !is_faulty_at_each_cut(alloc, row) {
-            return Some(number);
-        }
-    }
-    None
+    FAULTS
+        .iter()
+        .position(|row| !is_faulty_at_each_cut(alloc, row))
 }
 
 #[test]
@@ -110,12 +102,9 @@ fn are_shown(alloc: Global) -> bool {
             return false;
         }
     }
-    for (fault, text) in &TEXTS_IN_WRITING {
-        if !is_shown(fault.to_string(alloc), text) {
-            return false;
-        }
-    }
-    true
+    TEXTS_IN_WRITING
+        .iter()
+        .all(|(fault, text)| is_shown(fault.to_string(alloc), text))
 }
 
 #[test]

@@ -239,12 +239,9 @@ fn is_so(alloc: Global, edition: Edition, rows: &[HistoryRow]) -> bool {
 
 /// The first history with another answer.
 fn first_wrong(alloc: Global) -> Option<usize> {
-    for (number, (edition, rows)) in HISTORIES.iter().enumerate() {
-        if !is_so(alloc, *edition, rows) {
-            return Some(number);
-        }
-    }
-    None
+    HISTORIES
+        .iter()
+        .position(|(edition, rows)| !is_so(alloc, *edition, rows))
 }
 
 #[test]

@@ -56,12 +56,7 @@ fn are_completed(row: &KeyRow) -> bool {
 }
 
 fn first_wrong() -> Option<usize> {
-    for (number, row) in ROWS.iter().enumerate() {
-        if !are_completed(row) {
-            return Some(number);
-        }
-    }
-    None
+    ROWS.iter().position(|row| !are_completed(row))
 }
 
 #[test]
