@@ -92,51 +92,24 @@ fn each_line_is_written_once(rt: HostRuntime) {
     assert_eq!(rt; wrong_disk(&rt, rt.alloc()), None);
 }
 
-// Files, and whether each is the trail of two keys, of a session of own that began at 7.
-static FILES: [(&[u8], bool); 10] = [
-    (
-        b"mux-trail 1 2 own 0.1.0 7\n0 5 keys 0 ok:1:0:0\n1 6 keys 1 ok:1:0:0\nend 2 9 quit\n",
-        true,
-    ),
-    (
-        b"mux-trail 1 2 own 0.1.0 7\n0 5 keys 0 ok:1:0:0\n1 6 keys 2 ok:1:0:0\nend 2 9 quit\n",
-        false,
-    ),
-    (
-        b"mux-trail 1 2 own 0.1.0 7\n0 5 keys 0 ok:1:0:0\n1 6 keys 1 ok:1:0:0\nend 3 9 quit\n",
-        false,
-    ),
-    (
-        b"mux-trail 1 2 own 0.1.0 7\n0 5 keys 0 ok:1:0:0\n1 6 keys 1 ok:1:0:0\n",
-        false,
-    ),
-    (
-        b"mux-trail 1 2 own 0.1.0 7\n0 5 keys 0 ok:1:0:0\n1 6 keys 1 ok:1:0:0\nend 2 9 quit",
-        false,
-    ),
-    (
-        b"0 5 keys 0 ok:1:0:0\n1 6 keys 1 ok:1:0:0\nend 2 9 quit\n",
-        false,
-    ),
-    (
-        b"mux-trail 1 2 bob 0.1.0 7\n0 5 keys 0 ok:1:0:0\n1 6 keys 1 ok:1:0:0\nend 2 9 quit\n",
-        false,
-    ),
-    (
-        b"mux-trail 1 1 own 0.1.0 7\n0 5 keys 0 ok:1:0:0\n1 6 keys 1 ok:1:0:0\nend 2 9 quit\n",
-        false,
-    ),
-    (
-        b"mux-trail 1 2 own 0.1.1 7\n0 5 keys 0 ok:1:0:0\n1 6 keys 1 ok:1:0:0\nend 2 9 quit\n",
-        false,
-    ),
-    (
-        b"mux-trail 1 2 own 0.1.0 8\n0 5 keys 0 ok:1:0:0\n1 6 keys 1 ok:1:0:0\nend 2 9 quit\n",
-        false,
-    ),
+// The trail of two keys, of a session of own that began at 7.
+const WHOLE: &[u8] =
+    b"mux-trail 1 2 own 0.1.0 7\n0 5 keys 0 ok:1:0:0\n1 6 keys 1 ok:1:0:0\nend 2 9 quit\n";
+
+// Files that aren't that trail.
+static OTHERS: [&[u8]; 9] = [
+    b"mux-trail 1 2 own 0.1.0 7\n0 5 keys 0 ok:1:0:0\n1 6 keys 2 ok:1:0:0\nend 2 9 quit\n",
+    b"mux-trail 1 2 own 0.1.0 7\n0 5 keys 0 ok:1:0:0\n1 6 keys 1 ok:1:0:0\nend 3 9 quit\n",
+    b"mux-trail 1 2 own 0.1.0 7\n0 5 keys 0 ok:1:0:0\n1 6 keys 1 ok:1:0:0\n",
+    b"mux-trail 1 2 own 0.1.0 7\n0 5 keys 0 ok:1:0:0\n1 6 keys 1 ok:1:0:0\nend 2 9 quit",
+    b"0 5 keys 0 ok:1:0:0\n1 6 keys 1 ok:1:0:0\nend 2 9 quit\n",
+    b"mux-trail 1 2 bob 0.1.0 7\n0 5 keys 0 ok:1:0:0\n1 6 keys 1 ok:1:0:0\nend 2 9 quit\n",
+    b"mux-trail 1 1 own 0.1.0 7\n0 5 keys 0 ok:1:0:0\n1 6 keys 1 ok:1:0:0\nend 2 9 quit\n",
+    b"mux-trail 1 2 own 0.1.1 7\n0 5 keys 0 ok:1:0:0\n1 6 keys 1 ok:1:0:0\nend 2 9 quit\n",
+    b"mux-trail 1 2 own 0.1.0 8\n0 5 keys 0 ok:1:0:0\n1 6 keys 1 ok:1:0:0\nend 2 9 quit\n",
 ];
 
-// What the first line of the first of these files says.
+// What the first line of that trail says.
 fn header(alloc: Global) -> Option<Header> {
     Some(Header {
         edition: Edition::Second,
@@ -146,18 +119,19 @@ fn header(alloc: Global) -> Option<Header> {
     })
 }
 
-// The first of these files that is taken for what it isn't.
-fn wrong_file(alloc: Global) -> Option<usize> {
+// Whether the trail is taken for what it is, and no other file.
+fn are_told_apart(alloc: Global) -> Option<bool> {
     let header = header(alloc)?;
-    for (row, (file, wanted)) in FILES.iter().enumerate() {
-        if is_of(alloc, file, &header, 2) != Some(*wanted) {
-            return Some(row);
-        }
-    }
-    None
+    let is_whole = is_of(alloc, WHOLE, &header, 2)?;
+    Some(
+        is_whole
+            && OTHERS
+                .iter()
+                .all(|file| is_of(alloc, file, &header, 2) == Some(false)),
+    )
 }
 
 #[test]
 fn other_files_are_refused(rt: HostRuntime) {
-    assert_eq!(rt; wrong_file(rt.alloc()), None);
+    assert!(rt; are_told_apart(rt.alloc()) == Some(true));
 }
