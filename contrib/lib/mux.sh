@@ -84,6 +84,12 @@ find_session() {
     [ -n "$token" ] || token=$config/$user.token
 }
 
+# find_users_file: the users' file, where nothing says which.
+find_users_file() {
+    users=$config/users
+    [ -z "$token" ] || [ ! -r "$(dirname -- "$token")/users" ] || users=$(dirname -- "$token")/users
+}
+
 # check_name NAME: ends with a fault, unless it can be a user's name.  In the C locale a-z has only these letters.
 check_name() (
     LC_ALL=C
