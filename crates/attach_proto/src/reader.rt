@@ -117,7 +117,31 @@ impl Reader {
         }
     }
 
-    fn take(&mut self, piece: &[u8], out: &mut Vec<Message>) -> Result<(), AllocError>
+    // Reads a piece from where it stands, since nothing waits: what is left over is copied alone.
+    fn take_first(&mut self, piece: &[u8], out: &mut Vec<Message>) -> Result<(), AllocError>
+        requires { (self.old.fault ≡ None) × (self.old.rest ≡ []) }
+        ensures ok { OnOk result ((made : List Message) × (out.new.items ≡ out.old.items ++ made)
+            × TakesPiece self.old piece.now made self.new) }
+        ensures err { OnErr result ((self.new ≡ self.old) × (out.new.items ≡ out.old.items)) }
+        ensures fault { OnOk result (self.new.fault ≡ Some ProtoFault.NoMemory → ⊥) }
+        ensures side { self.new.side ≡ self.old.side }
+    {
+        let mut run = run_of(self.alloc, self.side, piece)?;
+        self.rest.extend_from_slice(&piece[run.taken..])?;
+        match out.append(&mut run.messages) {
+            Ok(()) => {
+                self.fault = run.fault;
+                Ok(())
+            }
+            Err(error) => {
+                self.rest.clear();
+                Err(error)
+            }
+        }
+    }
+
+    // Reads a piece after what waits.
+    fn take_next(&mut self, piece: &[u8], out: &mut Vec<Message>) -> Result<(), AllocError>
         requires { self.old.fault ≡ None }
         ensures ok { OnOk result ((made : List Message) × (out.new.items ≡ out.old.items ++ made)
             × TakesPiece self.old piece.now made self.new) }
@@ -158,7 +182,12 @@ impl Reader {
         if let Some(fault) = self.fault {
             return Err(fault);
         }
-        if self.take(piece, out).is_err() {
+        let taken = if self.rest.is_empty() {
+            self.take_first(piece, out)
+        } else {
+            self.take_next(piece, out)
+        };
+        if taken.is_err() {
             return Err(ProtoFault::NoMemory);
         }
         match self.fault {

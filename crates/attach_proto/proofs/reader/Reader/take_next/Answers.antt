@@ -1,7 +1,7 @@
 use Rattle.std.proofs.Common.{List, ℕ, ◌++◌, drop, ap, sym, ◌∙◌}
 use Rattle.attach_proto.specs.Streams.{Reading}
 use Rattle.attach_proto.proofs.Joining.{taken_piece, run_faults}
-use Rattle.attach_proto.proofs.reader.Reader.take.Goals as goal
+use Rattle.attach_proto.proofs.reader.Reader.take_next.Goals as goal
 
 pub returns-in-Ok-clause-ok : goal.returns-in-Ok-clause-ok
 returns-in-Ok-clause-ok c =
