@@ -211,7 +211,8 @@ pub quit_done : (t : Tables) (s : State) (ws : List Window) (cs : List Client) (
     → StandsFor acl edition owner (followed_by h (closed_acts ws)))
     → ((edition : Edition) (owner : UserId) (h : History) → LocksStandFor s.locks edition owner h
     → LocksStandFor mid edition owner (followed_by h (closed_acts ws)))
-    → found ≡ reverse (attached_now cs) → TellsLocks (parted_now All cs) found mid locks → windows ≡ [] → Keeps (λ c. not true) s.clients clients
+    → found ≡ reverse (attached_now cs) → TellsLocks (parted_now All cs) found mid locks → windows ≡ []
+    → Keeps (λ c. not true) s.clients clients
     → after.acts.items ≡ before.acts.items ++ (closed_acts ws ++ parted_now All cs)
     → after.effects.items ≡ before.effects.items ++
     (map (gone_row reason.Quit) ws ++ map (gone_now reason.Quit) (filter (goes_now All) cs))

@@ -150,7 +150,8 @@ module _ (g : Going) (rows : List model.Client) (cs : List Client) (st : AreClie
 
 pub went : (t : Tables) (g : Going) (why : Reason) (s : State) (cs : List Client) (found : List (ℕ × UserId))
     (locks : Locks) (clients : List Client) → cs ≡ s.clients → Stands t s → AreFit t
-    → found ≡ reverse (attached_now cs) → TellsLocks (parted_now g cs) found s.locks locks → Keeps (λ m. not (goes g m)) s.clients clients
+    → found ≡ reverse (attached_now cs) → TellsLocks (parted_now g cs) found s.locks locks
+    → Keeps (λ m. not (goes g m)) s.clients clients
     → Stands (did t (parts (goes g) why t)) (record s { locks = locks; clients = clients })
 went t g why s cs found locks clients same st fit is tells keeps =
     let acts : List Act = map (λ (m : model.Client). Parted m.serial) (filter (goes g) t.clients) in

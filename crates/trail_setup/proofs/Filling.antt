@@ -33,7 +33,8 @@ ended k start words out now lines (word ∷ more) some all put begins =
     }
 
 -- a word is put on the line that isn't ended yet
-pub pushed : {A E : Type 0} (r : Result A E) (k : Kind) (start : List ℕ) (words : List (List ℕ)) (word out now new : List ℕ)
+pub pushed : {A E : Type 0} (r : Result A E) (k : Kind) (start : List ℕ)
+    (words : List (List ℕ)) (word out now new : List ℕ)
     → HoldWords k start words out now
     → ((last : List (List ℕ)) → now ≡ begun k last → OnOk r (new ≡ begun k (last ++ word ∷ [])))
     → OnOk r (HoldWords k start (words ++ word ∷ []) out new)

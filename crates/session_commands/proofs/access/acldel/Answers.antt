@@ -20,7 +20,10 @@ pub returns-in-Err : goal.returns-in-Err
 returns-in-Err c =
     let s = c.args.context.now.state.now in
     let same = ap (λ (a : Acl). record s { acl = a }) c.in-Err.ensures.err.0 in
-    quietly ((refl, refl), (tt, (record { state = same; acts = grind (arith, common_steps); effects = search rules }, tt)))
+    quietly (
+      (refl, refl),
+      (tt, (record { state = same; acts = grind (arith, common_steps); effects = search rules }, tt)),
+    )
     (λ k t st fit passed.
     let word = c.args.word.now in
     let user = c.in-Some.user in
@@ -43,10 +46,12 @@ returns c = quietly (search rules) (λ k t st fit passed.
       removes (Some user) t,
       removal t (caller_in t k) word user named none,
       refl,
-      removed t user c.args.context.now.state.now cs c.in_ok-rows.rows.items c.remove.new.self c.note_parted.new.locks c.remove.new.follower
+      removed t user c.args.context.now.state.now cs c.in_ok-rows.rows.items c.remove.new.self
+          c.note_parted.new.locks c.remove.new.follower
           c.remove_of.new.self c.note_parted.new.acts.items made (record
           { acts = c.remove.new.acts; effects = c.append.new.self }) c.as_slice-clients.ensures st fit
-          c.in_ok-rows.ensures c.note_parted.ensures.locks (c.note_parted.ensures.acts ∙ ap (λ xs. xs ++ parted_now (Of user) cs)
+          c.in_ok-rows.ensures c.note_parted.ensures.locks
+          (c.note_parted.ensures.acts ∙ ap (λ xs. xs ++ parted_now (Of user) cs)
           c.reserve.ensures.items) c.in_default-remove.ensures.done c.remove_of.ensures
           (grown c.append.result c.reserve-2.new.self.items c.append.new.self.items c.in_ok-gone.gone.items
           (c.append.ensures.succeeds (omega (arith, c.in_ok-reserve-2.ensures.ok))) c.append.ensures.items

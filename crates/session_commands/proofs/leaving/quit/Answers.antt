@@ -24,7 +24,8 @@ returns c =
                 c.note_parted.new.locks c.in_ok-rows.rows.items c.close_all.new.self c.clear.new.self made
                 (record { acts = c.note_parted.new.acts; effects = c.append-2.new.self }) c.as_slice-windows.ensures
                 c.as_slice-clients.ensures st fit c.note_closed.ensures.acl c.note_closed.ensures.locks
-                c.in_ok-rows.ensures c.note_parted.ensures.locks c.close_all.ensures c.clear.ensures (c.note_parted.ensures.acts
+                c.in_ok-rows.ensures c.note_parted.ensures.locks c.close_all.ensures c.clear.ensures
+                (c.note_parted.ensures.acts
                 ∙ ap (λ xs. xs ++ parted_now All cs) (c.note_closed.ensures.acts ∙ ap (λ xs. xs ++ closed_acts ws)
                 c.reserve.ensures.items)
                 ∙ append_assoc made.acts.items (closed_acts ws) (parted_now All cs)) (c.in_ok-append-2.ensures.items

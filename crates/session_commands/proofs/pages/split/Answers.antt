@@ -60,7 +60,8 @@ returns-in-Err c =
           let stands =
           row_stands m x _ _ (c.get.ensures.stands t.clients st.clients) by.1.at (ap option_copied c.in-Some.is) in
           let way : Way = c.way_of-way.result in
-          let why : c.in-Err.fault ≡ split_error way x.layout c.rows-rows.result c.columns-columns.result = search rules in
+          let why : c.in-Err.fault ≡ split_error way x.layout c.rows-rows.result c.columns-columns.result
+          = search rules in
           rw (c.refusal_of.ensures, sym c.way_of-way.ensures)
           (elim (split_refused (split_fault way m.layout m.rows m.columns) (arranges t m (split_focused way m.layout))
           c.in-Err.fault (why
