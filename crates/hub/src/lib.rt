@@ -12,9 +12,10 @@
 ghost use Rattle.std.specs.Prelude.{◌≡◌, ◌↔◌, ◌<◌, ◌≤◌, length, IfOk, IfErr, OnErr, IsSome, None, []};
 ghost use Rattle.session.specs.Trace.{begun, happening};
 ghost use Rattle.hub_trail.specs.Legal.{IsLegal};
-ghost use Rattle.hub_ledger.specs.Closing.{AreThere, IsFirstWrong, receipts_of};
+ghost use Rattle.hub_ledger.specs.Closing.{AreThere, IsFirstWrong, handed_of, receipts_of};
 ghost use Rattle.hub_ledger.specs.Faults.{foreign, full};
 ghost use Rattle.hub_ledger.specs.Seats.{Answers, AreNumbered, NoneAsks, StandsFor, with_handed};
+ghost use Rattle.hub_ledger.specs.States.{Balances, State};
 ghost use Rattle.hub_ledger.specs.declared.ledger.answer.HubFault.TheVariants.{NoMemory, Strange};
 ghost use Rattle.hub_ledger.specs.declared.ledger.answer.HubFault.TheVariants.{TrailFull};
 ghost use Rattle.hub_trail.specs.Filing.{kept_of};
@@ -121,6 +122,10 @@ impl<L: Begun> Hub<L> {
         // If all seats are handed back, they hold as many receipts as the trail has entries.
         ensures counted { length seats.items ≡ L.parts
             → length result.0.entries ≡ length (receipts_of seats.items) }
+        // Then, for some run with this trail, what they were handed and what still waits under the
+        // lock is what was routed.
+        ensures sum { length seats.items ≡ L.parts → (last : State) × (last.trail ≡ result.0)
+            × Balances (handed_of seats.items) last }
         ensures wrong { IsFirstWrong result.0.entries (receipts_of seats.items) result.1 }
         // If all seats are handed back, there is no such place exactly if no two receipts name the
         // same place, and each receipt has the event and the reply of the trail's entry at its

@@ -1,6 +1,7 @@
 pub mod Vocabulary
 pub mod Steps
 pub mod Stripping
+pub mod Sums
 pub mod Counting
 pub mod Tellings
 pub mod Standing

@@ -76,13 +76,25 @@ filed_is (Some k) event reply noted effects = refl
 
 -- ---- what is kept
 
+pub stood_after : (h : Trace) (old new : State) (seat : ℕ) (step : Entry) (typed : Option ℕ) → Stood h old
+    → IsAfter seat step typed old new → Stood (with_step h step) new
+stood_after h old new seat step typed stood a =
+    let st = a.stands h stood.stands in
+    let given = gives_serials (tables_of h) step (step_of h step new.session st) in
+    record {
+      stands = st;
+      trail = ap (λ t. with_entries t (filed step)) stood.trail ∙ sym a.trail;
+      clients = ap (λ (o : Owners). length o.clients) a.owners
+          ∙ grown (attaches step.event step.reply) seat old.owners.clients
+          ∙ ap (one_more (attaches step.event step.reply)) stood.clients ∙ sym given.clients;
+      windows = ap (λ (o : Owners). length o.windows) a.owners
+          ∙ grown (opens step.event step.reply) seat old.owners.windows
+          ∙ ap (one_more (opens step.event step.reply)) stood.windows ∙ sym given.windows;
+    }
+
 pub kept_after : (old new : State) (seat : ℕ) (step : Entry) (typed : Option ℕ) → IsKept old
     → seat < length old.waiting → IsAfter seat step typed old new → IsKept new
 kept_after old new seat step typed kept here a =
-    let h : Trace = kept.past.0 in
-    let stood : Stood h old = kept.past.1 in
-    let st = a.stands h stood.stands in
-    let given = gives_serials (tables_of h) step (step_of h step new.session st) in
     let n : length new.waiting ≡ length old.waiting = a.waiting.seats in
     let owners : AreSeats (length old.waiting) (with_peers step.event step.reply seat old.owners) = record {
       clients = seats_grown (length old.waiting) (attaches step.event step.reply) seat old.owners.clients here
@@ -91,18 +103,6 @@ kept_after old new seat step typed kept here a =
           kept.seats.windows;
     } in
     record {
-      past = (
-        with_step h step,
-        record {
-          stands = st;
-          trail = ap (λ t. with_entries t (filed step)) stood.trail ∙ sym a.trail;
-          clients = ap (λ (o : Owners). length o.clients) a.owners
-              ∙ grown (attaches step.event step.reply) seat old.owners.clients
-              ∙ ap (one_more (attaches step.event step.reply)) stood.clients ∙ sym given.clients;
-          windows = ap (λ (o : Owners). length o.windows) a.owners
-              ∙ grown (opens step.event step.reply) seat old.owners.windows
-              ∙ ap (one_more (opens step.event step.reply)) stood.windows ∙ sym given.windows;
-        },
-      );
+      past = (with_step kept.past.0 step, stood_after kept.past.0 old new seat step typed kept.past.1 a);
       seats = subst (λ m. AreSeats m new.owners) (sym n) (subst (AreSeats (length old.waiting)) (sym a.owners) owners);
     }

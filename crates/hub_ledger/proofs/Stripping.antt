@@ -24,7 +24,7 @@ receipts_append [] ys = refl
 receipts_append (s ∷ xs) ys = ap (λ (x : List Receipt). s.receipts ++ x) (receipts_append xs ys)
     ∙ sym (append_assoc s.receipts (receipts_of xs) (receipts_of ys))
 
-one_more : (xs : List Sitting) (i : ℕ) (s : Sitting) → slice_get xs i ≡ Some s
+pub one_more : (xs : List Sitting) (i : ℕ) (s : Sitting) → slice_get xs i ≡ Some s
     → receipts_of (take (suc i) xs) ≡ receipts_of (take i xs) ++ s.receipts
 one_more [] i s at = absurd (cc (at))
 one_more (x ∷ xs) zero s at = (let e : x ≡ s = cc (at) in ap (λ (y : Sitting). y.receipts ++ []) e)

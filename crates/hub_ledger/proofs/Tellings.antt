@@ -4,6 +4,8 @@ use Rattle.hub_ledger.proofs.Vocabulary.{ap, sym, ◌∙◌, arith, length-appen
 use Rattle.hub_ledger.proofs.Vocabulary.{take_all, Receipt, AreNumbered, NoneAsks, Sitting, receipts_of}
 use Rattle.std.proofs.lemmas.List.{drop_all}
 use Rattle.std.proofs.lemmas.List.Folds.{list_any-append}
+use Rattle.std.proofs.lemmas.List.Sums.{sum_by_push}
+use Rattle.hub_ledger.specs.Closing.{handed_of}
 use Rattle.hub_ledger.proofs.Stripping.{receipts_append}
 
 pub pushed : (all rest : List Sitting) (s : Sitting) → all ≡ rest ++ s ∷ [] → (length all ≡ length rest + 1)
@@ -15,6 +17,10 @@ pushed all rest s is =
       omega
           (arith, more, length-append (receipts_of rest) (s.receipts ++ []), length-append s.receipts []),
     )
+
+pub handed_pushed : (all rest : List Sitting) (s : Sitting) → all ≡ rest ++ s ∷ []
+    → handed_of all ≡ handed_of rest + s.handed
+handed_pushed all rest s is = ap handed_of is ∙ sum_by_push (λ (x : Sitting). x.handed) rest s
 
 -- the slice of all seats, after it was written back
 pub written : (new old : List Sitting) (n : ℕ) → n ≡ length old → length new ≡ length old

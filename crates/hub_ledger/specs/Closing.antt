@@ -1,7 +1,7 @@
 -- How the receipts of seats are compared with the trail.
 use Rattle.std.specs.Prelude.{ℕ, ◌<◌, ◌≤◌, List, [], ◌∷◌, ◌++◌, ◌≡◌, Option, Some, None}
 use Rattle.std.specs.Prelude.{length, slice_get}
-use Rattle.std.specs.List.{AllByRecursion}
+use Rattle.std.specs.List.{AllByRecursion, sum_by}
 use Rattle.hub_trail.specs.Trails.{Entry}
 use Rattle.hub_record.specs.Receipts.{Receipt}
 pub use Rattle.hub_record.specs.Receipts.{IsOf}
@@ -12,6 +12,10 @@ use Rattle.hub_ledger.specs.Seats.{Sitting}
 abbrev pub receipts_of : List Sitting → List Receipt
 receipts_of [] = []
 receipts_of (s ∷ seats) = s.receipts ++ receipts_of seats
+
+-- how many effects these seats were handed
+abbrev pub handed_of : List Sitting → ℕ
+handed_of seats = sum_by (λ (s : Sitting). s.handed) seats
 
 -- exactly one receipt names the place, and it has the event and the reply of the entry
 pub record IsTold (place : ℕ) (e : Entry) (receipts : List Receipt) : Type 0 where

@@ -1,5 +1,5 @@
 -- What a seat was told.
-use Rattle.std.specs.Prelude.{ℕ, ◌+◌, ◌%◌, ◌^◌, List, [], ◌∷◌, ◌++◌, ◌≡◌, Option, Some, None, length}
+use Rattle.std.specs.Prelude.{ℕ, ◌+◌, ◌/◌, ◌%◌, ◌^◌, List, [], ◌∷◌, ◌++◌, ◌≡◌, Option, Some, None, length}
 use Rattle.std.specs.Prelude.{Bool, false, true, IfSome, slice_get}
 use Rattle.std.specs.List.{list_any, list_all}
 use Rattle.acl.specs.declared.user_id.UserId.{UserId}
@@ -33,8 +33,8 @@ pub record Ruled : Type 0 where
   pub may_type : Bool
 
 -- a seat: its number, whether it asks for entries, and its receipts, the oldest first; how many steps
--- were made for it, and how many effects it was handed (both counts are modulo 2 ^ 64); and what it
--- was told when it took effects last: whether a step other than a Draw had come
+-- were made for it (modulo 2 ^ 64), and how many effects it was handed; and what it was told when it
+-- took effects last: whether a step other than a Draw had come
 pub record Sitting : Type 0 where
   pub number : ℕ
   pub asks : Bool
@@ -55,7 +55,15 @@ stepped s = record s { steps = (s.steps + 1) % 2 ^ 64 }
 -- the seat was handed these effects more, and told this
 abbrev pub with_handed : List Sent → Bool → Sitting → Sitting
 with_handed effects told s =
-    record s { handed = (s.handed + length effects) % 2 ^ 64; is_told = told }
+    record s { handed = s.handed + length effects; is_told = told }
+
+-- What the amount of a share counts: the receipts of its seats, and above them, each as 2 ^ 32, the
+-- effects that these seats were handed.
+abbrev pub receipts_in : ℕ → ℕ
+receipts_in amount = amount % 2 ^ 32
+
+abbrev pub handed_in : ℕ → ℕ
+handed_in amount = amount / 2 ^ 32
 
 -- the seat at place k has number k
 abbrev pub AreNumbered : List Sitting → Type 0

@@ -1,5 +1,6 @@
 -- What lies under the hub's lock.
-use Rattle.std.specs.Prelude.{ℕ, Bool, false, List, [], ◌≡◌, length, replicate, Option}
+use Rattle.std.specs.Prelude.{ℕ, ◌+◌, Bool, false, List, [], ◌≡◌, length, replicate, Option}
+use Rattle.std.specs.List.{sum_by}
 use Rattle.acl.specs.declared.leaders.Edition.{Edition}
 use Rattle.acl.specs.declared.user_id.UserId.{UserId}
 use Rattle.session.specs.event.Effect.{Effect}
@@ -55,6 +56,19 @@ pub record Stood (h : Trace) (s : State) : Type 0 where
 pub record IsKept (s : State) : Type 0 where
   pub past : (h : Trace) × Stood h s
   pub seats : AreSeats (length s.waiting) s.owners
+
+-- how many effects a run's steps had: all were routed to the seats of their peers
+abbrev pub routed : Trace → ℕ
+routed h = sum_by (λ (e : Entry). length e.effects) h.entries
+
+-- how many effects wait
+abbrev pub waits : List (List Sent) → ℕ
+waits waiting = sum_by (λ (effects : List Sent). length effects) waiting
+
+-- For some run that the state is of: what was handed out and what waits is what was routed.
+pub record Balances (handed : ℕ) (s : State) : Type 0 where
+  pub past : (h : Trace) × Stood h s
+  pub sum : handed + waits s.waiting ≡ routed past.0
 
 -- The state after a step for a seat, and the window into which it typed. Whichever run the session
 -- stood for, it stands for it with this step, whose entry is the last one of the trail. What came

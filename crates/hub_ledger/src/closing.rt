@@ -1,7 +1,7 @@
 //! Compares the receipts of seats with the trail.
 
-ghost use Rattle.std.specs.Prelude.{◌≡◌, ◌↔◌, ◌+◌, ◌<◌, ◌≤◌, true, length};
-ghost use Rattle.hub_ledger.specs.Closing.{IsFirstWrong, IsTold, before, receipts_of};
+ghost use Rattle.std.specs.Prelude.{◌≡◌, ◌↔◌, ◌+◌, ◌*◌, ◌^◌, ◌<◌, ◌≤◌, true, length};
+ghost use Rattle.hub_ledger.specs.Closing.{IsFirstWrong, IsTold, before, handed_of, receipts_of};
 ghost use Rattle.hub_ledger.specs.declared.ledger.TheConstants.{FULL};
 
 use crate::seat::Seat;
@@ -18,6 +18,7 @@ fn strip_all<L: ShareLedger>(
 ) -> bool
     requires { place < 4294967296 }
     ensures rest { receipts_of seats.new ≡ before place (receipts_of seats.old) }
+    ensures handed { handed_of seats.new ≡ handed_of seats.old }
     ensures total { book.new.total + length (receipts_of seats.old)
         ≡ book.old.total + length (receipts_of seats.new) }
     ensures told { (result ≡ true) ↔ IsTold place entry.now (receipts_of seats.old) }
@@ -42,6 +43,7 @@ pub fn first_wrong<L: ShareLedger>(
 ) -> Option<usize>
     requires { length entries.now.entries ≤ FULL }
     ensures wrong { IsFirstWrong entries.now.entries (receipts_of seats.old) result }
+    ensures handed { handed_of seats.new ≡ handed_of seats.old }
     ensures total { book.new.total + length (receipts_of seats.old)
         ≡ book.old.total + length (receipts_of seats.new) }
 {
@@ -56,10 +58,21 @@ pub fn first_wrong<L: ShareLedger>(
     wrong
 }
 
-/// Merges the shares of all seats; then the book's total is the number of their receipts.
+/// No seat has more receipts than a trail may have entries.
+pub fn have_few<L: ShareLedger>(seats: &[Seat<L>])
+    ensures { length (receipts_of seats.now) ≤ length seats.now * FULL }
+{
+    'seats: for i in 0..seats.len() {
+        seats[i].has_few();
+    }
+}
+
+/// Merges the shares of all seats; then the book's total counts their receipts, and the effects that
+/// they were handed.
 pub fn count<L: ShareLedger>(book: &mut Book<L>, seats: Vec<Seat<L>>)
     requires { 0 < L.parts }
-    ensures { length seats.items ≡ L.parts → book.old.total ≡ length (receipts_of seats.items) }
+    ensures { length seats.items ≡ L.parts → book.old.total
+        ≡ length (receipts_of seats.items) + handed_of seats.items * 2 ^ 32 }
 {
     let mut rest = seats;
     let Some(first) = rest.pop() else {

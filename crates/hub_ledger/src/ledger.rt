@@ -8,8 +8,8 @@ ghost use Rattle.session.specs.Run.{tables_of};
 ghost use Rattle.session.specs.MayType.{may_type};
 ghost use Rattle.hub_trail.specs.Filing.{kept_of};
 ghost use Rattle.hub_trail.specs.Legal.{IsLegal};
-ghost use Rattle.hub_ledger.specs.States.{IsKept, StandsFor, Takes, begun_with, state_of};
-ghost use Rattle.hub_ledger.specs.Closing.{AreThere, IsFirstWrong, receipts_of};
+ghost use Rattle.hub_ledger.specs.States.{Balances, IsKept, StandsFor, Takes, begun_with, state_of};
+ghost use Rattle.hub_ledger.specs.Closing.{AreThere, IsFirstWrong, handed_of, receipts_of};
 ghost use Rattle.hub_ledger.specs.Seats.{AllBelow, Answers, AreNumbered, HasChecks, NoneAsks};
 ghost use Rattle.hub_ledger.specs.Seats.{StandsLast, fresh_seat, placed, with_handed};
 ghost use Rattle.hub_ledger.specs.Faults.{foreign, full};
@@ -24,7 +24,7 @@ mod trail;
 mod turned;
 
 use crate::Begun;
-use crate::closing::{count, first_wrong};
+use crate::closing::{count, first_wrong, have_few};
 use crate::filed_session::FiledSession;
 use crate::seat::Seat;
 use crate::waiting::Handed;
@@ -42,8 +42,8 @@ pub use trail::{Trail, check_entries, check_trail};
 pub const FULL: usize = 4_194_304;
 
 /// What lies under the hub's lock: a session that stands for a run, its trail, and the effects that
-/// wait for each seat. Its shares count the receipts of all seats: there are as many as the trail
-/// has entries.
+/// wait for each seat. Its shares count the receipts of all seats, as many as the trail has entries,
+/// and what they were handed: this and what waits is what was routed.
 #[derive(Drop)]
 pub struct Ledger<L: Begun> {
     filed: FiledSession,
@@ -52,7 +52,8 @@ pub struct Ledger<L: Begun> {
 
 impl<L: Begun> Model for Ledger<L> {
     ghost use Rattle.std.specs.Prelude.{◌≡◌, ◌<◌, ◌≤◌, length};
-    ghost use Rattle.hub_ledger.specs.States.{State, IsKept, state_of};
+    ghost use Rattle.hub_ledger.specs.Seats.{handed_in, receipts_in};
+    ghost use Rattle.hub_ledger.specs.States.{Balances, State, IsKept, state_of};
     ghost use Rattle.hub_ledger.specs.declared.ledger.TheConstants.{FULL};
 
     ghost Value = { State };
@@ -65,11 +66,12 @@ impl<L: Begun> Model for Ledger<L> {
     ghost view = { λ l. state_of l.filed };
 
     ghost invariant = { λ l. IsKept (state_of l.filed)
-        × (l.book.total ≡ length l.filed.entries.list.entries)
+        × (receipts_in l.book.total ≡ length l.filed.entries.list.entries)
         × (length l.filed.entries.list.entries ≤ FULL)
         × (length l.filed.waiting.lists.items ≡ L.parts)
         × (length l.filed.waiting.marks.items ≡ L.parts) × (0 < L.parts)
-        × (l.filed.entries.edition ≡ L.edition) × (l.filed.entries.owner ≡ L.owner) };
+        × (l.filed.entries.edition ≡ L.edition) × (l.filed.entries.owner ≡ L.owner)
+        × (L.parts ≤ 8) × Balances (handed_in l.book.total) (state_of l.filed) };
 }
 
 /// A seat with this number and without receipts.
@@ -84,7 +86,6 @@ fn make_seat<L: ShareLedger>(alloc: Global, number: usize, share: Share<L>) -> S
         told: Receipts::new(alloc),
         share,
         steps: 0,
-        handed: 0,
         is_told: false,
     }
 }
@@ -236,7 +237,7 @@ impl<L: Begun> Ledger<L> {
         ensures handed { seat.new ≡ with_handed result.0 result.1 seat.old }
     {
         let (effects, is_told) = self.filed.waiting.take(self.filed.alloc, seat.number);
-        seat.hand(&effects, is_told);
+        seat.hand(&mut self.book, &effects, is_told);
         (effects, is_told)
     }
 
@@ -272,6 +273,9 @@ impl<L: Begun> Ledger<L> {
         // If all seats are handed back, they hold as many receipts as the trail has entries.
         ensures counted { length seats.items ≡ L.parts
             → length result.0.entries ≡ length (receipts_of seats.items) }
+        // Then, for some run with this trail, what they were handed and what still waits is what was
+        // routed.
+        ensures sum { length seats.items ≡ L.parts → Balances (handed_of seats.items) self }
         ensures wrong { IsFirstWrong result.0.entries (receipts_of seats.items) result.1 }
         // If all seats are handed back, there is no such place exactly if no two receipts name the
         // same place, and each receipt has the event and the reply of the trail's entry at its
@@ -282,6 +286,7 @@ impl<L: Begun> Ledger<L> {
         let Ledger { filed, mut book } = self;
         let entries = filed.into_entries();
         let mut seats = seats;
+        have_few(seats.as_slice());
         let wrong = first_wrong(&mut book, seats.as_mut_slice(), &entries.list);
         count(&mut book, seats);
         (Trail::of(entries), wrong)

@@ -1,8 +1,9 @@
 //! Seats, and the receipts that they hold.
 
 ghost use Rattle.std.specs.Prelude.{◌≡◌, ◌↔◌, ◌+◌, ◌≤◌, ◌<◌, true, length};
+ghost use Rattle.hub_ledger.specs.declared.ledger.TheConstants.{FULL};
 ghost use Rattle.hub_ledger.specs.Rising.{AllBelow, AreOf, Rise, before, times};
-ghost use Rattle.hub_ledger.specs.Seats.{stepped, with_handed};
+ghost use Rattle.hub_ledger.specs.Seats.{handed_in, receipts_in, stepped, with_handed};
 
 use crate::waiting::Handed;
 use hub_record::{Receipts, TrailEntry};
@@ -50,6 +51,23 @@ fn strip(receipts: &mut Receipts, place: usize, entry: &TrailEntry) -> (usize, b
     (1, is_right)
 }
 
+/// What an effect that is handed out adds to the amount of a seat's share: more than all receipts.
+const HANDED: u64 = 4_294_967_296;
+
+/// Counts effects that are handed out.
+fn count_handed<L: ShareLedger>(book: &mut Book<L>, share: &mut Share<L>, effects: usize)
+    requires { 0 < share.old.parts }
+    ensures parts { share.new.parts ≡ share.old.parts }
+    ensures seat { handed_in share.new.amount ≡ handed_in share.old.amount + effects }
+    ensures told { receipts_in share.new.amount ≡ receipts_in share.old.amount }
+    ensures all { handed_in book.new.total ≡ handed_in book.old.total + effects }
+    ensures entries { receipts_in book.new.total ≡ receipts_in book.old.total }
+{
+    'effects: for _effect in 0..effects {
+        book.add(share, HANDED);
+    }
+}
+
 /// A seat submits events, and holds a receipt of each entry that they wrote.
 #[derive(Drop)]
 pub struct Seat<L: ShareLedger> {
@@ -57,16 +75,16 @@ pub struct Seat<L: ShareLedger> {
     pub(crate) asks: bool,
     pub(crate) told: Receipts,
     pub(crate) share: Share<L>,
-    /// How many steps were made for it, and how many effects it was handed, modulo 2 ^ 64.
+    /// How many steps were made for it, modulo 2 ^ 64.
     pub(crate) steps: u64,
-    pub(crate) handed: u64,
     /// What it was told when it took effects last.
     pub(crate) is_told: bool,
 }
 
 impl<L: ShareLedger> Model for Seat<L> {
-    ghost use Rattle.std.specs.Prelude.{◌≡◌, ◌<◌, length};
-    ghost use Rattle.hub_ledger.specs.Seats.{Sitting, Rise};
+    ghost use Rattle.std.specs.Prelude.{◌≡◌, ◌<◌, ◌≤◌, length};
+    ghost use Rattle.hub_ledger.specs.Seats.{Sitting, Rise, handed_in, receipts_in};
+    ghost use Rattle.hub_ledger.specs.declared.ledger.TheConstants.{FULL};
 
     ghost Value = { Sitting };
 
@@ -75,12 +93,13 @@ impl<L: ShareLedger> Model for Seat<L> {
       asks = s.asks;
       receipts = s.told.receipts;
       steps = s.steps;
-      handed = s.handed;
+      handed = handed_in s.share.amount;
       is_told = s.is_told;
     } };
 
     ghost invariant = { λ s. (s.number < L.parts) × (s.share.parts ≡ 1)
-        × (s.share.amount ≡ length s.told.receipts) × Rise s.told.receipts };
+        × (receipts_in s.share.amount ≡ length s.told.receipts) × Rise s.told.receipts
+        × (length s.told.receipts ≤ FULL) };
 }
 
 impl<L: ShareLedger> Seat<L> {
@@ -99,10 +118,12 @@ impl<L: ShareLedger> Seat<L> {
     }
 
     /// Counts effects that are handed out, and notes what is told with them.
-    pub(crate) fn hand(&mut self, effects: &Handed, is_told: bool)
-        ensures { self.new ≡ with_handed effects.now is_told self.old }
+    pub(crate) fn hand(&mut self, book: &mut Book<L>, effects: &Handed, is_told: bool)
+        ensures seat { self.new ≡ with_handed effects.now is_told self.old }
+        ensures all { handed_in book.new.total ≡ handed_in book.old.total + length effects.now }
+        ensures entries { receipts_in book.new.total ≡ receipts_in book.old.total }
     {
-        self.handed = self.handed.wrapping_add(effects.as_slice().len() as u64);
+        count_handed(book, &mut self.share, effects.as_slice().len());
         self.is_told = is_told;
     }
 
@@ -111,6 +132,13 @@ impl<L: ShareLedger> Seat<L> {
         ensures { self.new ≡ record self.old { asks = true } }
     {
         self.asks = true;
+    }
+
+    /// The seat doesn't have more receipts than a trail may have entries.
+    pub(crate) fn has_few(&self)
+        ensures { length self.now.receipts ≤ FULL }
+    {
+        let _ = &self.told;
     }
 
     /// The seat's receipts, the oldest first.
@@ -130,6 +158,7 @@ impl<L: ShareLedger> Seat<L> {
     ) -> (usize, bool)
         requires { place < 4294967296 }
         ensures rest { self.new.receipts ≡ before place self.old.receipts }
+        ensures handed { self.new.handed ≡ self.old.handed }
         ensures total { book.new.total + length self.old.receipts
             ≡ book.old.total + length self.new.receipts }
         ensures times { result.0 ≡ times place self.old.receipts }

@@ -1,5 +1,5 @@
-use Rattle.hub_ledger.proofs.Vocabulary.{◌≡◌, ◌<◌, ◌+◌, ◌-◌, length, subst, sym, refl, arith, None, Some, slice_get}
-use Rattle.hub_ledger.proofs.Vocabulary.{IsTold, before, receipts_of}
+use Rattle.hub_ledger.proofs.Vocabulary.{◌≡◌, ◌∙◌, ◌<◌, ◌+◌, ◌-◌, length, subst, sym, refl, arith, None, Some}
+use Rattle.hub_ledger.proofs.Vocabulary.{slice_get, IsTold, before, receipts_of}
 use Rattle.hub_ledger.proofs.Stripping.{IsWrongFrom, first_is, none_past, right_here, same_below, told_same, wrong_here}
 use Rattle.hub_ledger.proofs.closing.first_wrong.Goals as goal
 
@@ -9,6 +9,7 @@ places-init g c = record {
   same = refl;
   wrong = subst (λ n. IsWrongFrom c.args.entries.now.entries (receipts_of c.args.seats.now) n None)
       (sym c.len-place.ensures) (none_past c.args.entries.now.entries (receipts_of c.args.seats.now));
+  handed = refl;
   total = refl;
 }
 
@@ -30,6 +31,7 @@ places-preserved g c =
       wrong = right_here es rs p e c.places.wrong at
           (told_same cur rs p e same (c.strip_all.ensures.told.0 c.if-not-strip_all.false))
           (subst (λ n. IsWrongFrom es rs n c.places.wrong) up inv.wrong);
+      handed = c.strip_all.ensures.handed ∙ inv.handed;
       total = (let t = inv.total in let here = c.strip_all.ensures.total in omega (arith, t, here));
     }
 
@@ -52,6 +54,7 @@ places-preserved-then-not-strip_all g c =
           (λ (told : IsTold p e rs).
           (let is = c.strip_all.ensures.told.1 (told_same rs cur p e (sym same) told) in absurd
           (cc (is, c.if-not-strip_all.true))));
+      handed = c.strip_all.ensures.handed ∙ inv.handed;
       total = (let t = inv.total in let here = c.strip_all.ensures.total in omega (arith, t, here));
     }
 
@@ -62,5 +65,6 @@ returns g c =
       wrong = first_is c.args.entries.now.entries (receipts_of c.args.seats.now) c.places.wrong
           (subst (λ n. IsWrongFrom c.args.entries.now.entries (receipts_of c.args.seats.now) n c.places.wrong) zero
           c.places.invariant.wrong);
+      handed = c.places.invariant.handed;
       total = c.places.invariant.total;
     }

@@ -1,5 +1,6 @@
 use Rattle.hub_ledger.proofs.Vocabulary.{◌≡◌, ◌∙◌, ◌<◌, ◌+◌, Bool, length, get_or, take, subst, sym, arith, true, ◌↔◌}
-use Rattle.hub_ledger.proofs.Vocabulary.{◌&&◌, slice_get, Some, slice_get-get_or, AreOf, receipts_of}
+use Rattle.hub_ledger.proofs.Vocabulary.{◌&&◌, slice_get, Some, slice_get-get_or, AreOf, Sitting, receipts_of}
+use Rattle.std.proofs.lemmas.List.Sums.{sum_by-set}
 use Rattle.hub_ledger.proofs.Stripping.{all_stripped, both_right, done_more, left_more, not_right, not_told}
 use Rattle.hub_ledger.proofs.Stripping.{receipts_set, right_more, times_more, told_by_one}
 use Rattle.hub_ledger.proofs.closing.strip_all.Goals as goal
@@ -21,6 +22,7 @@ seats-preserved g c =
       | else-right w ↦ not_right c.seats.right c.strip-times.result.1 c.if-right.right w.if-right.false w.right-is
     ] in
     let set = receipts_set cur i old new at in
+    let handed = sum_by-set (λ (s : Sitting). s.handed) cur i new c.index-seats-i.result within in
     record {
       done = done_more orig cur i c.args.place old new at was c.strip-times.ensures.rest inv.done;
       left = left_more orig cur i new inv.left;
@@ -31,6 +33,7 @@ seats-preserved g c =
           (sym both)
           (right_more orig i c.args.place c.args.entry.now c.seats.right c.strip-times.result.1 old was inv.right
           c.strip-times.ensures.right);
+      handed = (let h = inv.handed in let here = c.strip-times.ensures.handed in omega (arith, h, here, handed));
       total = (let t = inv.total in let here = c.strip-times.ensures.total in omega (arith, t, here, set));
     }
 
@@ -41,6 +44,7 @@ returns-then-named-eq1 g c =
     c.seats.right c.seats-test.false c.seats.auto.seats inv.done inv.times inv.right in
     record {
       rest = s.rest;
+      handed = inv.handed;
       total = inv.total;
       told = told_by_one (receipts_of c.args.seats.now) c.args.place c.args.entry.now c.seats.named c.seats.right
           c.if-named-eq1.true s.times s.right;
@@ -53,6 +57,7 @@ returns-else-named-eq1 g c =
     c.seats.right c.seats-test.false c.seats.auto.seats inv.done inv.times inv.right in
     record {
       rest = s.rest;
+      handed = inv.handed;
       total = inv.total;
       told = not_told (receipts_of c.args.seats.now) c.args.place c.args.entry.now c.seats.named c.if-named-eq1.false
           s.times;

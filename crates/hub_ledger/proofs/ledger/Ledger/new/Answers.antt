@@ -2,6 +2,7 @@ use Rattle.hub_ledger.proofs.Vocabulary.{◌≡◌, ◌∙◌, ℕ, length, ap, 
 use Rattle.hub_ledger.proofs.Vocabulary.{UserId, Sent, begun, Session, State, StandsFor}
 use Rattle.std.proofs.lemmas.List.{length-replicate}
 use Rattle.hub_ledger.specs.States.{begun_with}
+use Rattle.hub_ledger.proofs.Sums.{begun_sum}
 use Rattle.hub_ledger.proofs.ledger.Ledger.new.Goals as goal
 
 -- the session has the edition and the owner with which the ledger began
@@ -27,7 +28,7 @@ invariant_of-result g c =
     let is = c.in_ok-filed.ensures.state in
     let none : length c.in_ok-filed.filed.entries.list.entries ≡ 0 = ap (λ (s : State). length s.trail.entries) is in (
       c.in_ok-filed.ensures.kept,
-      c.open-book.ensures.total ∙ sym none,
+      (let zero = c.open-book.ensures.total in omega (arith, zero, none)),
       omega (arith, none),
       sym (length-map c.in_ok-filed.filed.waiting.lists.items (λ (v : Vec Sent Global). v.items))
           ∙ ap (λ (s : State). length s.waiting) is ∙ length-replicate c.args.seats _ ∙ c.requires.parts.1,
@@ -35,6 +36,11 @@ invariant_of-result g c =
       (let some = c.requires.seats.0 in omega (arith, some, c.requires.parts.1)),
       ap (λ (s : State). s.trail.edition) is ∙ c.edition-edition.ensures _ c.requires.fresh,
       ap (λ (s : State). s.trail.owner) is ∙ c.owner-owner.ensures _ c.requires.fresh,
+      (let few = c.requires.seats.1 in omega (arith, few, c.requires.parts.1)),
+      begun_sum c.args.session _ _ c.args.seats _ _ is
+          (so_begun c.args.session _ g.L.Begun.edition _ g.L.Begun.owner (c.edition-edition.ensures _ c.requires.fresh)
+          (c.owner-owner.ensures _ c.requires.fresh) c.requires.fresh)
+          (let zero = c.open-book.ensures.total in omega (arith, zero)),
     )
 
 pub returns-clause-state : goal.returns-clause-state

@@ -1,6 +1,9 @@
-use Rattle.hub_ledger.proofs.Vocabulary.{◌≡◌, ◌∙◌, false, length, ap, sym, arith, is_some, length-map, Vec, Global}
-use Rattle.hub_ledger.proofs.Vocabulary.{Sent, happening, kept_of, State, state_of}
+use Rattle.hub_ledger.proofs.Vocabulary.{◌≡◌, ◌∙◌, false, length, ap, subst, sym, arith, is_some, length-map, Vec}
+use Rattle.hub_ledger.proofs.Vocabulary.{Global, Sent, happening, kept_of, State, state_of}
+use Rattle.hub_ledger.specs.Seats.{handed_in}
+use Rattle.hub_ledger.specs.States.{Balances}
 use Rattle.hub_ledger.proofs.Filing.{begins_stay, no_more, seats_stay}
+use Rattle.hub_ledger.proofs.Sums.{step_sum}
 use Rattle.hub_ledger.proofs.ledger.Ledger.submit.Goals as goal
 
 pub invariant_of-self : goal.invariant_of-self
@@ -19,6 +22,8 @@ invariant_of-self g c =
       inv.5,
       ap (λ (s : State). s.trail.edition) same ∙ inv.6,
       ap (λ (s : State). s.trail.owner) same ∙ inv.7,
+      inv.8,
+      subst (Balances (handed_in c.self.inside.book.total)) (sym same) inv.9,
     )
 
 pub invariant_of-self-else-writes_entry : goal.invariant_of-self-else-writes_entry
@@ -41,6 +46,8 @@ invariant_of-self-else-writes_entry g c =
       inv.5,
       begins.0 ∙ inv.6,
       begins.1 ∙ inv.7,
+      inv.8,
+      step_sum _ _ event c.in_ok-made.made.0 c.in_ok-made.made.1 old new inv.0.seats takes inv.9,
     )
 
 pub returns-then-writes_entry-clause-step : goal.returns-then-writes_entry-clause-step
