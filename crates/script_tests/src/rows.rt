@@ -1,7 +1,7 @@
 //! Plays the rows of all texts.
 
 use crate::judging::is_so;
-use crate::{draws, one_owner, several_users, splits, views};
+use crate::{one_owner, several_users, splits, views};
 use std::alloc::AllocError;
 use std::fs::Files;
 
@@ -65,8 +65,8 @@ fn first_wrong_case<H: Files + AllocGlobal>(rt: &H) -> Option<&'static str> {
     first_wrong(rt, &words, FOUR_CLIENTS, several_users::CASES)
         .or(first_wrong(rt, &words, FOUR_CLIENTS, views::CASES))
         .or(first_wrong(rt, &words, "", splits::CASES))
-        .or(first_wrong(rt, &words, DRAWN, draws::CASES))
-        .or(first_wrong(rt, &words, FOUR_CLIENTS, draws::REVOKED))
+        .or(first_wrong(rt, &words, DRAWN, views::DRAWS))
+        .or(first_wrong(rt, &words, FOUR_CLIENTS, views::REVOKED))
 }
 
 fn first_wrong_edition<H: Files + AllocGlobal>(rt: &H) -> Option<&'static str> {

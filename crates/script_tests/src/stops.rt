@@ -4,7 +4,7 @@
 
 use crate::judging::are_lines;
 use crate::rows::{DRAWN, FOUR_CLIENTS, put_windows};
-use crate::{draws, several_users, splits, views};
+use crate::{several_users, splits, views};
 use acl::UserId;
 use session::{Effect, Event, Reply, Session, print_effect, print_reply, read_event};
 use std::alloc::{AllocError, Global};
@@ -129,8 +129,8 @@ fn rows_are_printed_though_refused_once(rt: HostRuntime) {
         .or(first_wrong(alloc, FOUR_CLIENTS, several_users::SECOND))
         .or(first_wrong(alloc, FOUR_CLIENTS, views::CASES))
         .or(first_wrong(alloc, "", splits::CASES))
-        .or(first_wrong(alloc, DRAWN, draws::CASES))
-        .or(first_wrong(alloc, FOUR_CLIENTS, draws::REVOKED));
+        .or(first_wrong(alloc, DRAWN, views::DRAWS))
+        .or(first_wrong(alloc, FOUR_CLIENTS, views::REVOKED));
     assert_eq!(rt; wrong, None);
     assert!(rt; are_forty_open(alloc));
 }

@@ -7,7 +7,6 @@ mod drawing;
 mod may_type;
 mod session;
 mod sharing;
-mod taking;
 
 ghost use Rattle.session_core.specs.Guarded.{CallsAreGuarded, NewRunsAreGuarded};
 ghost use Rattle.session_core.specs.Unseen.{SessionsHideOutput};

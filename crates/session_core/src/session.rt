@@ -16,11 +16,10 @@ ghost use Rattle.session_core.specs.Headline.{SomeRun, SomeSteps, IsRunOf, AllSt
 ghost use Rattle.session_core.specs.Headline.{HasCome, run_call, take_call, IsPartOf, IsViewOf};
 ghost use Rattle.session_core.specs.Headline.{read_by};
 
-use crate::coming::made_so;
+use crate::coming::{made_so, take};
 use crate::drawing::{draws_one_of, note_drawn};
 use crate::may_type::{may_type, user_of};
 use crate::sharing::{Sharing, note_step};
-use crate::taking::take;
 use acl::{Edition, UserId};
 use session_model::{CLIENTS, Effect, Event, Ran, Refusal, Reply};
 use session_state::{Client, Notes, State, Step, StepOutput};

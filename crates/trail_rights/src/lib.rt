@@ -7,7 +7,6 @@ ghost use Rattle.trail_rights.specs.Windows.{OpenAreListed};
 
 mod acts;
 mod decider;
-mod granted;
 mod masks;
 mod settler;
 mod sight;
@@ -15,8 +14,7 @@ mod watch;
 
 use acl::UserId;
 pub use acts::{AskedBits, Mark};
-pub use decider::{Decider, found_in};
-pub use granted::{may, users_of};
+pub use decider::{Decider, found_in, may, users_of};
 use line_fields::push_when;
 pub use masks::{letter, push_mask_lines, settings_of};
 pub use settler::{RightsSetting, Settler, settler_in};

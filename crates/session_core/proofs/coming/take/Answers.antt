@@ -1,7 +1,7 @@
 use Rattle.session_core.proofs.Vocabulary.{refl, ap, happening, Keys, Command, Output}
 use Rattle.session_model.specs.Trace.{Attach, Detach, Resize, Open, Closed}
 use Rattle.session_core.proofs.Entries.{taken}
-use Rattle.session_core.proofs.taking.take.Goals as goal
+use Rattle.session_core.proofs.coming.take.Goals as goal
 
 pub returns-in-Attach-clause-step : goal.returns-in-Attach-clause-step
 returns-in-Attach-clause-step c =

@@ -1,6 +1,6 @@
 use Rattle.trail_rights.proofs.Vocabulary.{◌∙◌, ◌++◌, ap, take, arith, option_to_list, users_of}
 use Rattle.trail_rights.proofs.Stepping.{take_next, take_past}
-use Rattle.trail_rights.proofs.granted.users_of.Goals as goal
+use Rattle.trail_rights.proofs.decider.users_of.Goals as goal
 
 pub loop-place-preserved : goal.loop-place-preserved
 loop-place-preserved c = λ edition owner h stands.

@@ -1,5 +1,5 @@
 use Rattle.trail_rights.proofs.Vocabulary.{◌≡◌, take, Edition, UserId, History, users_of, StandsAfter}
-use Rattle.trail_rights.proofs.granted.users_of.Given as goal
+use Rattle.trail_rights.proofs.decider.users_of.Given as goal
 
 -- those so far
 abbrev pub invariant-loop-place : goal.invariant-loop-place
