@@ -7,7 +7,8 @@ pub returns-in_default : goal.returns-in_default
 returns-in_default g c =
     let old = state_of c.args.self.now in
     subst (λ (o : Option (ℕ × Bool)). TellsNews g.J.SessionSeat o (with_peer told_full c.args.key old)
-    (record old { connections = c.take_fullness.new.connections })) (sym (sym c.take_fullness.ensures.news ∙ c.in_default.is))
+    (record old { connections = c.take_fullness.new.connections }))
+    (sym (sym c.take_fullness.ensures.news ∙ c.in_default.is))
     (ap (λ (s : Connections g.row.S.Denot). record old { connections = s }) c.take_fullness.ensures.told)
 
 pub returns : goal.returns

@@ -52,8 +52,9 @@ returns-in-Ok g c =
     let done = state_of c.note_step.new.self in
     let step = submitted g.J.SessionSeat event (record old { rations = c.count.new.self; seat = c.pay.new.self }) done
     c.submit-tried.result c.submit-tried.new.self c.submit-tried.ensures.step c.note_step.ensures in
-    tried g.J.SessionSeat event old (record done { seat = c.settle.new.self }) user c.args.shown.user c.user-user.ensures
-    c.price-cost.result cost c.pay.result paid c.pay.new.self c.pay.ensures.paid (c.may.ensures.may yes) c.count.new.self
+    tried g.J.SessionSeat event old (record done { seat = c.settle.new.self }) user c.args.shown.user
+    c.user-user.ensures c.price-cost.result cost c.pay.result paid c.pay.new.self c.pay.ensures.paid
+    (c.may.ensures.may yes) c.count.new.self
     (counted user old.rations c.count.new.self (as_nanos old.now) (c.price-cost.result / 1000) c.may.new.self
     (c.may.ensures.own yes) c.may.ensures.others c.may.ensures.period c.count.ensures.own c.count.ensures.others
     c.count.ensures.period) c.submit-tried.result done step c.came_of.result
@@ -72,8 +73,9 @@ returns-in-Err g c =
     let done = state_of c.note_step.new.self in
     let step = submitted g.J.SessionSeat event (record old { rations = c.count.new.self; seat = c.pay.new.self }) done
     c.submit-tried.result c.submit-tried.new.self c.submit-tried.ensures.step c.note_step.ensures in
-    tried g.J.SessionSeat event old (record done { seat = c.settle.new.self }) user c.args.shown.user c.user-user.ensures
-    c.price-cost.result cost c.pay.result paid c.pay.new.self c.pay.ensures.paid (c.may.ensures.may yes) c.count.new.self
+    tried g.J.SessionSeat event old (record done { seat = c.settle.new.self }) user c.args.shown.user
+    c.user-user.ensures c.price-cost.result cost c.pay.result paid c.pay.new.self c.pay.ensures.paid
+    (c.may.ensures.may yes) c.count.new.self
     (counted user old.rations c.count.new.self (as_nanos old.now) (c.price-cost.result / 1000) c.may.new.self
     (c.may.ensures.own yes) c.may.ensures.others c.may.ensures.period c.count.ensures.own c.count.ensures.others
     c.count.ensures.period) c.submit-tried.result done step c.came_of.result
