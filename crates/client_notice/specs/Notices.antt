@@ -1,6 +1,6 @@
 -- A text for the last line of a client's terminal.
-use Rattle.std.specs.Prelude.{◌≡◌, ℕ, ◌+◌, ◌-◌, ◌≤◌, ◌==◌, ◌&&◌, ◌||◌, nat_le, Bool, if◌then◌else◌}
-use Rattle.std.specs.Prelude.{List, ◌∷◌, ◌++◌, take, codes, decimal}
+use Rattle.std.specs.Prelude.{◌≡◌, ◌⊎◌, ℕ, ◌+◌, ◌-◌, ◌≤◌, ◌==◌, ◌&&◌, ◌||◌, nat_le, Bool, true, false, MatchBool}
+use Rattle.std.specs.Prelude.{if◌then◌else◌, List, ◌∷◌, ◌++◌, take, codes, decimal}
 use Rattle.std.specs.List.{starts_with}
 use Rattle.client_words.specs.Visible.{visible}
 use Rattle.client_notice.specs.declared.notice.Notice.{Notice}
@@ -21,14 +21,21 @@ IsNew text n = (n.text.items ≡ noted text) × (n.stage ≡ stage.New)
 abbrev pub TellsMore : List ℕ → Notice → Type 0
 TellsMore text n = (meaning : List ℕ) × IsNew (text ++ meaning) n
 
--- how many lines the view was moved back, and how to come back
-abbrev pub scrolled : ℕ → List ℕ
-scrolled back = decimal back ++ codes " lines back; Shift-PgDn or Alt-PgDn: forward, other keys: to the end"
-
 -- a text of the server, which no status line has
 abbrev pub is_of_server : List ℕ → Bool
 is_of_server text =
     starts_with ◌==◌ text (codes "keys were dropped") || starts_with ◌==◌ text (codes "the server")
+
+-- A text that comes after the client was let in. The status line has those of the session, so only those of the server
+-- are shown; a client with texts of its own shows others, too, if it knows what they mean.
+abbrev pub HearsLater : Bool → List ℕ → Notice → Notice → Type 0
+HearsLater false text old new = MatchBool (is_of_server text) (IsNew text new) (new ≡ old)
+HearsLater true text old new =
+    MatchBool (is_of_server text) (TellsMore text new) ((new ≡ old) ⊎ TellsMore text new)
+
+-- how many lines the view was moved back, and how to come back
+abbrev pub scrolled : ℕ → List ℕ
+scrolled back = decimal back ++ codes " lines back; Shift-PgDn or Alt-PgDn: forward, other keys: to the end"
 
 -- a text is still to come
 abbrev pub IsToShow : NoticeStage → Type 0

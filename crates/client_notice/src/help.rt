@@ -1,5 +1,8 @@
 //! The client's help.
 
+ghost use Rattle.std.specs.Prelude.{◌≡◌, IfOk};
+ghost use Rattle.client_notice.specs.Help.{IsHelp, next_row};
+
 use crate::notice::cut;
 use std::alloc::{AllocError, Global};
 
@@ -25,15 +28,25 @@ const KEYS: [&str; 18] = [
     "Any key comes back.",
 ];
 
+// Each row but the first one begins after NEL.
+fn next_row(row: usize) -> &'static [u8]
+    ensures { result.now ≡ next_row row }
+{
+    if row == 0 {
+        return &[];
+    }
+    b"\x1bE"
+}
+
 /// The help for a terminal of this size. It consists of functions that draws use.
-pub fn help_page(alloc: Global, rows: u16, columns: u16) -> Result<Vec<u8>, AllocError> {
+pub fn help_page(alloc: Global, rows: u16, columns: u16) -> Result<Vec<u8>, AllocError>
+    ensures { IfOk result (λ page. IsHelp columns rows page.items) }
+{
     let columns = usize::from(columns).saturating_sub(1);
     let mut page = Vec::new(alloc);
     page.extend_from_slice(b"\x1b[m\x1b[H")?;
     for row in 0..usize::from(rows) {
-        if row > 0 {
-            page.extend_from_slice(b"\x1bE")?;
-        }
+        page.extend_from_slice(next_row(row))?;
         let line = KEYS.get(row).copied().unwrap_or("");
         page.extend_from_slice(cut(line.as_bytes(), columns))?;
         page.extend_from_slice(b"\x1b[K")?;

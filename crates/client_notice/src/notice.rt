@@ -1,7 +1,7 @@
 //! A text for the last line of a client's terminal.
 
-ghost use Rattle.std.specs.Prelude.{◌≡◌, ◌⊎◌, ◌↔◌, [], IsTrue, true, false, IfOk, OnErr, OnOk};
-ghost use Rattle.client_notice.specs.Notices.{IsBeginning, IsNew, IsToShow, PutsLine, TellsMore, is_of_server, turned};
+ghost use Rattle.std.specs.Prelude.{◌≡◌, ◌↔◌, [], IsTrue, false, IfOk, OnErr, OnOk};
+ghost use Rattle.client_notice.specs.Notices.{HearsLater, IsBeginning, IsNew, IsToShow, PutsLine, is_of_server, turned};
 ghost use Rattle.client_notice.specs.Notices.{scrolled};
 
 use client_words::put_visible;
@@ -113,8 +113,7 @@ impl Notice {
     /// Takes a text that came after the client was let in. One of the session stands on the status
     /// line, too; for a client with texts of its own, the meaning of a refusal by number is shown beside it.
     pub fn hear_later(&mut self, alloc: Global, text: &str, assists: bool) -> Result<(), AllocError>
-        ensures server { is_of_server text.now ≡ true → OnOk result (TellsMore text.now self.new) }
-        ensures other { OnOk result ((self.new ≡ self.old) ⊎ TellsMore text.now self.new) }
+        ensures hears { OnOk result (HearsLater assists text.now self.old self.new) }
         ensures err { OnErr result (self.new ≡ self.old) }
     {
         let meaning = meaning_of(alloc, text, assists)?;

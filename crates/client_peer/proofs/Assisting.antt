@@ -1,39 +1,58 @@
 -- What a client with keys of its own sends.
-use Rattle.std.proofs.Common.{◌≡◌, ◌∙◌, ℕ, List, [], ◌++◌, sym, ap, subst}
+use Rattle.std.proofs.Common.{◌≡◌, ◌∙◌, ℕ, ◌-◌, List, [], true, false, sym, ap, subst, Result, Ok, Err}
+use Rattle.std.specs.Prelude.{OnOk}
 use Rattle.attach_proto.specs.declared.kind.Kind.TheVariants.{Keys}
-use Rattle.client_typing.specs.Assisting.{Assists, IsAssisted}
+use Rattle.client_notice.specs.Notices.{IsNew, scrolled}
+use Rattle.client_typing.specs.Assisting.{Assists, Makes, at}
 use Rattle.client_typing.specs.declared.typing.Typing.{Typing}
 use Rattle.client_peer.specs.declared.looking.Timers.{Timers}
 use Rattle.client_peer.specs.declared.peer.Peer.{Peer}
 use Rattle.client_peer.specs.Reopening.{Sends}
-use Rattle.client_peer.specs.Typing.{SendsAssisted, MayAsk, Presses}
+use Rattle.client_peer.specs.Showing.{IsUncovered, ShowsHelp, helping}
+use Rattle.client_peer.specs.Typing.{SendsAssisted, TellsScrolled, Presses}
 
--- it stands for what the other one stands for
-abbrev pub StandsAs : Typing → Typing → Type 0
-StandsAs s t = (typed sent : List ℕ) → IsAssisted t typed sent → IsAssisted s typed sent
-
--- keys were put down, the page was asked for, perhaps, and the help was shown
-pub sends_assisted : (old second third new : Peer) (t : Typing) (keys sent out : List ℕ)
-    → Assists old.typing keys [] t out → second ≡ record old { typing = t; frames = second.frames }
-    → Sends old.frames.items second.frames.items Keys sent → sent ≡ out → third.typing ≡ second.typing
-    → MayAsk second second.frames.items third.frames.items → StandsAs new.typing third.typing
-    → new.frames.items ≡ third.frames.items → SendsAssisted old new keys
-sends_assisted old second third new t keys sent out a same sends is told asks stands frames =
-    let whole : third.typing ≡ t = told ∙ ap (λ (p : Peer). p.typing) same in record {
-      sent = out;
+-- keys were put down, then it was told how far the view was moved, and then the help was shown, perhaps
+pub sends_assisted : {T E : Type 0} (r : Result T E) (old second third new : Peer) (t : Typing) (keys sent out : List ℕ)
+    → Assists (old.rows - 3) old.typing keys [] t out → second ≡ record old { typing = t; frames = second.frames }
+    → Sends old.frames.items second.frames.items Keys sent → sent ≡ out
+    → third ≡ record second { frames = third.frames; notice = third.notice }
+    → TellsScrolled second third old.typing.back second.frames.items → new ≡ helping third new
+    → (third.typing.asks_help ≡ true → OnOk r (ShowsHelp third new))
+    → (third.typing.asks_help ≡ false → OnOk r (IsUncovered third new)) → OnOk r (SendsAssisted old new keys)
+sends_assisted (Err e) old second third new t keys sent out a first sends is told tells last helps other = tt
+sends_assisted (Ok x) old second third new t keys sent out a first sends is told tells last helps other =
+    let whole : third ≡ record old { typing = t; frames = third.frames; notice = third.notice } =
+    told ∙ ap (λ (p : Peer). record p { frames = third.frames; notice = third.notice }) first in
+    let typing : new.typing ≡ t = ap (λ (p : Peer). p.typing) last ∙ ap (λ (p : Peer). p.typing) whole in
+    let back : third.typing.back ≡ new.typing.back = sym (ap (λ (p : Peer). p.typing.back) last) in
+    let asks : third.typing.asks_help ≡ new.typing.asks_help = sym (ap (λ (p : Peer). p.typing.asks_help) last) in
+    let framed : new.frames.items ≡ third.frames.items = ap (λ (p : Peer). p.frames.items) last in
+    let noted : new.notice ≡ third.notice = ap (λ (p : Peer). p.notice) last in
+    let scrolls : TellsScrolled (record old { typing = t; frames = second.frames }) third old.typing.back second.frames.items =
+    subst (λ (p : Peer). TellsScrolled p third old.typing.back second.frames.items) first tells in
+    let shown : Peer = record old { typing = t; frames = third.frames; notice = third.notice } in record {
+      sent = a.sent;
       frames = second.frames.items;
-      assists = record {
-        put = a.put;
-        added = a.added;
-        stands = λ typed before w.
-            stands (typed ++ keys) (before ++ a.put)
-            (subst (λ (s : Typing). IsAssisted s (typed ++ keys) (before ++ a.put)) (sym whole)
-            (a.stands typed before w));
+      makes = subst (λ (s : Typing). Makes (old.rows - 3) (at old.typing) keys a.sent (at s)) (sym typing) a.makes;
+      sends = subst (λ (l : List ℕ). Sends old.frames.items second.frames.items Keys l) (is ∙ a.added) sends;
+      tells = record {
+        same = λ e.
+            (framed ∙ (scrolls.same (back ∙ e)).0, noted ∙ (scrolls.same (back ∙ e)).1);
+        end = λ moved e.
+            let h = scrolls.end (λ b. moved (sym back ∙ b)) (back ∙ e) in
+            (framed ∙ h.0, ap (λ n. n.stage) noted ∙ h.1);
+        back = λ moved far.
+            let h = scrolls.back (λ b. moved (sym back ∙ b)) (λ z. far (sym back ∙ z)) in (
+              framed ∙ h.0,
+              subst (λ n. IsNew (scrolled new.typing.back) n) (sym noted)
+                  (subst (λ b. IsNew (scrolled b) third.notice) back h.1),
+            );
       };
-      sends = subst (λ (l : List ℕ). Sends old.frames.items second.frames.items Keys l) is sends;
-      asks =
-          subst (λ (l : List ℕ). MayAsk old second.frames.items l) (sym frames)
-          (subst (λ (p : Peer). MayAsk p second.frames.items third.frames.items) same asks);
+      helps = λ e.
+          let h : ShowsHelp shown new = subst (λ (p : Peer). ShowsHelp p new) whole (helps (asks ∙ e)) in
+          record { shows = h.shows; stays = h.stays };
+      other = λ e.
+          subst (λ (p : Peer). IsUncovered p new) whole (other (asks ∙ e));
     }
 
 -- keys are pressed after they were read
@@ -52,9 +71,12 @@ presses_read old new t reads times typed same p =
           q.assisted (record { client = seat.client; here = seat.here; shown = seat.shown }) is in record {
             sent = a.sent;
             frames = a.frames;
-            assists = record { put = a.assists.put; added = a.assists.added; stands = a.assists.stands };
+            makes = a.makes;
             sends = a.sends;
-            asks = a.asks;
+            tells = record { same = a.tells.same; end = a.tells.end; back = a.tells.back };
+            helps = λ asks.
+                let h : ShowsHelp middle new = a.helps asks in record { shows = h.shows; stays = h.stays };
+            other = a.other;
           };
       lost = q.lost;
       ends = q.ends;

@@ -6,9 +6,9 @@ use Rattle.attach_proto.specs.declared.why.Why.{Why}
 use Rattle.client_words.specs.declared.fault.PeerFault.{PeerFault}
 use Rattle.client_words.specs.declared.fault.PeerFault.TheVariants.{NoAnswer}
 use Rattle.client_peer.specs.declared.peer.Peer.{Peer}
-use Rattle.client_peer.specs.Looking.{EndsInTime, IsLate}
+use Rattle.client_peer.specs.Looking.{EndsInTime, IsLate, leaving}
 use Rattle.client_peer.specs.Returning.{AtLoss, GivesUp, IsOver}
-use Rattle.client_peer.proofs.Waiting.{false_true, left_as, not_none}
+use Rattle.client_peer.proofs.Waiting.{false_true, not_none}
 
 abbrev End : Type 0
 End = Option (Result Why PeerFault)
@@ -51,7 +51,7 @@ awaits_none old new now none same = record {
   rest = subst (λ (p : Peer). p ≡ record old { end = p.end }) (sym same) refl;
 }
 
-pub ends_left : (old new : Peer) (now : ℕ) → new ≡ left_as old new → IsSome new.times.left_at → EndsInTime old now new
+pub ends_left : (old new : Peer) (now : ℕ) → new ≡ leaving old new → IsSome new.times.left_at → EndsInTime old now new
 ends_left old new now same left = record {
   end = inl (ap (λ (p : Peer). p.end) same);
   final = λ f. inl (sym (ap (λ (p : Peer). p.is_final) same) ∙ f);
@@ -60,9 +60,9 @@ ends_left old new now same left = record {
   late = λ none l. absurd (not_none new.times.left_at none left);
 }
 
-module _ (old first second third new : Peer) (now : ℕ) (same : first ≡ left_as old first) (lost : AtLoss first now second)
+module _ (old first second third new : Peer) (now : ℕ) (same : first ≡ leaving old first) (lost : AtLoss first now second)
     (awaits : Awaits second now third) (end : new.end ≡ third.end) (final : new.is_final ≡ third.is_final) where
-  second_is : second ≡ record (left_as old first) { is_final = second.is_final; end = second.end }
+  second_is : second ≡ record (leaving old first) { is_final = second.is_final; end = second.end }
   second_is = lost.rest ∙ ap (λ (q : Peer). record q { is_final = second.is_final; end = second.end }) same
 
   final_is : new.is_final ≡ second.is_final

@@ -1,9 +1,20 @@
--- What waits as time goes by, step after step.
-use Rattle.std.proofs.Common.{◌≡◌, ◌∙◌, refl, sym, ap, subst, inl, inr, ◌⊎◌, ℕ, true, false, Option, None, IsSome}
+-- What a look does, step after step.
+use Rattle.std.proofs.Common.{◌≡◌, ◌∙◌, refl, sym, ap, subst, inl, inr, ◌⊎◌, ℕ, ◌≤◌, ◌-◌, true, false, Option, Some, None, IsSome, [], ◌++◌}
+use Rattle.std.proofs.Common.{Result, Ok, Err}
+use Rattle.std.specs.Prelude.{IfOk, IsSomeAnd}
+use Rattle.attach_proto.specs.declared.kind.Kind.TheVariants.{Detach}
+use Rattle.attach_proto.specs.Spelling.{frame}
+use Rattle.client_notice.specs.declared.notice.NoticeTask.{NoticeTask}
+use Rattle.client_notice.specs.declared.notice.NoticeTask.TheVariants.{Nothing, Show, TakeAway}
+use Rattle.client_typing.specs.Following.{stage_of}
+use Rattle.client_words.specs.declared.fault.PeerFault.{PeerFault}
 use Rattle.client_peer.specs.declared.looking.PeerTask.{PeerTask}
+use Rattle.client_peer.specs.declared.looking.PeerTask.TheVariants as task
 use Rattle.client_peer.specs.declared.peer.Peer.{Peer}
-use Rattle.client_peer.specs.Looking.{AsksAndFits, BeginsInTime, DoesNext, MayLeave, TellsOfLeaving, Waits, in_time}
-use Rattle.client_peer.specs.Showing.{MayShow}
+use Rattle.client_peer.specs.Acting.{Acts, ActsIf, ActsInTime, Does, IsUnmoved}
+use Rattle.client_peer.specs.Looking.{BeginsInTime, DoesNext, IsToLeave, LeavesInTime, MayLeave, acting, in_time, leaving}
+use Rattle.client_peer.specs.Looking.{IsDone, IsIdle, paired_after}
+use Rattle.client_peer.specs.Sending.{MaySend}
 
 pub false_true : false ≡ true → ⊥
 false_true e = cc
@@ -11,102 +22,182 @@ false_true e = cc
 pub not_none : {T : Type 0} (o : Option T) → o ≡ None → IsSome o → ⊥
 not_none o none some = false_true (subst IsSome none some)
 
--- a peer whose user types no more, perhaps
-abbrev pub leaning : Peer → Peer → Peer
-leaning old p = record old {
-  typing = record old.typing { leave = p.typing.leave };
-  times = record old.times { paired = p.times.paired };
+is_none : {T : Type 0} (o : Option T) → (IsSome o → ⊥) → o ≡ None
+is_none None h = refl
+is_none (Some x) h = absurd (h refl)
+
+is_some_if : {T : Type 0} (o : Option T) → (o ≡ None → ⊥) → IsSome o
+is_some_if None h = absurd (h refl)
+is_some_if (Some x) h = refl
+
+pub if_ok_by : {T E : Type 0} (r : Result T E) (P Q : T → Type 0) → ((x : T) → P x → Q x) → IfOk r P → IfOk r Q
+if_ok_by (Ok x) P Q f p = f x p
+if_ok_by (Err e) P Q f p = tt
+
+-- ---- a user who leaves, or stays
+
+module _ (old first : Peer) (now : ℕ) (m : MayLeave old now first) where
+  pub was_none : first.times.left_at ≡ None → old.times.left_at ≡ None
+  was_none none =
+      is_none old.times.left_at
+      (λ some. not_none first.times.left_at none
+      (subst (λ (p : Peer). IsSome p.times.left_at) (sym (m.left some)) some))
+
+  pub stays_on : first.times.left_at ≡ None → IsToLeave old now → ⊥
+  stays_on none to =
+      not_none first.times.left_at none (subst IsSome (sym (m.leaves (was_none none) to).0) refl)
+
+  was_left : IsSome first.times.left_at → (IsToLeave old now → ⊥) → old.times.left_at ≡ None → ⊥
+  was_left some not none =
+      not_none first.times.left_at (ap (λ (p : Peer). p.times.left_at) (m.stays none not) ∙ none) some
+
+  pub leaves_then : (new : Peer) → new.times.left_at ≡ first.times.left_at → new.times.paired ≡ first.times.paired
+      → new.typing.leave ≡ first.typing.leave → LeavesInTime old now new
+  leaves_then new left paired leave = record {
+    left = λ some. left ∙ ap (λ (p : Peer). p.times.left_at) (m.left some);
+    leaves = λ none to. (left ∙ (m.leaves none to).0, ap stage_of leave ∙ (m.leaves none to).1);
+    stays = λ none not. (
+      left ∙ ap (λ (p : Peer). p.times.left_at) (m.stays none not) ∙ none,
+      paired ∙ ap (λ (p : Peer). p.times.paired) (m.stays none not),
+      leave ∙ ap (λ (p : Peer). p.typing.leave) (m.stays none not),
+    );
+  }
+
+  pub acts_left : (next : PeerTask)
+      → (old.times.left_at ≡ None → IsToLeave old now → first.frames.items ≡ old.frames.items ++ frame Detach [])
+      → first ≡ leaving old first → IsSome first.times.left_at → ActsInTime old now next first
+  acts_left next tells same some = record {
+    leaves = λ l. (tells l.0 l.1, ap (λ (p : Peer). p.bytes.items) same);
+    acts = λ not. record {
+      acts = λ is. absurd (not_none first.times.left_at is.1 some);
+      rests = λ closed.
+          let is : first ≡ old =
+          m.left (is_some_if old.times.left_at (λ none. was_left some (λ to. not (none, to)) none)) in (
+            (ap (λ (p : Peer). p.frames.items) is, ap (λ (p : Peer). p.bytes.items) is),
+            ap (λ (p : Peer). p.typing) is,
+            ap (λ (p : Peer). p.notice) is,
+          );
+    };
+  }
+
+-- ---- a peer whose user stays, and which ends, perhaps
+
+abbrev pub beside : Peer → ℕ → Peer → Peer
+beside old now p = record old {
+  times = record old.times { paired = paired_after old now };
+  is_final = p.is_final;
+  end = p.end;
 }
 
--- a peer whose user left, perhaps
-abbrev pub left_as : Peer → Peer → Peer
-left_as old p = record old {
-  frames = p.frames;
-  typing = record old.typing { leave = p.typing.leave };
-  times = record old.times { paired = p.times.paired; left_at = p.times.left_at };
-}
-
--- a peer whose user stays, and which ends, perhaps
-abbrev pub beside : Peer → Peer → Peer
-beside old p = record (left_as old p) { frames = old.frames; is_final = p.is_final; end = p.end }
-
-pub leaves : (old middle new : Peer) (left : Option ℕ) → middle ≡ leaning old middle
-    → new ≡ record middle { times = record middle.times { left_at = left }; frames = new.frames } → new ≡ left_as old new
-leaves old middle new left first last =
-    let next : Peer → Peer =
-    λ q. record q { times = record q.times { left_at = left }; frames = new.frames } in
-    subst (λ (q : Peer). q ≡ left_as old q) (sym (last ∙ ap next first)) refl
-
-pub leaves_not : (old new : Peer) → new ≡ leaning old new → new ≡ left_as old new
-leaves_not old new same = subst (λ (q : Peer). q ≡ left_as old q) (sym same) refl
-
-pub beside_by : (old first second third : Peer) (now : ℕ) → MayLeave old now first → first ≡ left_as old first
-    → first.times.left_at ≡ None → second ≡ record first { is_final = second.is_final; end = second.end }
-    → third ≡ record second { end = third.end } → third ≡ beside old third
-beside_by old first second third now m same none lost late =
-    let stays : first ≡ record (left_as old first) { frames = old.frames } =
-    same ∙ ap (λ (f : _). record (left_as old first) { frames = f }) (m.stays none).1 in
-    let whole : third ≡ record (left_as old first) { frames = old.frames; is_final = second.is_final; end = third.end } =
+pub beside_by : (old first second third : Peer) (now : ℕ) → MayLeave old now first → first.times.left_at ≡ None
+    → second ≡ record first { is_final = second.is_final; end = second.end }
+    → third ≡ record second { end = third.end } → third ≡ beside old now third
+beside_by old first second third now m none lost late =
+    let stays : first ≡ record old { times = record old.times { paired = paired_after old now } } =
+    m.stays (was_none old first now m none) (stays_on old first now m none) in
+    let whole : third ≡ record old {
+      times = record old.times { paired = paired_after old now };
+      is_final = second.is_final;
+      end = third.end;
+    } =
     late
     ∙ ap (λ (q : Peer). record q { end = third.end }) (lost
     ∙ ap (λ (q : Peer). record q { is_final = second.is_final; end = second.end }) stays) in
-    subst (λ (q : Peer). q ≡ beside old q) (sym whole) refl
+    subst (λ (q : Peer). q ≡ beside old now q) (sym whole) refl
 
--- ---- what waits
+pub rest_left : (old new : Peer) → new ≡ leaving old new → new ≡ in_time old new
+rest_left old new same = same ∙ sym (ap (in_time old) same)
 
-pub waits_left : (old new : Peer) → new ≡ left_as old new
-    → (new.frames.items ≡ old.frames.items) ⊎ TellsOfLeaving old new → Waits old new
-waits_left old new same tells = record {
-  frames = elim tells [ inl none ↦ inr (old.frames.items, inl refl, inl none) | inr told ↦ inl told ];
-  bytes = inl (ap (λ (p : Peer). p.bytes.items) same);
-  rest = same ∙ sym (ap (in_time old) same);
-}
+module _ (old third new : Peer) (now : ℕ) (same : third ≡ beside old now third) where
+  -- the peer has ended
+  module _ (end : IsSome third.end)
+      (last : new ≡ record third { times = record third.times { ended_at = new.times.ended_at } }) where
+    whole : new ≡ record (beside old now third) {
+      times = record (beside old now third).times { ended_at = new.times.ended_at };
+    }
+    whole =
+        last
+        ∙ ap (λ (q : Peer). record q { times = record q.times { ended_at = new.times.ended_at } }) same
 
-pub waits_end : (old third new : Peer) → third ≡ beside old third
-    → new ≡ record third { times = record third.times { ended_at = new.times.ended_at } } → Waits old new
-waits_end old third new same last =
-    let whole : new ≡ record (beside old third) {
-      times = record (beside old third).times { ended_at = new.times.ended_at };
-    } =
-    last
-    ∙ ap (λ (q : Peer). record q { times = record q.times { ended_at = new.times.ended_at } }) same in record {
-      frames = inr (old.frames.items, inl refl, inl (ap (λ (p : Peer). p.frames.items) whole));
-      bytes = inl (ap (λ (p : Peer). p.bytes.items) whole);
-      rest = subst (λ (q : Peer). q ≡ in_time old q) (sym whole) refl;
+    pub rest_end : new ≡ in_time old new
+    rest_end = subst (λ (q : Peer). q ≡ in_time old q) (sym whole) refl
+
+    pub acts_end : (next : PeerTask) → (IsToLeave old now → ⊥) → ActsInTime old now next new
+    acts_end next not = record {
+      leaves = λ l. absurd (not l.1);
+      acts = λ n. record {
+        acts = λ is. absurd (not_none new.end is.0 (subst IsSome (sym (ap (λ (p : Peer). p.end) last)) end));
+        rests = λ closed. (
+          (ap (λ (p : Peer). p.frames.items) whole, ap (λ (p : Peer). p.bytes.items) whole),
+          ap (λ (p : Peer). p.typing) whole,
+          ap (λ (p : Peer). p.notice) whole,
+        );
+      };
     }
 
-pub waits_open : (old third new : Peer) → third ≡ beside old third → AsksAndFits third new → MayShow third new
-    → new ≡ in_time third (record new { is_final = third.is_final; end = None }) → Waits old new
-waits_open old third new same sends shows last =
-    let next : Peer → Peer = λ q. in_time q (record new { is_final = third.is_final; end = None }) in record {
-      frames = inr (subst (λ (p : Peer). AsksAndFits p new) same sends);
-      bytes = subst (λ (p : Peer). MayShow p new) same shows;
-      rest = subst (λ (q : Peer). q ≡ in_time old q) (sym (last ∙ ap next same)) refl;
-    }
+  -- the connection is open
+  does_same : (does : NoticeTask) → Does does (beside old now third) now new → Does does old now new
+  does_same Nothing d = (d.0, record { fits = d.1.fits; waits = d.1.waits; counts = d.1.counts })
+  does_same Show d = d
+  does_same TakeAway d = d
+
+  pub acts_open : (next : PeerTask) → (IsToLeave old now → ⊥) → ActsIf third now next new → ActsInTime old now next new
+  acts_open next not a =
+      let b : ActsIf (beside old now third) now next new = subst (λ (p : Peer). ActsIf p now next new) same a in
+      record {
+        leaves = λ l. absurd (not l.1);
+        acts = λ n. record {
+          acts = λ is.
+              let d : Acts (beside old now third) now new = b.acts is in
+              record { does = d.does; turn = d.turn; done = does_same d.does d.done; seen = d.seen };
+          rests = b.rests;
+        };
+      }
+
+  pub unmoved : IsUnmoved third new → IsUnmoved old new
+  unmoved u = (u.0 ∙ ap (λ (p : Peer). p.frames.items) same, u.1 ∙ ap (λ (p : Peer). p.bytes.items) same)
+
+  pub rest_open : new ≡ acting third new → new ≡ in_time old new
+  rest_open last =
+      subst (λ (q : Peer). q ≡ in_time old q) (sym (last ∙ ap (λ (q : Peer). acting q new) same)) refl
+
+-- ---- nothing is to be done
+
+pub is_idle : (p : Peer) → p.end ≡ None → (MaySend p → ⊥) → p.is_reopening ≡ false → IsIdle p
+is_idle p end none opened = inr (end, none, λ left. opened)
+
+pub not_done : (p : Peer) (now : ℕ) → p.end ≡ None → p.times.left_at ≡ None → IsDone p now → ⊥
+not_done p now end left (inl a) =
+    subst (λ (o : Option ℕ). IsSomeAnd o (λ at. IsSome p.end ⊎ (IsSome p.loss ⊎ (100 ≤ now - at)))) left a
+not_done p now end left (inr d) = not_none p.end end d.0
 
 -- ---- when standard input is begun
 
-pub begins_left : (old new : Peer) (now : ℕ) (next : PeerTask) → new ≡ left_as old new → IsSome new.times.left_at
-    → DoesNext new now next → BeginsInTime old now next new
+pub begins_left : (old new : Peer) (now : ℕ) (next : PeerTask) → new ≡ leaving old new → IsSome new.times.left_at
+    → DoesNext new now next → BeginsInTime old now (Ok next) new
 begins_left old new now next same left does = record {
-  once = λ is. absurd (not_none new.times.left_at (subst (DoesNext new now) is does).1 left);
+  once = λ is.
+      let e : next ≡ task.Begin = cc in
+      absurd (not_none new.times.left_at (subst (DoesNext new now) e does).1 left);
   soon = λ still stays may. absurd (not_none new.times.left_at stays left);
   rest = λ other. ap (λ (p : Peer). p.times.has_begun) same;
 }
 
-pub begins_end : (old third new : Peer) (now : ℕ) (next : PeerTask) → third ≡ beside old third → IsSome third.end
+pub begins_end : (old third new : Peer) (now : ℕ) (next : PeerTask) → third ≡ beside old now third → IsSome third.end
     → new ≡ record third { times = record third.times { ended_at = new.times.ended_at } } → DoesNext new now next
-    → BeginsInTime old now next new
+    → BeginsInTime old now (Ok next) new
 begins_end old third new now next same end last does =
     let ended : IsSome new.end = subst IsSome (sym (ap (λ (p : Peer). p.end) last)) end in record {
-      once = λ is. absurd (not_none new.end (subst (DoesNext new now) is does).0 ended);
+      once = λ is.
+          let e : next ≡ task.Begin = cc in
+          absurd (not_none new.end (subst (DoesNext new now) e does).0 ended);
       soon = λ still stays may. absurd (not_none new.end still ended);
       rest = λ other.
           ap (λ (p : Peer). p.times.has_begun) last ∙ ap (λ (p : Peer). p.times.has_begun) same;
     }
 
-pub begins_open : (old third new : Peer) (now : ℕ) (next : PeerTask) → third ≡ beside old third
-    → BeginsInTime third now next new → BeginsInTime old now next new
+pub begins_open : (old third new : Peer) (now : ℕ) (next : Result PeerTask PeerFault)
+    → third ≡ beside old now third → BeginsInTime third now next new → BeginsInTime old now next new
 begins_open old third new now next same b = record {
   once = λ is. sym (ap (λ (p : Peer). p.times.has_begun) same) ∙ b.once is;
   soon = b.soon;

@@ -7,6 +7,7 @@ use Rattle.attach_proto.specs.declared.why.Why.{Why}
 use Rattle.attach_proto.specs.Streams.{Reading, TakesPiece}
 use Rattle.client_page.specs.declared.page.KeptPage.{KeptPage}
 use Rattle.client_page.specs.Kept.{TakesSize}
+use Rattle.client_notice.specs.Notices.{HearsLater}
 use Rattle.client_words.specs.Visible.{visible}
 use Rattle.client_words.specs.declared.arguments.Subcommand.{Subcommand}
 use Rattle.client_words.specs.declared.arguments.Subcommand.TheVariants.{Attach, Window, Command}
@@ -46,10 +47,15 @@ abbrev pub printed : Subcommand → List ℕ → List ℕ
 printed Command text = visible text ++ 0x0A ∷ []
 printed subcommand text = []
 
--- A text before the server let the peer in says why it doesn't; each text for a command is printed. Once a client is
--- let in, a text is shown at most.
+-- once a client is let in, a text is shown on its last line, unless the status line has it
+pub record Notes (old : Peer) (text : List ℕ) (new : Peer) : Type 0 where
+  pub client : old.subcommand ≡ Attach → HearsLater old.typing.assists text old.notice new.notice
+  pub other : (old.subcommand ≡ Attach → ⊥) → new ≡ old
+  pub rest : new ≡ record old { notice = new.notice }
+
+-- A text before the server let the peer in says why it doesn't; each text for a command is printed.
 abbrev pub Says : Bool → Peer → List ℕ → Peer → Type 0
-Says true old text new = new ≡ record old { notice = new.notice }
+Says true old text new = Notes old text new
 Says false old text new =
     IsSomeAnd new.said (λ said. string_bytes said ≡ text)
     × PutsOut (record old { said = new.said }) (printed old.subcommand text) new
@@ -94,16 +100,21 @@ abbrev pub IsSized : KeptPage → ℕ → ℕ → KeptPage → Type 0
 IsSized old rows columns new =
     (TakesSize old.emulator rows columns new.emulator ⊎ (new.emulator ≡ None)) × (new.is_hidden ≡ old.is_hidden)
 
+-- a window with another size
+abbrev pub sized : Peer → ℕ → ℕ → Peer → Peer
+sized old rows columns new =
+    record old { rows = rows; columns = columns; page = new.page; sizes = new.sizes }
+
 -- what a message has for standard output, for the sizes' file and for the terminal's last line
 abbrev pub Delivers : Peer → Message → Peer → Type 0
 Delivers old (message.Draw bytes) new = (old.subcommand ≡ Attach) × Shows old.is_covered old bytes new
 Delivers old (message.Say text) new =
-    (new ≡ record old { notice = new.notice }) × (old.is_welcome ≡ false → new ≡ old)
+    (old.is_welcome ≡ true → Notes old text new) × (old.is_welcome ≡ false → new ≡ old)
 Delivers old (message.Input bytes) new = (old.subcommand ≡ Window) × TakesInput old bytes new
 Delivers old (message.Size rows columns) new =
     (old.subcommand ≡ Window) × (new.sizes.items ≡ old.sizes.items ++ size_line rows columns)
     × IsSized old.page rows columns new.page
-    × (new ≡ record old { rows = rows; columns = columns; page = new.page; sizes = new.sizes })
+    × (new ≡ sized old rows columns new)
 Delivers old (message.Welcome number) new = new ≡ record old { number = number }
 Delivers old other new = new ≡ old
 

@@ -1,3 +1,4 @@
+pub mod Acting
 pub mod Beginning
 pub mod Ending
 pub mod Failing

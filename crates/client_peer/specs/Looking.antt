@@ -1,21 +1,18 @@
 -- What a peer does next.
-use Rattle.std.specs.Prelude.{◌≡◌, ◌≢◌, ◌⊎◌, ◌<◌, ◌≤◌, ◌-◌, ◌*◌, ℕ, List, true, false, [], ◌++◌, None, Some, Err, IsSome}
-use Rattle.std.specs.Prelude.{IsSomeAnd}
-use Rattle.attach_proto.specs.declared.kind.Kind.TheVariants.{Detach}
-use Rattle.attach_proto.specs.Spelling.{frame}
+use Rattle.std.specs.Prelude.{◌≡◌, ◌⊎◌, ◌<◌, ◌≤◌, ◌-◌, ◌*◌, ◌==◌, ℕ, true, false, [], if◌then◌else◌, Option, None, Some}
+use Rattle.std.specs.Prelude.{Result, Ok, Err, IsSome, IsSomeAnd}
 use Rattle.client_words.specs.declared.arguments.Subcommand.TheVariants.{Attach, Window, Command, Ping}
+use Rattle.client_words.specs.declared.fault.PeerFault.{PeerFault}
 use Rattle.client_words.specs.declared.fault.PeerFault.TheVariants.{NoAnswer}
 use Rattle.client_words.specs.declared.leaving.InputStage.{InputStage}
-use Rattle.client_words.specs.declared.leaving.InputStage.TheVariants.{Waiting, Left}
+use Rattle.client_words.specs.declared.leaving.InputStage.TheVariants.{Reading, Waiting, Left}
 use Rattle.client_notice.specs.Notices.{IsToShow}
-use Rattle.client_typing.specs.Following.{IsStage, Rests}
+use Rattle.client_typing.specs.Following.{Rests, stage_of}
 use Rattle.client_peer.specs.declared.looking.PeerTask.{PeerTask}
 use Rattle.client_peer.specs.declared.looking.PeerTask.TheVariants as task
 use Rattle.client_peer.specs.declared.peer.Peer.{Peer}
 use Rattle.client_peer.specs.Returning.{GivesUp, IsOver}
 use Rattle.client_peer.specs.Sending.{MaySend}
-use Rattle.client_peer.specs.Showing.{MayShow}
-use Rattle.client_peer.specs.Typing.{FitsAfter, MayAsk}
 
 -- something is due after a time
 abbrev pub IsDue : Peer → Type 0
@@ -33,23 +30,40 @@ IsIdle p =
     (IsSome p.end × IsOut p)
     ⊎ ((p.end ≡ None) × (MaySend p → ⊥) × (p.times.left_at ≡ None → p.is_reopening ≡ false))
 
--- The user hasn't left, as far as the input was read.
-abbrev pub StaysOn : Peer → Type 0
-StaysOn p = (s : InputStage) × (s ≢ Left) × IsStage p.typing.leave s
+-- The byte that leaves came before another one, or alone: nothing was read since, for 250 ms.
+abbrev pub IsToLeave : Peer → ℕ → Type 0
+IsToLeave p now =
+    (stage_of p.typing.leave ≡ Left)
+    ⊎ ((stage_of p.typing.leave ≡ Waiting)
+    × IsSomeAnd p.times.paired (λ pair. (pair.1 ≡ p.typing.reads) × (250 ≤ now - pair.0)))
 
--- the byte that leaves came alone: nothing was read since, for 250 ms
-abbrev pub IsAlone : Peer → ℕ → Type 0
-IsAlone p now =
-    IsStage p.typing.leave Waiting
-    × IsSomeAnd p.times.paired (λ pair. (pair.1 ≡ p.typing.reads) × (250 ≤ now - pair.0))
+-- when the byte that leaves was seen first, and as which read
+abbrev pub seen : Option (ℕ × ℕ) → ℕ → ℕ → Option (ℕ × ℕ)
+seen None reads now = Some (now, reads)
+seen (Some pair) reads now = if pair.1 == reads then Some pair else Some (now, reads)
 
--- The user leaves, or stays on. A byte that leaves which came alone counts as the last one.
+abbrev pub kept_of : InputStage → Option (ℕ × ℕ) → Option (ℕ × ℕ)
+kept_of Reading pair = None
+kept_of other pair = pair
+
+abbrev pub paired_after : Peer → ℕ → Option (ℕ × ℕ)
+paired_after p now = kept_of (stage_of p.typing.leave) (seen p.times.paired p.typing.reads now)
+
+-- The user leaves exactly if the byte that leaves says so. What is typed later is left out.
 pub record MayLeave (old : Peer) (now : ℕ) (new : Peer) : Type 0 where
   pub left : IsSome old.times.left_at → new ≡ old
-  pub leaves : old.times.left_at ≡ None → IsSome new.times.left_at
-      → (new.times.left_at ≡ Some now) × IsStage new.typing.leave Left
-  pub stays : new.times.left_at ≡ None → StaysOn new × (new.frames ≡ old.frames)
-  pub alone : (new.typing ≡ old.typing) ⊎ IsAlone old now
+  pub leaves : old.times.left_at ≡ None → IsToLeave old now
+      → (new.times.left_at ≡ Some now) × (stage_of new.typing.leave ≡ Left)
+  pub stays : old.times.left_at ≡ None → (IsToLeave old now → ⊥)
+      → new ≡ record old { times = record old.times { paired = paired_after old now } }
+
+-- the same of all that a look does
+pub record LeavesInTime (old : Peer) (now : ℕ) (new : Peer) : Type 0 where
+  pub left : IsSome old.times.left_at → new.times.left_at ≡ old.times.left_at
+  pub leaves : old.times.left_at ≡ None → IsToLeave old now
+      → (new.times.left_at ≡ Some now) × (stage_of new.typing.leave ≡ Left)
+  pub stays : old.times.left_at ≡ None → (IsToLeave old now → ⊥) → (new.times.left_at ≡ None)
+      × (new.times.paired ≡ paired_after old now) × (new.typing.leave ≡ old.typing.leave)
 
 -- standard input may be read: a client's or a window's, once it is let in, or after 50 ms if the user can leave
 abbrev pub MayBegin : Peer → ℕ → Type 0
@@ -58,10 +72,10 @@ MayBegin p now =
     × ((p.is_welcome ≡ true) ⊎ (IsSome p.typing.leave × (50 ≤ now)))
 
 -- Standard input is begun as soon as it may be, and once.
-pub record BeginsInTime (old : Peer) (now : ℕ) (next : PeerTask) (new : Peer) : Type 0 where
-  pub once : next ≡ task.Begin → old.times.has_begun ≡ false
+pub record BeginsInTime (old : Peer) (now : ℕ) (next : Result PeerTask PeerFault) (new : Peer) : Type 0 where
+  pub once : next ≡ Ok task.Begin → old.times.has_begun ≡ false
   pub soon : new.end ≡ None → new.times.left_at ≡ None → MayBegin new now → new.times.has_begun ≡ true
-  pub rest : (next ≡ task.Begin → ⊥) → new.times.has_begun ≡ old.times.has_begun
+  pub rest : (next ≡ Ok task.Begin → ⊥) → new.times.has_begun ≡ old.times.has_begun
 
 -- an answer was waited for too long
 abbrev pub IsLate : Peer → ℕ → Type 0
@@ -77,13 +91,31 @@ pub record EndsInTime (old : Peer) (now : ℕ) (new : Peer) : Type 0 where
   pub over : new.times.left_at ≡ None → IsOver old now → (new.is_final ≡ true) × (new.end ≡ old.loss)
   pub late : new.times.left_at ≡ None → IsLate old now → IsSome new.end
 
--- The server is asked for a draw, perhaps, and then given `fit`.
-abbrev pub AsksAndFits : Peer → Peer → Type 0
-AsksAndFits old new = (asked : List ℕ) × MayAsk old old.frames.items asked × FitsAfter asked old new
+-- a peer whose user leaves, perhaps
+abbrev pub leaving : Peer → Peer → Peer
+leaving old new = record old {
+  frames = new.frames;
+  typing = record old.typing { leave = new.typing.leave };
+  times = record old.times { paired = new.times.paired; left_at = new.times.left_at };
+}
 
--- the server is told that the user left
-abbrev pub TellsOfLeaving : Peer → Peer → Type 0
-TellsOfLeaving old new = IsSome new.times.left_at × (new.frames.items ≡ old.frames.items ++ frame Detach [])
+-- a peer that acts of its own, perhaps
+abbrev pub acting : Peer → Peer → Peer
+acting old new = record old {
+  frames = new.frames;
+  bytes = new.bytes;
+  typing = new.typing;
+  notice = new.notice;
+  times = record old.times {
+    has_begun = new.times.has_begun;
+    has_typed = new.times.has_typed;
+    wants_fit = new.times.wants_fit;
+    fit_at = new.times.fit_at;
+  };
+}
+
+abbrev pub unbegun : Peer → Peer → Peer
+unbegun old new = record new { times = record new.times { has_begun = old.times.has_begun } }
 
 -- a peer with what time may have changed of it
 abbrev pub in_time : Peer → Peer → Peer
@@ -96,14 +128,6 @@ in_time old new = record old {
   is_final = new.is_final;
   end = new.end;
 }
-
--- As time goes by nothing is lost that waits for the server or for standard output, and what comes after it is the
--- client's own: no key that nobody typed, but for those of `fit`, and no byte for the terminal but the text on its last
--- line.
-pub record Waits (old new : Peer) : Type 0 where
-  pub frames : TellsOfLeaving old new ⊎ AsksAndFits old new
-  pub bytes : MayShow old new
-  pub rest : new ≡ in_time old new
 
 -- all that waits for standard output and for the sizes' file is written
 abbrev pub IsWritten : Peer → Type 0

@@ -1,15 +1,18 @@
 -- What of the input is sent.
-use Rattle.std.specs.Prelude.{◌≡◌, ◌==◌, ℕ, Bool, true, false, not, ◌&&◌, ◌||◌, List, [], ◌++◌, ◌⊎◌, None, IsSome, Contains}
+use Rattle.std.specs.Prelude.{◌≡◌, ◌≢◌, ◌==◌, ℕ, ◌-◌, Bool, true, false, not, ◌&&◌, ◌||◌, List, [], ◌++◌, None, IsSome}
+use Rattle.std.specs.Prelude.{Contains}
 use Rattle.attach_proto.specs.declared.kind.Kind.TheVariants.{Keys}
 use Rattle.attach_proto.specs.declared.message.Message.TheVariants.{Resize}
 use Rattle.attach_proto.specs.Spelling.{spelling}
 use Rattle.client_words.specs.declared.arguments.Subcommand.TheVariants.{Window}
-use Rattle.client_typing.specs.Assisting.{Assists}
-use Rattle.client_typing.specs.Fitting.{fit_keys}
-use Rattle.client_typing.specs.Following.{LetsThrough, Follows, Rests}
+use Rattle.client_notice.specs.declared.notice.NoticeStage.TheVariants as stage
+use Rattle.client_notice.specs.Notices.{IsNew, scrolled}
+use Rattle.client_typing.specs.Assisting.{Makes, at}
+use Rattle.client_typing.specs.Following.{LetsThrough, Follows}
 use Rattle.client_peer.specs.declared.peer.Peer.{Peer}
 use Rattle.client_peer.specs.Reopening.{Sends}
-use Rattle.client_peer.specs.Sending.{Prints, SendsFirst}
+use Rattle.client_peer.specs.Sending.{Prints}
+use Rattle.client_peer.specs.Showing.{IsUncovered, ShowsHelp}
 
 -- a client that knows a server, and shows no help
 pub record IsSeated (p : Peer) : Type 0 where
@@ -17,21 +20,29 @@ pub record IsSeated (p : Peer) : Type 0 where
   pub here : p.loss ≡ None
   pub shown : p.is_helping ≡ false
 
--- the page is asked for at most
-abbrev pub MayAsk : Peer → List ℕ → List ℕ → Type 0
-MayAsk p before after = (after ≡ before) ⊎ (after ≡ before ++ spelling (Resize p.rows p.columns))
+-- If the view was moved, the last line tells how far back it is. If it came to its end, the page is asked for, and the
+-- text is put away.
+pub record TellsScrolled (old new : Peer) (before : ℕ) (frames : List ℕ) : Type 0 where
+  pub same : new.typing.back ≡ before → (new.frames.items ≡ frames) × (new.notice ≡ old.notice)
+  pub end : new.typing.back ≢ before → new.typing.back ≡ 0
+      → (new.frames.items ≡ frames ++ spelling (Resize old.rows old.columns)) × (new.notice.stage ≡ stage.Nothing)
+  pub back : new.typing.back ≢ before → new.typing.back ≢ 0
+      → (new.frames.items ≡ frames) × IsNew (scrolled new.typing.back) new.notice
 
--- What a client with keys of its own makes of keys is put down whole and in order. When its view comes back to the
--- end, the page is asked for.
+-- What a client with keys of its own makes of keys is put down whole and in order, and then it tells how far the view
+-- was moved back. It shows its help exactly if the last key asks for it.
 pub record SendsAssisted (old new : Peer) (typed : List ℕ) : Type 0 where
   pub sent : List ℕ
   pub frames : List ℕ
-  pub assists : Assists old.typing typed [] new.typing sent
+  pub makes : Makes (old.rows - 3) (at old.typing) typed sent (at new.typing)
   pub sends : Sends old.frames.items frames Keys sent
-  pub asks : MayAsk old frames new.frames.items
+  pub tells : TellsScrolled old new old.typing.back frames
+  pub helps : new.typing.asks_help ≡ true → ShowsHelp old new
+  pub other : new.typing.asks_help ≡ false → IsUncovered old new
 
 -- What a client's user types is put down whole and in order. With --fit it is followed, so that `fit` comes between
--- two keys. While no server is there, it is dropped, and C-c ends the client; while the help is shown, the page is asked for instead.
+-- two keys. While no server is there, it is dropped, and C-c ends the client; while the help is shown, the page is
+-- asked for instead, and the help goes.
 pub record Presses (old new : Peer) (typed : List ℕ) : Type 0 where
   pub sends : IsSeated old → old.typing.assists ≡ false → Sends old.frames.items new.frames.items Keys typed
   pub follows : IsSeated old → old.typing.assists ≡ false → old.fits ≡ true
@@ -41,7 +52,8 @@ pub record Presses (old new : Peer) (typed : List ℕ) : Type 0 where
   pub ends : IsSome old.loss → Contains typed 3 → (new.is_final ≡ true) × (new.end ≡ old.loss)
   pub lasts : ((IsSome old.loss × Contains typed 3) → ⊥) → (new.is_final ≡ old.is_final) × (new.end ≡ old.end)
   pub helped : old.loss ≡ None → old.is_helping ≡ true
-      → (new.is_helping ≡ false) × (new.frames.items ≡ old.frames.items ++ spelling (Resize old.rows old.columns))
+      → (new.is_helping ≡ false) × (new.is_covered ≡ old.is_cut)
+      × (new.frames.items ≡ old.frames.items ++ spelling (Resize old.rows old.columns))
 
 -- a peer with what typing may have changed of it
 abbrev pub typed_in : Peer → Peer → Peer
@@ -59,22 +71,21 @@ typed_in old new = record old {
   times = record old.times { has_typed = new.times.has_typed };
 }
 
+-- the same without the note that something was typed, and of a client whose server is there
+abbrev pub pressed_in : Peer → Peer → Peer
+pressed_in old new = typed_in old (record new { times = old.times })
+
+abbrev pub assisted_in : Peer → Peer → Peer
+assisted_in old new = pressed_in old (record new { is_final = old.is_final; end = old.end })
+
 -- What is read of standard input: what a client's user typed, or what a window's program printed.
 pub record TypesIn (old new : Peer) (input : List ℕ) : Type 0 where
   pub typed : List ℕ
   pub through : LetsThrough old.typing.leave input typed new.typing.leave
   pub prints : old.subcommand ≡ Window → Prints (record old { typing = new.typing }) new typed
   pub none : (old.subcommand ≡ Window → ⊥) → typed ≡ [] → new ≡ record old { typing = new.typing }
-  pub presses : (old.subcommand ≡ Window → ⊥) → (typed ≡ [] → ⊥) → Presses old new typed
-
--- After the frames that wait, `fit` is put down only while the session waits for no key, or nothing is.
-abbrev pub FitsAfter : List ℕ → Peer → Peer → Type 0
-FitsAfter frames old new =
-    (new.frames.items ≡ frames) ⊎ (Rests old.typing × SendsFirst frames new.frames.items Keys fit_keys
-    × Follows old.typing.keys fit_keys new.typing.keys)
-
-abbrev pub Fits : Peer → Peer → Type 0
-Fits old new = FitsAfter old.frames.items old new
+  pub presses : (old.subcommand ≡ Window → ⊥) → (typed ≡ [] → ⊥)
+      → Presses old new typed × (new.times.has_typed ≡ true)
 
 -- A window gets the size of its region: it was to get it, or with --fit it has another size now.
 abbrev pub is_to_fit : Peer → ℕ → ℕ → Bool

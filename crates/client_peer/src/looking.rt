@@ -1,17 +1,20 @@
 //! What a peer does by itself, as time goes by.
 
-ghost use Rattle.std.specs.Prelude.{◌≡◌, ◌↔◌, ◌⊎◌, true, false, None, Some, IsSome, IsTrue};
+ghost use Rattle.std.specs.Prelude.{◌≡◌, ◌↔◌, ◌++◌, [], true, false, None, Some, IsSome, IsTrue, IfOk, OnErr, OnOk};
+ghost use Rattle.attach_proto.specs.declared.kind.Kind.TheVariants.{Detach};
+ghost use Rattle.attach_proto.specs.Spelling.{frame};
+ghost use Rattle.client_peer.specs.Acting.{Acts, ActsIf, ActsInTime, Fits, IsUnmoved, fitting};
 ghost use Rattle.client_peer.specs.Beginning.{times_of};
+ghost use Rattle.client_peer.specs.Looking.{BeginsInTime, DoesNext, EndsInTime, IsDue, IsLate, MayBegin, in_time};
+ghost use Rattle.client_peer.specs.Looking.{IsToLeave, LeavesInTime, MayLeave, acting, leaving, paired_after, unbegun};
 ghost use Rattle.client_peer.specs.Returning.{AtLoss};
-ghost use Rattle.client_peer.specs.Showing.{MayShow};
-ghost use Rattle.client_peer.specs.Typing.{Fits, MayAsk};
-ghost use Rattle.client_typing.specs.Following.{IsStage};
-ghost use Rattle.client_peer.specs.Looking.{AsksAndFits, BeginsInTime, DoesNext, EndsInTime, IsAlone, IsDue, IsLate};
-ghost use Rattle.client_peer.specs.Looking.{MayBegin, MayLeave, StaysOn, TellsOfLeaving, Waits, in_time};
 
+use crate::outgoing::put_frame;
 use crate::peer::Peer;
+use attach_proto::Kind;
 use client_notice::{NoticeStage, NoticeTask};
 use client_words::{Arguments, InputStage, PeerFault};
+use std::alloc::AllocError;
 
 // How long a client that can leave isn't read before it is let in, in milliseconds. Keys that are typed wait.
 const WELCOME: u64 = 50;
@@ -32,7 +35,7 @@ const SETTLED: u64 = 150;
 #[derive(Drop)]
 pub struct Timers {
     /// For how many seconds the peer tries to come back.
-    pub again: u16,
+    pub(crate) again: u16,
     /// For how many seconds an answer is waited for; 0 is without limit.
     wait: u16,
     /// Standard input is being read.
@@ -45,10 +48,10 @@ pub struct Timers {
     /// When the server was lost.
     pub(crate) lost_at: u64,
     /// A key was typed since the last look.
-    pub has_typed: bool,
+    pub(crate) has_typed: bool,
     /// The window in focus is to get the size of its region, at this time.
-    pub wants_fit: bool,
-    pub fit_at: Option<u64>,
+    pub(crate) wants_fit: bool,
+    pub(crate) fit_at: Option<u64>,
 }
 
 impl Timers {
@@ -90,95 +93,101 @@ pub enum PeerTask {
 }
 
 impl Peer {
-    /// Looks at the time, in milliseconds, and says what is to be done next.
-    pub fn look(&mut self, now: u64) -> PeerTask
-        ensures next { DoesNext self.new now result }
-        ensures waits { Waits self.old self.new }
+    /// Looks at the time, in milliseconds, and says what is to be done next. If memory is refused, the peer is to be
+    /// looked at again.
+    pub fn look(&mut self, now: u64) -> Result<PeerTask, PeerFault>
+        ensures next { IfOk result (DoesNext self.new now) }
+        ensures leaves { LeavesInTime self.old now self.new }
+        ensures acts { IfOk result (λ next. ActsInTime self.old now next self.new) }
+        ensures err { OnErr result (IsUnmoved self.old self.new) }
+        ensures rest { self.new ≡ in_time self.old self.new }
         ensures begins { BeginsInTime self.old now result self.new }
         ensures ends { EndsInTime self.old now self.new }
-        ensures stays { self.new.times.left_at ≡ None → StaysOn self.new }
     {
-        self.look_at_leaving(now);
+        self.look_at_leaving(now)?;
         if let Some(left) = self.times.left_at {
-            return self.look_left(now, left);
+            return Ok(self.look_left(now, left));
         }
         self.look_at_loss(now);
         if self.is_late(now) {
             self.end_by(Err(PeerFault::NoAnswer));
         }
         if self.end.is_some() {
-            return self.look_at_end(now);
+            return Ok(self.look_at_end(now));
         }
         self.look_open(now)
     }
 
     // What is to be done while the connection is open.
-    fn look_open(&mut self, now: u64) -> PeerTask
+    fn look_open(&mut self, now: u64) -> Result<PeerTask, PeerFault>
         requires { (self.old.end ≡ None) × (self.old.times.left_at ≡ None) }
-        ensures next { DoesNext self.new now result }
-        ensures sends { AsksAndFits self.old self.new }
-        ensures shows { MayShow self.old self.new }
+        ensures next { IfOk result (DoesNext self.new now) }
+        ensures acts { IfOk result (λ next. ActsIf self.old now next self.new) }
+        ensures err { OnErr result (IsUnmoved self.old self.new) }
         ensures begins { BeginsInTime self.old now result self.new }
         ensures leave { self.new.typing.leave ≡ self.old.typing.leave }
-        ensures same { self.new ≡ in_time self.old (record self.new { is_final = self.old.is_final; end = None }) }
+        ensures same { self.new ≡ acting self.old self.new }
     {
         if self.is_to_begin(now) {
             self.times.has_begun = true;
-            return PeerTask::Begin;
+            return Ok(PeerTask::Begin);
         }
         if self.is_reopening {
-            return PeerTask::Reopen;
+            return Ok(PeerTask::Reopen);
         }
-        self.look_at_notice(now);
-        self.look_at_fit(now);
+        self.act(now)?;
         if self.can_send() {
-            return PeerTask::Send;
+            return Ok(PeerTask::Send);
         }
         if self.waits_for_time() {
-            PeerTask::WaitShortly
+            Ok(PeerTask::WaitShortly)
         } else {
-            PeerTask::Wait
+            Ok(PeerTask::Wait)
         }
     }
 
     // Leaves if the byte that leaves came, and no second one in time.
-    fn look_at_leaving(&mut self, now: u64)
+    fn look_at_leaving(&mut self, now: u64) -> Result<(), AllocError>
         ensures leaves { MayLeave self.old now self.new }
-        ensures tells { (self.new.frames.items ≡ self.old.frames.items) ⊎ TellsOfLeaving self.old self.new }
-        ensures same { self.new ≡ record self.old {
-          frames = self.new.frames;
-          typing = record self.old.typing { leave = self.new.typing.leave };
-          times = record self.old.times { paired = self.new.times.paired; left_at = self.new.times.left_at };
-        } }
+        ensures tells { OnOk result (self.old.times.left_at ≡ None → IsToLeave self.old now
+            → self.new.frames.items ≡ self.old.frames.items ++ frame Detach []) }
+        ensures err { OnErr result (IsUnmoved self.old self.new × IsSome self.new.times.left_at) }
+        ensures same { self.new ≡ leaving self.old self.new }
     {
         if self.times.left_at.is_some() {
-            return;
+            return Ok(());
         }
-        match self.typing.stage() {
-            InputStage::Reading => self.times.paired = None,
-            InputStage::Waiting => self.look_at_pair(now),
-            InputStage::Left => {}
+        if !self.is_to_leave(now) {
+            self.times.paired = self.pair(now);
+            return Ok(());
         }
-        if matches!(self.typing.stage(), InputStage::Left) {
-            self.times.left_at = Some(now);
-            // Without memory the connection's end says it.
-            let _ = self.detach();
+        self.typing.leave();
+        self.times.left_at = Some(now);
+        self.detach()
+    }
+
+    // Whether the byte that leaves came before another one, or alone: nothing was read since, for a while.
+    fn is_to_leave(&self, now: u64) -> bool
+        ensures { IsTrue result ↔ IsToLeave self.now now }
+    {
+        match (self.typing.stage(), self.times.paired) {
+            (InputStage::Left, _) => true,
+            (InputStage::Waiting, Some((since, read))) => {
+                read == self.typing.reads && now.saturating_sub(since) >= PAIR
+            }
+            _ => false,
         }
     }
 
-    fn look_at_pair(&mut self, now: u64)
-        requires { IsStage self.old.typing.leave InputStage.Waiting }
-        ensures alone { (self.new.typing ≡ self.old.typing) ⊎ IsAlone self.old now }
-        ensures same { self.new ≡ record self.old {
-          typing = record self.old.typing { leave = self.new.typing.leave };
-          times = record self.old.times { paired = self.new.times.paired };
-        } }
+    // When the byte that leaves was seen, if it was read last, and as which read.
+    fn pair(&self, now: u64) -> Option<(u64, u32)>
+        ensures { result ≡ paired_after self.now now }
     {
         let reads = self.typing.reads;
-        match self.times.paired {
-            Some((since, read)) if read == reads && now.saturating_sub(since) < PAIR => {}
-            Some((_, read)) if read == reads => self.typing.leave(),
-            _ => self.times.paired = Some((now, reads)),
+        match (self.typing.stage(), self.times.paired) {
+            (InputStage::Reading, _) => None,
+            (_, Some((since, read))) if read == reads => Some((since, read)),
+            _ => Some((now, reads)),
         }
     }
 
@@ -249,55 +258,49 @@ impl Peer {
             && (self.is_welcome || self.typing.can_leave() && now >= WELCOME)
     }
 
-    fn look_at_notice(&mut self, now: u64)
-        ensures asks { MayAsk self.old self.old.frames.items self.new.frames.items }
-        ensures shows { MayShow self.old self.new }
-        ensures same { self.new ≡ record self.old {
-          frames = self.new.frames;
-          bytes = self.new.bytes;
-          notice = self.new.notice;
-          times = record self.old.times { has_typed = false };
-        } }
+    // Shows the text on the last line, takes it away, or gives the window in focus its region's size.
+    fn act(&mut self, now: u64) -> Result<(), PeerFault>
+        ensures acts { OnOk result (Acts self.old now self.new) }
+        ensures err { OnErr result (IsUnmoved self.old self.new) }
+        ensures leave { self.new.typing.leave ≡ self.old.typing.leave }
+        ensures same { self.new ≡ acting self.old (unbegun self.old self.new) }
     {
         let has_typed = self.times.has_typed;
         self.times.has_typed = false;
-        let is_free = !self.is_cut && !self.is_covered;
+        let is_free = self.is_free();
         match self.notice.look(now, has_typed, is_free) {
-            NoticeTask::Nothing => {}
+            NoticeTask::Nothing => self.look_at_fit(now),
             NoticeTask::Show => {
                 self.notice.is_hidden = true;
-                self.keep_notice();
+                self.put_notice()?;
+                self.notice.is_hidden = false;
+                Ok(())
             }
-            NoticeTask::TakeAway => {
-                let _ = self.redraw();
-            }
+            NoticeTask::TakeAway => self.redraw(),
         }
     }
 
     // Gives the window in focus its region's size, once the terminal's stays the same and the session waits for no key.
-    fn look_at_fit(&mut self, now: u64)
-        ensures fits { Fits self.old self.new }
+    fn look_at_fit(&mut self, now: u64) -> Result<(), PeerFault>
+        ensures fits { OnOk result (Fits self.old now self.new) }
+        ensures err { OnErr result (IsUnmoved self.old self.new) }
         ensures leave { self.new.typing.leave ≡ self.old.typing.leave }
-        ensures same { self.new ≡ record self.old {
-          frames = self.new.frames;
-          typing = self.new.typing;
-          times = record self.old.times { wants_fit = self.new.times.wants_fit; fit_at = self.new.times.fit_at };
-        } }
+        ensures same { self.new ≡ fitting self.old self.new }
     {
         if !self.times.wants_fit || !self.is_welcome {
-            return;
+            return Ok(());
         }
         let at = self.times.fit_at.unwrap_or(now.saturating_add(SETTLED));
         self.times.fit_at = Some(at);
         if now < at || !self.typing.is_at_rest() {
-            return;
+            return Ok(());
         }
+        let mut keys = Vec::new(self.alloc);
+        self.typing.fit(&mut keys)?;
+        put_frame(Kind::Keys, &keys, &mut self.frames)?;
         self.times.wants_fit = false;
         self.times.fit_at = None;
-        let mut keys = Vec::new(self.alloc);
-        if self.typing.fit(&mut keys).is_ok() {
-            let _ = self.put_keys(&keys);
-        }
+        Ok(())
     }
 
     /// Whether a text is to be shown on the last line.

@@ -1,7 +1,8 @@
 //! What a client writes to its terminal of its own: a text on the last line, and its help.
 
-ghost use Rattle.std.specs.Prelude.{◌≡◌, OnErr, OnOk};
-ghost use Rattle.client_peer.specs.Showing.{Keeps, MayShow, ShowsNotice};
+ghost use Rattle.std.specs.Prelude.{◌≡◌, true, false, OnErr, OnOk};
+ghost use Rattle.client_peer.specs.Showing.{IsUncovered, Keeps, KeepsNotice, ShowsHelp, ShowsNotice, helping, is_free};
+ghost use Rattle.client_peer.specs.Showing.{noticing};
 ghost use Rattle.client_peer.specs.Sending.{IsMore};
 
 use crate::peer::Peer;
@@ -11,42 +12,44 @@ use std::alloc::AllocError;
 
 impl Peer {
     /// Puts the text down.
-    pub fn put_notice(&mut self) -> Result<(), AllocError>
+    pub(crate) fn put_notice(&mut self) -> Result<(), AllocError>
         ensures shows { OnOk result (ShowsNotice self.old self.new) }
         ensures err { OnErr result (Keeps self.old self.new) }
-        ensures may { MayShow self.old self.new }
         ensures same { self.new ≡ record self.old { bytes = self.new.bytes } }
     {
         self.notice
             .put(self.alloc, self.rows, self.columns, &mut self.bytes)
     }
 
-    /// Puts the text down again if a whole draw has come since it was shown. It stays until a key takes it away.
-    pub fn keep_notice(&mut self)
-        ensures may { MayShow self.old self.new }
-        ensures same { self.new ≡ record self.old {
-          bytes = self.new.bytes;
-          notice = record self.old.notice { is_hidden = self.new.notice.is_hidden };
-        } }
+    // Whether no draw is half written, and the terminal doesn't show the help.
+    pub(crate) fn is_free(&self) -> bool
+        ensures { result ≡ is_free self.now }
     {
-        let is_shown = matches!(self.notice.stage, NoticeStage::Shown(_));
-        if is_shown && self.notice.is_hidden && !self.is_cut && !self.is_covered {
-            // Without memory it comes with the next draw.
-            self.notice.is_hidden = self.put_notice().is_err();
-        }
+        !self.is_cut && !self.is_covered
     }
 
-    /// Shows the help, unless a draw is half written. It consists of functions that draws use.
-    pub fn help(&mut self) -> Result<(), PeerFault>
-        ensures same { self.new ≡ record self.old {
-          bytes = self.new.bytes;
-          draws = self.new.draws;
-          is_helping = self.new.is_helping;
-          is_covered = self.new.is_covered;
-        } }
+    /// Puts the text down again if a whole draw has come since it was shown. It stays until a key takes it away.
+    pub fn keep_notice(&mut self) -> Result<(), AllocError>
+        ensures keeps { OnOk result (KeepsNotice self.old self.new) }
+        ensures err { OnErr result (Keeps self.old self.new) }
+        ensures same { self.new ≡ noticing self.old self.new }
+    {
+        let is_shown = matches!(self.notice.stage, NoticeStage::Shown(_));
+        if is_shown && self.notice.is_hidden && self.is_free() {
+            self.put_notice()?;
+            self.notice.is_hidden = false;
+        }
+        Ok(())
+    }
+
+    // Shows the help if it is asked for, unless a draw is half written. It consists of functions that draws use.
+    pub(crate) fn help(&mut self) -> Result<(), PeerFault>
+        ensures helps { self.old.typing.asks_help ≡ true → OnOk result (ShowsHelp self.old self.new) }
+        ensures other { self.old.typing.asks_help ≡ false → OnOk result (IsUncovered self.old self.new) }
+        ensures same { self.new ≡ helping self.old self.new }
         ensures adds { OnOk result (IsMore self.old.bytes.items self.new.bytes.items) }
     {
-        if self.is_cut || self.is_covered {
+        if !self.typing.asks_help || !self.is_free() {
             return Ok(());
         }
         let page = help_page(self.alloc, self.rows, self.columns)?;

@@ -1,10 +1,10 @@
 //! Frames for the server, in their order and whole.
 
 ghost use Rattle.std.specs.Prelude.{◌≡◌, ◌≤◌, ◌<◌, ◌-◌, ◌++◌, ◌↔◌, length, drop, [], IsTrue};
-ghost use Rattle.std.specs.Prelude.{OnOk, OnErr, IfOk, IfSome, IsNone, IsSome};
+ghost use Rattle.std.specs.Prelude.{OnOk, OnErr, IfSome, IsNone, IsSome};
 ghost use Rattle.attach_proto.specs.Spelling.{frame, spelling};
 ghost use Rattle.attach_proto.specs.declared.kind.Kind.TheVariants.{Keys, Detach};
-ghost use Rattle.client_peer.specs.Reopening.{Sends, Reopens};
+ghost use Rattle.client_peer.specs.Reopening.{Sends};
 ghost use Rattle.client_peer.specs.Sending.{Puts, SendsFirst, MaySend, HandsOut, HasBack};
 ghost use Rattle.client_peer.specs.Sending.{HasServer, IsFull, Prints, unsent, left};
 
@@ -17,8 +17,7 @@ use std::mem;
 /// While more bytes than this wait for the server, the input isn't read.
 const MOST_AHEAD: usize = 16_777_216;
 
-/// Frames on their way to the server.
-#[derive(Drop)]
+/// Frames on their way to the server. They can't be let go: what wasn't sent of them comes back.
 pub struct Batch {
     pub frames: Vec<u8>,
     /// How many of their bytes were sent.
@@ -28,7 +27,7 @@ pub struct Batch {
 }
 
 // Appends bytes as frames of a kind.
-fn put_frames(kind: Kind, bytes: &[u8], frames: &mut Vec<u8>) -> Result<(), AllocError>
+pub(crate) fn put_frames(kind: Kind, bytes: &[u8], frames: &mut Vec<u8>) -> Result<(), AllocError>
     ensures ok { OnOk result (Sends frames.old.items frames.new.items kind bytes.now) }
     ensures err { OnErr result (SendsFirst frames.old.items frames.new.items kind bytes.now) }
 {
@@ -41,7 +40,7 @@ fn put_frames(kind: Kind, bytes: &[u8], frames: &mut Vec<u8>) -> Result<(), Allo
     Ok(())
 }
 
-fn put_frame(kind: Kind, piece: &[u8], frames: &mut Vec<u8>) -> Result<(), AllocError>
+pub(crate) fn put_frame(kind: Kind, piece: &[u8], frames: &mut Vec<u8>) -> Result<(), AllocError>
     requires { length piece.now ≤ 8192 }
     ensures ok { OnOk result (frames.new.items ≡ frames.old.items ++ frame kind piece.now) }
     ensures err { OnErr result (frames.new.items ≡ frames.old.items) }
@@ -54,7 +53,7 @@ fn put_frame(kind: Kind, piece: &[u8], frames: &mut Vec<u8>) -> Result<(), Alloc
 
 impl Peer {
     /// Puts down what was typed.
-    pub fn put_keys(&mut self, keys: &[u8]) -> Result<(), AllocError>
+    pub(crate) fn put_keys(&mut self, keys: &[u8]) -> Result<(), AllocError>
         ensures sends { OnOk result (Sends self.old.frames.items self.new.frames.items Keys keys.now) }
         ensures first { OnErr result (SendsFirst self.old.frames.items self.new.frames.items Keys keys.now) }
         ensures same { self.new ≡ record self.old { frames = self.new.frames } }
@@ -63,12 +62,9 @@ impl Peer {
     }
 
     /// Puts down what a window's program printed, or holds it while no server has the window.
-    pub fn print(&mut self, bytes: &[u8]) -> Result<(), AllocError>
+    pub(crate) fn print(&mut self, bytes: &[u8]) -> Result<(), AllocError>
         ensures prints { OnOk result (Prints self.old self.new bytes.now) }
-        ensures same { self.new ≡ record self.old {
-          frames = self.new.frames;
-          page = self.new.page;
-        } }
+        ensures same { self.new ≡ record self.old { frames = self.new.frames; page = self.new.page } }
     {
         if self.has_server() {
             self.page.read(bytes);
@@ -85,19 +81,8 @@ impl Peer {
         self.is_welcome && !self.is_reopening
     }
 
-    /// Puts down the page and what was held, once a server has the window again. Returns whether the server is told the
-    /// page.
-    pub(crate) fn tell_again(&mut self) -> Result<bool, AllocError>
-        ensures ok { IfOk result (λ is_told. Reopens self.old self.new is_told) }
-        ensures same { self.new ≡ record self.old { frames = self.new.frames; page = self.new.page } }
-    {
-        let (bytes, is_told) = self.page.tell_again()?;
-        put_frames(Kind::Output, &bytes, &mut self.frames)?;
-        Ok(is_told)
-    }
-
     /// Asks for a whole draw: RESIZE, with the size that the terminal has.
-    pub fn redraw(&mut self) -> Result<(), PeerFault>
+    pub(crate) fn redraw(&mut self) -> Result<(), PeerFault>
         ensures ok { OnOk result (Puts self.old self.new
             (spelling (Message.Resize self.old.rows self.old.columns))) }
         ensures err { OnErr result (self.new.frames.items ≡ self.old.frames.items) }
@@ -113,7 +98,7 @@ impl Peer {
     }
 
     /// Puts down DETACH.
-    pub fn detach(&mut self) -> Result<(), AllocError>
+    pub(crate) fn detach(&mut self) -> Result<(), AllocError>
         ensures ok { OnOk result (Puts self.old self.new (frame Detach [])) }
         ensures err { OnErr result (Puts self.old self.new []) }
         ensures same { self.new ≡ record self.old { frames = self.new.frames } }
@@ -122,7 +107,7 @@ impl Peer {
     }
 
     /// Whether frames wait that can be sent.
-    pub fn can_send(&self) -> bool
+    pub(crate) fn can_send(&self) -> bool
         ensures { IsTrue result ↔ MaySend self.now }
     {
         self.is_welcome && !self.is_sending && !self.is_shut && !self.frames.is_empty()
@@ -156,33 +141,39 @@ impl Peer {
         ensures back { OnOk result (HasBack self.old batch is_open self.new) }
         ensures ends { OnErr result (IsSome self.new.end) }
     {
+        let Batch {
+            frames,
+            sent,
+            connection,
+        } = batch;
         self.is_sending = false;
-        if self.connection != batch.connection {
+        if self.connection != connection {
             return Ok(());
         }
         self.is_shut = !is_open;
-        self.is_stuck = batch.sent < batch.frames.len();
+        self.is_stuck = sent < frames.len();
         if self.is_stuck {
-            return self.put_back(batch);
+            return self.put_back(frames, sent);
         }
         Ok(())
     }
 
     // Puts what wasn't sent before what waits. Without memory for that the peer ends: a part of a frame was sent.
-    fn put_back(&mut self, batch: Batch) -> Result<(), AllocError>
-        requires { batch.sent < length batch.frames.items }
-        ensures back { OnOk result ((self.old.sent ≡ 0 → unsent self.new ≡ left batch ++ unsent self.old)
+    fn put_back(&mut self, frames: Vec<u8>, sent: usize) -> Result<(), AllocError>
+        requires { sent < length frames.items }
+        ensures back { OnOk result ((self.old.sent ≡ 0
+            → unsent self.new ≡ drop sent frames.items ++ unsent self.old)
             × (self.new ≡ record self.old { frames = self.new.frames; sent = self.new.sent })) }
         ensures ends { OnErr result (IsSome self.new.end) }
     {
-        let mut frames = batch.frames;
+        let mut frames = frames;
         let kept = frames.extend_from_slice(&self.frames);
         if kept.is_err() {
             self.end_by(Err(PeerFault::NoMemory));
             return kept;
         }
         self.frames = frames;
-        self.sent = batch.sent;
+        self.sent = sent;
         kept
     }
 }

@@ -6,8 +6,8 @@ ghost use Rattle.attach_proto.specs.Spelling.{spelling};
 ghost use Rattle.client_peer.specs.Beginning.{IsBegun};
 ghost use Rattle.client_peer.specs.Ending.{EndsOutput, ending_of};
 ghost use Rattle.client_peer.specs.Meeting.{Meets, IsFresh};
-ghost use Rattle.client_peer.specs.Sending.{HasServer};
-ghost use Rattle.client_peer.specs.Showing.{BeginsAnew};
+ghost use Rattle.client_peer.specs.Sending.{HasServer, writing};
+ghost use Rattle.client_peer.specs.Showing.{BeginsAnew, cutting};
 ghost use Rattle.client_peer.specs.Typing.{is_to_fit};
 ghost use Rattle.client_peer.specs.declared.meeting.Meeting.TheVariants.{Same};
 
@@ -22,55 +22,61 @@ use draw_check::DrawCheck;
 use std::alloc::Global;
 use std::mem;
 
+/// What is to be written to standard output and to the sizes' file. It can't be let go: it is written once.
+pub struct Output {
+    pub bytes: Vec<u8>,
+    pub sizes: Vec<u8>,
+}
+
 /// A peer: what it has for standard output and for the server, and how it ended.
 #[derive(Drop)]
 pub struct Peer {
-    pub alloc: Global,
-    pub subcommand: Subcommand,
+    pub(crate) alloc: Global,
+    pub(crate) subcommand: Subcommand,
     /// The size of a client's terminal or of a window.
     pub rows: u16,
     pub columns: u16,
     /// Whether the window in focus follows the terminal's size.
-    pub fits: bool,
+    pub(crate) fits: bool,
     /// Bytes for standard output.
-    pub bytes: Vec<u8>,
+    pub(crate) bytes: Vec<u8>,
     /// Input for the program of a window that comes back: it waits until the window is opened again.
     pub(crate) early: Vec<u8>,
     /// Checks what the server sends for a client's terminal.
-    pub draws: DrawCheck,
+    pub(crate) draws: DrawCheck,
     /// This connection's server drew something, so the terminal may be within a function.
-    pub has_drawn: bool,
+    pub(crate) has_drawn: bool,
     /// The last draw goes on in the next frame.
-    pub is_cut: bool,
+    pub(crate) is_cut: bool,
     /// The terminal shows the client's help, so draws are dropped.
-    pub is_covered: bool,
+    pub(crate) is_covered: bool,
     /// The help is asked for.
-    pub is_helping: bool,
-    pub notice: Notice,
+    pub(crate) is_helping: bool,
+    pub(crate) notice: Notice,
     /// Lines for the sizes' file.
-    pub sizes: Vec<u8>,
+    pub(crate) sizes: Vec<u8>,
     /// A thread is writing to standard output.
-    pub is_writing: bool,
+    pub(crate) is_writing: bool,
     /// Frames for the server.
-    pub frames: Vec<u8>,
+    pub(crate) frames: Vec<u8>,
     /// How many of their bytes were sent.
-    pub sent: usize,
+    pub(crate) sent: usize,
     /// A thread is sending frames.
-    pub is_sending: bool,
+    pub(crate) is_sending: bool,
     /// The connection took nothing for a while: who waits for the time sends the rest.
     pub is_stuck: bool,
     /// The connection takes no more frames.
-    pub is_shut: bool,
+    pub(crate) is_shut: bool,
     /// Counts the connections.
-    pub connection: u32,
+    pub(crate) connection: u32,
     /// The page of a window that stays, and what its program printed while no server was there.
-    pub page: KeptPage,
+    pub(crate) page: KeptPage,
     /// The number that the window had when a server let it in last.
     pub(crate) number: u8,
     /// The same of the last server that the page was opened in.
     pub page_number: u8,
     /// The window is to be opened again: what it prints waits.
-    pub is_reopening: bool,
+    pub(crate) is_reopening: bool,
     /// The name of the session that the peer was in; empty if nothing named it.
     pub(crate) session: Vec<u8>,
     /// Nothing said that the session at the socket is the one that the peer was in.
@@ -85,11 +91,11 @@ pub struct Peer {
     /// How the connection ended.
     pub end: Option<Result<Why, PeerFault>>,
     /// How the connection ended that is to be replaced by another one.
-    pub loss: Option<Result<Why, PeerFault>>,
+    pub(crate) loss: Option<Result<Why, PeerFault>>,
     /// The peer doesn't come back.
     pub is_final: bool,
     /// Why standard input or standard output failed.
-    pub fault: Option<PeerFault>,
+    pub(crate) fault: Option<PeerFault>,
     /// A line of the sizes' file wasn't a size.
     pub has_dropped: bool,
     pub times: Timers,
@@ -182,11 +188,7 @@ impl Peer {
     // Puts down CAN if something was drawn.
     fn cut_off(&mut self)
         ensures begins { BeginsAnew self.old self.new }
-        ensures same { self.new ≡ record self.old {
-          bytes = self.new.bytes;
-          draws = self.new.draws;
-          has_drawn = self.new.has_drawn;
-        } }
+        ensures same { self.new ≡ cutting self.old self.new }
     {
         if self.has_drawn && self.bytes.push(0x18).is_ok() {
             self.draws = DrawCheck::new();
@@ -216,7 +218,7 @@ impl Peer {
     }
 
     /// Whether the server is gone, and another one is waited for.
-    pub fn is_lost(&self) -> bool
+    pub(crate) fn is_lost(&self) -> bool
         ensures { IsTrue result ↔ IsSome self.now.loss }
     {
         self.loss.is_some()
@@ -250,20 +252,16 @@ impl Peer {
     }
 
     /// Takes what waits for standard output and for the sizes' file.
-    pub fn begin_writing(&mut self) -> (Vec<u8>, Vec<u8>)
-        ensures all { (result.0.items ≡ self.old.bytes.items) × (result.1.items ≡ self.old.sizes.items) }
+    pub fn begin_writing(&mut self) -> Output
+        ensures all { (result.bytes.items ≡ self.old.bytes.items) × (result.sizes.items ≡ self.old.sizes.items) }
         ensures none { (self.new.bytes.items ≡ []) × (self.new.sizes.items ≡ []) }
-        ensures same { self.new ≡ record self.old {
-          bytes = self.new.bytes;
-          sizes = self.new.sizes;
-          is_writing = true;
-        } }
+        ensures same { self.new ≡ writing self.old self.new }
     {
         self.is_writing = true;
-        (
-            mem::replace(&mut self.bytes, Vec::new(self.alloc)),
-            mem::replace(&mut self.sizes, Vec::new(self.alloc)),
-        )
+        Output {
+            bytes: mem::replace(&mut self.bytes, Vec::new(self.alloc)),
+            sizes: mem::replace(&mut self.sizes, Vec::new(self.alloc)),
+        }
     }
 
     /// Notes that it was written, or why it wasn't: then the peer ends. The program of an ended window may read no more.

@@ -3,11 +3,10 @@
 ghost use Rattle.std.specs.Prelude.{◌≡◌, ◌↔◌, ◌⊎◌, IsTrue, ◌++◌, ◌∷◌, ◌||◌, [], Ok, Err, Some, None, true, false};
 ghost use Rattle.std.specs.Prelude.{OnOk, OnErr, IfOk, IfErr};
 ghost use Rattle.client_words.specs.declared.arguments.Subcommand.TheVariants.{Attach, Ping};
-ghost use Rattle.client_words.specs.Visible.{visible};
 ghost use Rattle.client_words.specs.declared.fault.PeerFault.TheVariants.{Ended};
 ghost use Rattle.client_peer.specs.Ending.{end_for};
 ghost use Rattle.client_peer.specs.Hearing.{Shows, Says, LetsIn, Delivers, Hears, HearsFirst, IsSized, TakesInput};
-ghost use Rattle.client_peer.specs.Hearing.{HearsRead, gone_in, size_line};
+ghost use Rattle.client_peer.specs.Hearing.{HearsRead, gone_in, size_line, sized};
 ghost use Rattle.client_peer.specs.Failing.{FailsAfter, FailsAt, FailsBy, FailsRead, IsNoDraw, IsNotShown};
 ghost use Rattle.client_peer.specs.Meeting.{IsToOpen, Meets, Opens, StaysClosed, WaitsToOpen};
 ghost use Rattle.client_peer.specs.Sending.{IsBehind};
@@ -15,8 +14,10 @@ ghost use Rattle.client_peer.specs.Showing.{Keeps, Adds, PassesOn, StopsAt};
 ghost use Rattle.client_peer.specs.declared.meeting.Meeting.TheVariants.{Same};
 
 use crate::meeting::{Meeting, SessionMark};
+use crate::outgoing::put_frames;
 use crate::peer::Peer;
-use attach_proto::{LONGEST, Message, ProtoFault, Reader, Told, Why};
+use crate::piece::Piece;
+use attach_proto::{Kind, LONGEST, Message, ProtoFault, Reader, Told, Why};
 use client_words::{PeerFault, Subcommand, put_visible};
 use std::alloc::{AllocError, Global};
 
@@ -66,37 +67,14 @@ impl Peer {
         ensures closed { self.old.subcommand ≡ Attach → StaysClosed self.old self.new }
         ensures shows { OnOk result (Shows self.old.is_covered self.old bytes.now self.new) }
     {
+        self.is_cut = bytes.len() == LONGEST;
         if self.is_covered {
-            self.pass_over(bytes.len() == LONGEST);
+            self.is_covered = self.is_cut || self.is_helping;
             return Ok(());
         }
-        self.note_cut(bytes.len() == LONGEST);
-        self.put_draw(bytes)
-    }
-
-    // Notes that there is a draw, and whether it goes on in the next frame.
-    fn note_cut(&mut self, is_cut: bool)
-        ensures keeps { Keeps self.old self.new }
-        ensures closed { StaysClosed self.old self.new }
-        ensures same { self.new ≡ record self.old {
-          is_cut = is_cut;
-          has_drawn = true;
-          notice = record self.old.notice { is_hidden = true };
-        } }
-    {
-        self.is_cut = is_cut;
         self.has_drawn = true;
         self.notice.is_hidden = true;
-    }
-
-    // Leaves out a draw, or the first part of one.
-    fn pass_over(&mut self, is_cut: bool)
-        ensures keeps { Keeps self.old self.new }
-        ensures closed { StaysClosed self.old self.new }
-        ensures same { self.new ≡ record self.old { is_cut = is_cut; is_covered = is_cut || self.old.is_helping } }
-    {
-        self.is_cut = is_cut;
-        self.is_covered = is_cut || self.is_helping;
+        self.put_draw(bytes)
     }
 
     fn put_size(&mut self, rows: u16, columns: u16) -> Result<(), AllocError>
@@ -110,14 +88,6 @@ impl Peer {
         self.sizes.extend_from_slice(line.as_bytes())
     }
 
-    fn put_line(&mut self, line: &str) -> Result<(), AllocError>
-        ensures added { OnOk result (self.new.bytes.items ≡ self.old.bytes.items ++ (visible line.now ++ 0x0A ∷ [])) }
-        ensures same { self.new ≡ record self.old { bytes = self.new.bytes } }
-    {
-        put_visible(line.as_bytes(), &mut self.bytes)?;
-        self.put(b"\n")
-    }
-
     // A text for a command is its output. Once a client is let in, its status line has the texts. The
     // last text before that is the reason if the peer isn't let in.
     fn hear(&mut self, alloc: Global, text: &str) -> Result<(), AllocError>
@@ -127,7 +97,8 @@ impl Peer {
         ensures says { OnOk result (Says false self.old text.now self.new) }
     {
         if self.subcommand.is_command() {
-            self.put_line(text)?;
+            put_visible(text.as_bytes(), &mut self.bytes)?;
+            self.put(b"\n")?;
         }
         self.said = Some(String::from_str(alloc, text)?);
         Ok(())
@@ -194,7 +165,9 @@ impl Peer {
         self.page.is_hidden = is_hidden;
         self.bytes.extend_from_slice(&self.early)?;
         self.early.clear();
-        if self.tell_again()? {
+        let (bytes, is_told) = self.page.tell_again()?;
+        put_frames(Kind::Output, &bytes, &mut self.frames)?;
+        if is_told {
             return Ok(());
         }
         self.put_size(self.rows, self.columns)
@@ -204,12 +177,7 @@ impl Peer {
     fn resize_window(&mut self, rows: u16, columns: u16) -> Result<(), AllocError>
         ensures keeps { Keeps self.old self.new }
         ensures closed { StaysClosed self.old self.new }
-        ensures same { self.new ≡ record self.old {
-          rows = rows;
-          columns = columns;
-          page = self.new.page;
-          sizes = self.new.sizes;
-        } }
+        ensures same { self.new ≡ sized self.old rows columns self.new }
         ensures size { OnOk result (self.new.sizes.items ≡ self.old.sizes.items ++ size_line rows columns) }
         ensures page { IsSized self.old.page rows columns self.new.page }
     {
@@ -317,7 +285,7 @@ impl Peer {
         self.bytes.len() > MOST_WAITING || self.early.len() > MOST_WAITING
     }
 
-    /// Sorts the bytes of a read; no bytes mean the stream's end. Returns how the peer ended, if it
+    /// Sorts what a read gave; nothing means the stream's end. Returns how the peer ended, if it
     /// did. All that a client passes on from one connection to its terminal, together, consists of the
     /// functions that draws use. What a server sends beyond that is a fault, and of that frame nothing
     /// is passed on. CAN comes before what the next connection draws (`begin`).
@@ -325,17 +293,19 @@ impl Peer {
         &mut self,
         alloc: Global,
         reader: &mut Reader,
-        bytes: &[u8],
+        piece: Piece<'_>,
     ) -> Result<Option<Result<Why, PeerFault>>, PeerFault>
         ensures ok { OnOk result (PassesOn self.old self.new) }
         ensures err { OnErr result (StopsAt self.old self.new) }
-        ensures fault { IfErr result (FailsRead self.old reader.old bytes.now reader.new) }
+        ensures fault { IfErr result (FailsRead self.old reader.old piece.entry.bytes.now reader.new) }
         ensures closed { StaysClosed self.old self.new }
-        ensures ends { (self.old.subcommand ≡ Ping → ⊥) → bytes.now ≡ [] → result ≡ Ok (Some (Err Ended)) }
+        ensures ends { (self.old.subcommand ≡ Ping → ⊥) → piece.entry.bytes.now ≡ []
+            → result ≡ Ok (Some (Err Ended)) }
         ensures ping { self.old.subcommand ≡ Ping → (result ≡ Ok (Some (Ok Why.Detached))) × (self.new ≡ self.old) }
-        ensures hears { (self.old.subcommand ≡ Ping → ⊥) → (bytes.now ≡ [] → ⊥)
-            → IfOk result (HearsRead self.old reader.old bytes.now self.new reader.new) }
+        ensures hears { (self.old.subcommand ≡ Ping → ⊥) → (piece.entry.bytes.now ≡ [] → ⊥)
+            → IfOk result (HearsRead self.old reader.old piece.entry.bytes.now self.new reader.new) }
     {
+        let Piece { bytes } = piece;
         // Any answer to `mux ping` shows that there is a server.
         if matches!(self.subcommand, Subcommand::Ping) {
             return Ok(Some(Ok(Why::Detached)));

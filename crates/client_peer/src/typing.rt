@@ -1,11 +1,13 @@
 //! What is typed or printed, on its way to the server.
 
-ghost use Rattle.std.specs.Prelude.{◌≡◌, OnOk};
+ghost use Rattle.std.specs.Prelude.{◌≡◌, [], true, false, OnOk, Ok};
 ghost use Rattle.client_peer.specs.Ending.{EndsInput};
 ghost use Rattle.client_peer.specs.Sending.{IsMore};
-ghost use Rattle.client_peer.specs.Typing.{TypesIn, Presses, SendsAssisted, MayAsk, typed_in};
+ghost use Rattle.client_peer.specs.Typing.{TypesIn, Presses, SendsAssisted, TellsScrolled, typed_in};
+ghost use Rattle.client_peer.specs.Typing.{assisted_in, pressed_in};
 
 use crate::peer::Peer;
+use crate::piece::Piece;
 use client_notice::NoticeStage;
 use client_words::PeerFault;
 use std::alloc::AllocError;
@@ -13,24 +15,31 @@ use std::alloc::AllocError;
 const ETX: u8 = 0x03;
 
 impl Peer {
-    /// Takes what was read of standard input.
-    pub fn type_in(&mut self, input: &[u8]) -> Result<(), PeerFault>
-        ensures types { OnOk result (TypesIn self.old self.new input.now) }
+    /// Takes what was read of standard input. Returns whether that was more than its end.
+    pub fn type_in(&mut self, piece: Piece<'_>) -> Result<bool, PeerFault>
+        ensures types { (piece.entry.bytes.now ≡ [] → ⊥)
+            → OnOk result (TypesIn self.old self.new piece.entry.bytes.now) }
+        ensures more { (piece.entry.bytes.now ≡ [] → ⊥) → OnOk result (result ≡ Ok true) }
+        ensures end { piece.entry.bytes.now ≡ [] → (result ≡ Ok false) × (self.new ≡ self.old) }
         ensures adds { OnOk result (IsMore self.old.bytes.items self.new.bytes.items) }
         ensures same { self.new ≡ typed_in self.old self.new }
     {
+        let Piece { bytes: input } = piece;
+        if input.is_empty() {
+            return Ok(false);
+        }
         let mut bytes = Vec::new(self.alloc);
         self.typing.read(input, &mut bytes)?;
         if self.subcommand.is_window() {
             self.print(&bytes)?;
-            return Ok(());
+            return Ok(true);
         }
         if bytes.is_empty() {
-            return Ok(());
+            return Ok(true);
         }
         self.times.has_typed = true;
         self.press(&bytes)?;
-        Ok(())
+        Ok(true)
     }
 
     // Takes keys. They are dropped while no server is there, and one takes the help away.
@@ -38,7 +47,7 @@ impl Peer {
         ensures presses { OnOk result (Presses self.old self.new keys.now) }
         ensures adds { OnOk result (IsMore self.old.bytes.items self.new.bytes.items) }
         ensures leave { self.new.typing.leave ≡ self.old.typing.leave }
-        ensures same { self.new ≡ typed_in self.old self.new }
+        ensures same { self.new ≡ pressed_in self.old self.new }
     {
         if self.is_lost() {
             if keys.contains(&ETX) {
@@ -69,28 +78,25 @@ impl Peer {
         ensures leave { self.new.typing.leave ≡ self.old.typing.leave }
         ensures sends { OnOk result (SendsAssisted self.old self.new keys.now) }
         ensures adds { OnOk result (IsMore self.old.bytes.items self.new.bytes.items) }
-        ensures same { self.new ≡ typed_in self.old (record self.new { is_final = self.old.is_final; end = self.old.end }) }
+        ensures same { self.new ≡ assisted_in self.old self.new }
     {
         let mut out = Vec::new(self.alloc);
-        let page = self.rows.saturating_sub(3);
         let before = self.typing.back;
-        self.typing.assist(keys, page, &mut out)?;
+        self.typing
+            .assist(keys, self.rows.saturating_sub(3), &mut out)?;
         self.put_keys(&out)?;
-        if self.typing.back != before {
-            self.tell_scrolled()?;
-        }
-        if self.typing.asks_help {
-            self.typing.asks_help = false;
-            self.help()?;
-        }
-        Ok(())
+        self.tell_scrolled(before)?;
+        self.help()
     }
 
-    // Says how to come back.
-    fn tell_scrolled(&mut self) -> Result<(), PeerFault>
-        ensures asks { OnOk result (MayAsk self.old self.old.frames.items self.new.frames.items) }
+    // Says how to come back, if the view was moved.
+    fn tell_scrolled(&mut self, before: u16) -> Result<(), PeerFault>
+        ensures tells { OnOk result (TellsScrolled self.old self.new before self.old.frames.items) }
         ensures same { self.new ≡ record self.old { frames = self.new.frames; notice = self.new.notice } }
     {
+        if self.typing.back == before {
+            return Ok(());
+        }
         if self.typing.back == 0 {
             self.notice.stage = NoticeStage::Nothing;
             return self.redraw();

@@ -1,71 +1,28 @@
 -- What a client that has keys of its own sends, key after key.
-use Rattle.std.proofs.Common.{◌≡◌, ◌≢◌, ◌==◌, ℕ, Bool, true, false, List, [], ◌∷◌, ◌++◌, if◌then◌else◌, true≢false}
-use Rattle.std.proofs.Common.{refl, sym, ap, ◌∙◌, subst, append-nil, append_assoc}
-use Rattle.std.proofs.Common.{Result, Ok, Err}
-use Rattle.std.specs.Prelude.{OnOk}
+use Rattle.std.proofs.Common.{◌≡◌, ◌≢◌, ◌==◌, inl, inr, ℕ, ◌<◌, Bool, true, false, List, [], ◌∷◌, ◌++◌}
+use Rattle.std.proofs.Common.{if◌then◌else◌, true≢false, refl, sym, ap, ◌∙◌, subst, append-nil, append_assoc, arith}
+use Rattle.std.specs.Prelude.{codes}
 use Rattle.std.proofs.lemmas.Bool.{eqb-true}
+use Rattle.std.proofs.lemmas.Bool.Decides.{nat_tests}
 use Rattle.keys.specs.Grammar.{Item, Rest, nothing, command_key, prompt, rest_step, items_from, items, control_a}
-use Rattle.keys.specs.Kept.{rest_of}
-use Rattle.client_typing.specs.Assisting.{IsSent, Assisted, waiting, without_waiting, HasSent, IsAssisted, Assists, Takes}
-use Rattle.client_typing.specs.Own.{question, IsOwn}
-use Rattle.client_typing.specs.Fitting.{given_keys, IsLine, awaits_key}
-use Rattle.client_typing.specs.Following.{Follows, Rests}
-use Rattle.client_typing.specs.declared.typing.Typing.{Typing}
-use Rattle.client_typing.proofs.Fitting.{rest-after, given-alone}
+use Rattle.client_typing.specs.Assisting.{IsSent, Assisted, waiting, without_waiting, HasSent}
+use Rattle.client_typing.specs.Assisting.{Makes, MakesFirst, Standing, beginning, end_of, passed, to_end}
+use Rattle.client_typing.specs.Own.{question, turned, view_command, view_keys, IsOwn}
+use Rattle.client_typing.specs.Fitting.{given_keys, fit_keys, IsLine, awaits_key}
+use Rattle.client_typing.proofs.Fitting.{rest-after, given-alone, fit-line, view-line}
 use Rattle.client_typing.proofs.Typed.{after-second, within}
 
 -- nothing was typed yet
-pub has-sent-none : (r : Rest) (back : ℕ) → r ≡ nothing → back ≡ 0 → HasSent r back [] []
+pub has-sent-none : HasSent nothing 0 [] []
 unfolding items_from
-has-sent-none r back is end = record {
+has-sent-none = record {
   taken = [];
-  whole = ap waiting (sym is);
-  assisted = subst (Assisted [] []) (sym end) Assisted.none;
-  reads = ap without_waiting (sym is);
-  last = λ e. end;
+  whole = refl;
+  assisted = Assisted.none;
+  reads = refl;
+  last = λ e. refl;
+  few = omega arith;
 }
-
--- ---- one call after another
-
-pub assists_none : (t : Typing) (before : List ℕ) → Assists t [] before t before
-assists_none t before = record {
-  put = [];
-  added = sym (append-nil before);
-  stands = λ typed sent h. rw (append-nil, append-nil) h;
-}
-
-pub assists-then : (a b c : Typing) (keys more x y z : List ℕ) → Assists a keys x b y → Assists b more y c z
-    → Assists a (keys ++ more) x c z
-assists-then a b c keys more x y z p q = record {
-  put = p.put ++ q.put;
-  added = q.added ∙ ap (λ (l : List ℕ). l ++ q.put) p.added ∙ append_assoc x p.put q.put;
-  stands = λ typed sent h.
-      let both : IsAssisted c ((typed ++ keys) ++ more) ((sent ++ p.put) ++ q.put) =
-      q.stands (typed ++ keys) (sent ++ p.put) (p.stands typed sent h) in
-      rw (← append_assoc typed keys more, ← append_assoc sent p.put q.put) both;
-}
-
-pub takes-then : (a b c : Typing) (keys rest later x y z : List ℕ) → Takes a keys rest x b y
-    → Takes b rest later y c z → Takes a keys later x c z
-takes-then a b c keys rest later x y z p q = record {
-  taken = p.taken ++ q.taken;
-  whole =
-      p.whole ∙ ap (λ (l : List ℕ). p.taken ++ l) q.whole ∙ sym (append_assoc p.taken q.taken later);
-  assists = assists-then a b c p.taken q.taken x y z p.assists q.assists;
-}
-
-pub takes-all : (a b : Typing) (keys x y : List ℕ) → Takes a keys [] x b y → Assists a keys x b y
-takes-all a b keys x y p =
-    subst (λ (l : List ℕ). Assists a l x b y) (sym (p.whole ∙ append-nil p.taken)) p.assists
-
--- two facts that hold if a call succeeds
-pub on_ok_two : {T E P Q R : Type 0} (r : Result T E) → (P → Q → R) → OnOk r P → OnOk r Q → OnOk r R
-on_ok_two (Ok x) f p q = f p q
-on_ok_two (Err e) f p q = tt
-
-pub on_ok_three : {T E P Q R S : Type 0} (r : Result T E) → (P → Q → R → S) → OnOk r P → OnOk r Q → OnOk r R → OnOk r S
-on_ok_three (Ok x) f p q r = f p q r
-on_ok_three (Err e) f p q r = tt
 
 -- ---- a key
 
@@ -98,6 +55,7 @@ sent-alone r k back typed sent was is rests h =
           (subst (λ l. Assisted l sent back) (sym all) h.assisted);
       reads = rest-after r sent k here ∙ sym (none-waits (rest_step r k).1 is).1;
       last = λ e. absurd (true≢false (sym (ap awaits_key e) ∙ is));
+      few = h.few;
     }
 
 abbrev step_if : Bool → ℕ → List Item × Rest
@@ -119,6 +77,7 @@ sent-later nothing k back typed sent was is rests h = go (k == control_a) refl i
       assisted = rw append-nil h.assisted;
       reads = rw append-nil h.reads;
       last = λ e. rests refl;
+      few = h.few;
     }
     go false e waits = absurd (true≢false (sym waits))
 sent-later command_key k back typed sent was is rests h = absurd (true≢false was)
@@ -148,6 +107,7 @@ sent-second k back typed sent other h =
           ap (λ l. (items l).1) (sym both) ∙ rest-after command_key (sent ++ control_a ∷ []) k begun
           ∙ sym (none-waits (rest_step command_key k).1 is).1;
       last = λ e. absurd (true≢false (sym (ap awaits_key e) ∙ is));
+      few = h.few;
     }
 
 -- the pair that asks for the help isn't sent
@@ -167,96 +127,127 @@ sent-help back typed sent h =
           (subst (Assisted (h.taken ++ control_a ∷ question ∷ []) (sent ++ [])) (sym end) pair);
       reads = rw append-nil h.reads;
       last = λ e. absurd (true≢false (sym (ap awaits_key e)));
+      few = h.few;
     }
 
 -- ---- a command of the client's own
 
-module _ (old new : Typing) (command taken : List ℕ) (is : IsLine command) (rests : Rests old)
-    (follows : Follows old.keys (given_keys command) new.keys)
-    (own : IsOwn old.back taken (given_keys command) new.back) where
-  sent-own : (typed sent : List ℕ) → IsAssisted old typed sent
-      → IsAssisted new (typed ++ taken) (sent ++ given_keys command)
-  sent-own typed sent h =
-      let here : (items sent).1 ≡ nothing = h.reads ∙ ap without_waiting rests in
-      let all : typed ≡ h.taken =
-      h.whole ∙ ap (λ r. h.taken ++ waiting r) rests ∙ append-nil h.taken in
-      let after : (items (sent ++ given_keys command)).1 ≡ nothing = given-alone command sent is here in
-      let now : rest_of new.keys ≡ nothing = sym (follows sent (here ∙ sym rests)) ∙ after in
-      record {
-        taken = typed ++ taken;
-        whole = sym (append-nil (typed ++ taken)) ∙ ap (λ r. (typed ++ taken) ++ waiting r) (sym now);
-        assisted = Assisted.own here own (subst (λ l. Assisted l sent old.back) (sym all) h.assisted);
-        reads = after ∙ ap without_waiting (sym now);
-        last = λ e. absurd (true≢false (sym (ap awaits_key (sym now ∙ e))));
-      }
+pub sent-own : (back after : ℕ) (command taken typed sent : List ℕ) → IsLine command
+    → IsOwn back taken (given_keys command) after → after < 65536 → HasSent nothing back typed sent
+    → HasSent nothing after (typed ++ taken) (sent ++ given_keys command)
+sent-own back after command taken typed sent is own few h =
+    let all : typed ≡ h.taken = h.whole ∙ append-nil h.taken in
+    record {
+      taken = typed ++ taken;
+      whole = sym (append-nil (typed ++ taken));
+      assisted = Assisted.own h.reads own (subst (λ l. Assisted l sent back) (sym all) h.assisted);
+      reads = given-alone command sent is h.reads;
+      last = λ e. absurd (true≢false (sym (ap awaits_key e)));
+      few = few;
+    }
 
-  pub assists-own : (before after : List ℕ) → after ≡ before ++ given_keys command
-      → Assists old taken before new after
-  assists-own before after added = record { put = given_keys command; added = added; stands = sent-own }
+pub sent-fit : (back : ℕ) (typed sent : List ℕ) → HasSent nothing back typed sent
+    → HasSent nothing back typed (sent ++ fit_keys)
+sent-fit back typed sent h =
+    subst (λ (l : List ℕ). HasSent nothing back l (sent ++ fit_keys)) (append-nil typed)
+    (sent-own back back (codes "fit") [] typed sent fit-line IsOwn.fits h.few h)
+
+-- the view comes to its end, if the session waits for no key
+sent-end : (r : Rest) (back : ℕ) (typed sent : List ℕ) → HasSent r back typed sent
+    → HasSent r (end_of r back) typed (sent ++ to_end r back)
+sent-end nothing back typed sent h = go (back == 0) refl
+  where
+    go : (b : Bool) → (back == 0) ≡ b → HasSent nothing 0 typed (sent ++ (if b then [] else view_keys 0))
+    go true e =
+        subst (λ (l : List ℕ). HasSent nothing 0 typed l) (sym (append-nil sent))
+        (subst (λ n. HasSent nothing n typed sent) (eqb-true back 0 e) h)
+    go false e =
+        subst (λ (l : List ℕ). HasSent nothing 0 l (sent ++ view_keys 0)) (append-nil typed)
+        (sent-own back 0 (view_command 0) [] typed sent (view-line 0 (omega arith)) (IsOwn.returns (grind (arith, nat_tests)))
+        (omega arith) h)
+sent-end command_key back typed sent h =
+    subst (λ (l : List ℕ). HasSent command_key back typed l) (sym (append-nil sent)) h
+sent-end (prompt bytes) back typed sent h =
+    subst (λ (l : List ℕ). HasSent (prompt bytes) back typed l) (sym (append-nil sent)) h
+
+ends : (r : Rest) (back : ℕ) → r ≡ nothing → end_of r back ≡ 0
+ends nothing back is = refl
+ends command_key back is = absurd (true≢false (ap awaits_key is))
+ends (prompt bytes) back is = cc
 
 -- ---- a key of the keyboard
 
-module _ (old new : Typing) (k : ℕ) (begun next : Bool) (was : begun ≡ awaits_key (rest_of old.keys))
-    (is : next ≡ awaits_key (rest_of new.keys)) (read : (rest_step (rest_of old.keys) k).1 ≡ rest_of new.keys)
-    (back : new.back ≡ old.back) (end : Rests old → old.back ≡ 0) where
-  -- this is put after what was there
-  puts : (put before after : List ℕ) → after ≡ before ++ put
-      → ((typed sent : List ℕ) → HasSent (rest_of old.keys) old.back typed sent
-      → HasSent (rest_step (rest_of old.keys) k).1 old.back (typed ++ k ∷ []) (sent ++ put))
-      → Assists old (k ∷ []) before new after
-  puts put before after added sends = record {
-    put = put;
-    added = added;
-    stands = λ typed sent h.
-        subst (λ b. HasSent (rest_of new.keys) b (typed ++ k ∷ []) (sent ++ put)) (sym back)
-        (subst (λ r. HasSent r old.back (typed ++ k ∷ []) (sent ++ put)) read (sends typed sent h));
-  }
+sent-key : (r : Rest) (k back : ℕ) (typed sent : List ℕ) → (r ≡ nothing → back ≡ 0) → HasSent r back typed sent
+    → HasSent (rest_step r k).1 back (typed ++ k ∷ []) (sent ++ passed r k)
+sent-key nothing k back typed sent end h = go (k == control_a) refl
+  where
+    go : (b : Bool) → (k == control_a) ≡ b
+        → HasSent (rest_step nothing k).1 back (typed ++ k ∷ []) (sent ++ (if b then [] else k ∷ []))
+    go true e = sent-later nothing k back typed sent refl (ap (λ b. awaits_key (step_if b k).1) e) end h
+    go false e = sent-alone nothing k back typed sent refl (ap (λ b. awaits_key (step_if b k).1) e) end h
+sent-key command_key k back typed sent end h = go (k == question) refl
+  where
+    go : (b : Bool) → (k == question) ≡ b
+        → HasSent (rest_step command_key k).1 back (typed ++ k ∷ []) (sent ++ (if b then [] else control_a ∷ k ∷ []))
+    go true e = rw (eqb-true k question e) (sent-help back typed sent h)
+    go false e = sent-second k back typed sent (grind (arith, nat_tests)) h
+sent-key (prompt bytes) k back typed sent end h =
+    sent-alone (prompt bytes) k back typed sent refl (within bytes k) end h
 
-  pub assists-alone : (before after : List ℕ) → begun ≡ false → next ≡ false → after ≡ before ++ k ∷ []
-      → Assists old (k ∷ []) before new after
-  assists-alone before after b n added =
-      puts (k ∷ []) before after added
-      (λ typed sent. sent-alone (rest_of old.keys) k old.back typed sent (sym was ∙ b)
-      (ap awaits_key read ∙ sym is ∙ n) end)
+turned-few : (is_up : Bool) (lines back : ℕ) → back < 65536 → turned is_up lines back < 65536
+turned-few true lines back few = omega arith
+turned-few false lines back few = omega arith
 
-  pub assists-later : (before : List ℕ) → begun ≡ false → next ≡ true → Assists old (k ∷ []) before new before
-  assists-later before b n =
-      puts [] before before (sym (append-nil before))
-      (λ typed sent. sent-later (rest_of old.keys) k old.back typed sent (sym was ∙ b)
-      (ap awaits_key read ∙ sym is ∙ n) end)
+-- ---- all keys of a read
 
-  never : (r : Rest) → awaits_key r ≡ true → awaits_key (rest_step r k).1 ≡ true → ⊥
-  never nothing e n = true≢false (sym e)
-  never command_key e n = true≢false (sym n ∙ after-second k)
-  never (prompt bytes) e n = true≢false (sym e)
+module _ (lines : ℕ) (old new : Standing) (keys sent later typed had : List ℕ) (h : HasSent old.rest old.back typed had) where
+  abbrev Goes : Type 0
+  Goes = (taken : List ℕ) × (keys ≡ taken ++ later) × HasSent new.rest new.back (typed ++ taken) (had ++ sent)
 
-  -- the command key was typed now, so it wasn't before
-  pub assists-begun : (before : List ℕ) → next ≡ true → Assists old (k ∷ []) before new before
-  assists-begun before n = go begun refl
-    where
-      go : (b : Bool) → begun ≡ b → Assists old (k ∷ []) before new before
-      go false e = assists-later before e n
-      go true e = absurd (never (rest_of old.keys) (sym was ∙ e) (ap awaits_key read ∙ sym is ∙ n))
+  sent-first : MakesFirst lines old keys sent later new → Goes
+  sent-first (inl t) =
+      let back : ℕ = turned t.is_up lines old.back in
+      let given : HasSent nothing back (typed ++ t.taken) (had ++ view_keys back) =
+      sent-own old.back back (view_command back) t.taken typed had (view-line back (turned-few t.is_up lines old.back h.few))
+      (IsOwn.turns lines t.is) (turned-few t.is_up lines old.back h.few)
+      (subst (λ r. HasSent r old.back typed had) t.rests h) in (
+        t.taken,
+        t.whole,
+        subst (λ (s : Standing). HasSent s.rest s.back (typed ++ t.taken) (had ++ sent)) (sym t.after)
+            (subst (λ (l : List ℕ). HasSent nothing back (typed ++ t.taken) (had ++ l)) (sym t.sends) given),
+      )
+  sent-first (inr p) =
+      let r : Rest = old.rest in
+      let end : List ℕ = to_end r old.back in
+      let given : HasSent (rest_step r p.first).1 (end_of r old.back) (typed ++ p.first ∷ []) ((had ++ end) ++ passed r p.first) =
+      sent-key r p.first (end_of r old.back) typed (had ++ end) (ends r old.back) (sent-end r old.back typed had h) in
+      let all : (had ++ end) ++ passed r p.first ≡ had ++ sent =
+      append_assoc had end (passed r p.first) ∙ ap (λ (l : List ℕ). had ++ l) (sym p.sends) in (
+        p.first ∷ [],
+        p.whole,
+        subst (λ (s : Standing). HasSent s.rest s.back (typed ++ p.first ∷ []) (had ++ sent)) (sym p.after)
+            (subst (λ (l : List ℕ). HasSent (rest_step r p.first).1 (end_of r old.back) (typed ++ p.first ∷ []) l) all given),
+      )
 
-  pub assists-second : (before after : List ℕ) → begun ≡ true → k ≢ question
-      → after ≡ before ++ control_a ∷ k ∷ [] → Assists old (k ∷ []) before new after
-  assists-second before after b other added =
-      puts (control_a ∷ k ∷ []) before after added
-      (λ typed sent. second-from (rest_of old.keys) (sym was ∙ b) typed sent)
-    where
-      second-from : (r : Rest) → awaits_key r ≡ true → (typed sent : List ℕ) → HasSent r old.back typed sent
-          → HasSent (rest_step r k).1 old.back (typed ++ k ∷ []) (sent ++ control_a ∷ k ∷ [])
-      second-from nothing e typed sent h = absurd (true≢false (sym e))
-      second-from command_key e typed sent h = sent-second k old.back typed sent other h
-      second-from (prompt bytes) e typed sent h = absurd (true≢false (sym e))
+pub sent-all : (lines : ℕ) {old new : Standing} {keys more : List ℕ} → Makes lines old keys more new
+    → (typed had : List ℕ) → HasSent old.rest old.back typed had
+    → HasSent new.rest new.back (typed ++ keys) (had ++ more)
+sent-all lines (Makes.none {s = s}) typed had h = rw (append-nil, append-nil) h
+sent-all lines
+    (Makes.next {s = s} {middle = middle} {last = last} {keys = keys} {sent = sent} {later = later} {more = more} first m)
+    typed had h =
+    let a = sent-first lines s middle keys sent later typed had h first in
+    let b : HasSent last.rest last.back ((typed ++ a.0) ++ later) ((had ++ sent) ++ more) =
+    sent-all lines m (typed ++ a.0) (had ++ sent) a.2 in
+    let whole : (typed ++ a.0) ++ later ≡ typed ++ keys =
+    append_assoc typed a.0 later ∙ ap (λ (l : List ℕ). typed ++ l) (sym a.1) in
+    subst (λ (l : List ℕ). HasSent last.rest last.back l (had ++ (sent ++ more))) whole
+    (subst (λ (l : List ℕ). HasSent last.rest last.back ((typed ++ a.0) ++ later) l) (append_assoc had sent more) b)
 
-  pub assists-help : (before : List ℕ) → begun ≡ true → k ≡ question → Assists old (k ∷ []) before new before
-  assists-help before b asks =
-      puts [] before before (sym (append-nil before))
-      (λ typed sent. help-from (rest_of old.keys) (sym was ∙ b) typed sent)
-    where
-      help-from : (r : Rest) → awaits_key r ≡ true → (typed sent : List ℕ) → HasSent r old.back typed sent
-          → HasSent (rest_step r k).1 old.back (typed ++ k ∷ []) (sent ++ [])
-      help-from nothing e typed sent h = absurd (true≢false (sym e))
-      help-from command_key e typed sent h = rw asks (sent-help old.back typed sent h)
-      help-from (prompt bytes) e typed sent h = absurd (true≢false (sym e))
+-- ---- a session that has read no key
+
+abbrev standing : Rest → Standing
+standing r = record { rest = r; back = 0; asks = false }
+
+pub begins-at : (r : Rest) → r ≡ nothing → standing r ≡ beginning
+begins-at r is = ap standing is

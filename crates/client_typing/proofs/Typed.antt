@@ -1,14 +1,16 @@
 -- What is sent of the input, and what has read it.
 use Rattle.std.proofs.Common.{◌≡◌, ◌==◌, ◌↔◌, ℕ, Bool, true, false, IsTrue, if◌then◌else◌, List, [], ◌∷◌, ◌++◌}
 use Rattle.std.proofs.Common.{Result, Ok, Err, Some, refl, sym, ap, ◌∙◌, subst}
-use Rattle.std.proofs.Common.{append-nil}
+use Rattle.std.proofs.Common.{append-nil, arith, suc}
 use Rattle.std.specs.Prelude.{OnOk}
-use Rattle.std.proofs.lemmas.Bool.{false_from_ne_true, eqb-true}
+use Rattle.std.proofs.lemmas.Bool.{false_from_ne_true, eqb-true, eq-eqb, ne_eqb}
 use Rattle.keys.specs.Grammar.{Rest, nothing, command_key, prompt, Item, typed, rest_step, key_items, line_items}
 use Rattle.keys.specs.Grammar.{stays, line_after_key, colon}
 use Rattle.client_typing.specs.Fitting.{awaits_key}
+use Rattle.client_words.specs.declared.leaving.InputStage.{InputStage}
+use Rattle.client_words.specs.declared.leaving.InputStage.TheVariants.{Reading, Waiting, Left}
 use Rattle.client_words.specs.declared.leaving.LeaveReader.{LeaveReader}
-use Rattle.client_words.specs.Leaving.{sent}
+use Rattle.client_words.specs.Leaving.{sent, stage}
 use Rattle.client_words.specs.Stands.{HasRead}
 use Rattle.client_typing.specs.Following.{LetsThrough}
 
@@ -21,6 +23,31 @@ let-through (Ok x) reader after input out new none stands sends = λ before h.
     let front : List ℕ = sent reader.byte before in
     (stands before h, sym (sends before front h (ap (λ (l : List ℕ). front ++ l) none ∙ append-nil front)))
 let-through (Err e) reader after input out new none stands sends = tt
+
+stage-none : (byte : ℕ) → stage byte [] ≡ Reading
+unfolding stage
+stage-none byte = refl
+
+stage-one : (byte : ℕ) → stage byte (byte ∷ []) ≡ Waiting
+unfolding stage
+stage-one byte = ap (λ (b : Bool). if b then Waiting else Reading) (eq-eqb byte byte refl)
+
+stage-two : (byte : ℕ) → stage byte (byte ∷ suc byte ∷ []) ≡ Left
+unfolding stage
+stage-two byte =
+    ap (λ (b : Bool). if b then (if suc byte == byte then stage byte [] else Left) else stage byte (suc byte ∷ []))
+    (eq-eqb byte byte refl)
+    ∙ ap (λ (b : Bool). if b then stage byte [] else Left) (ne_eqb (suc byte) byte (λ e. omega (arith, e)))
+
+-- what is the stage after whatever a reader may have read is its own
+pub stage-is : (r : LeaveReader) (s : InputStage)
+    → ((bytes : List ℕ) → HasRead r bytes → s ≡ stage r.byte bytes) → s ≡ r.stage
+stage-is r s h = go r.stage refl
+  where
+    go : (x : InputStage) → r.stage ≡ x → s ≡ x
+    go Reading e = h [] (record { stage = e ∙ sym (stage-none r.byte) }) ∙ stage-none r.byte
+    go Waiting e = h (r.byte ∷ []) (record { stage = e ∙ sym (stage-one r.byte) }) ∙ stage-one r.byte
+    go Left e = h (r.byte ∷ suc r.byte ∷ []) (record { stage = e ∙ sym (stage-two r.byte) }) ∙ stage-two r.byte
 
 -- ---- the command key, and the key after it
 

@@ -3,7 +3,7 @@ use Rattle.std.specs.Prelude.{◌≡◌, ℕ, List, [], ◌++◌, Option, Some, 
 use Rattle.client_words.specs.declared.leaving.LeaveReader.{LeaveReader}
 use Rattle.client_words.specs.declared.leaving.InputStage.{InputStage}
 use Rattle.client_words.specs.declared.leaving.InputStage.TheVariants.{Reading, Left}
-use Rattle.client_words.specs.Leaving.{sent, stage}
+use Rattle.client_words.specs.Leaving.{sent}
 use Rattle.client_words.specs.Stands.{HasRead}
 use Rattle.keys.specs.Grammar.{nothing}
 use Rattle.keys.specs.Kept.{Keeping, StandsFor, rest_of}
@@ -25,9 +25,9 @@ LeavesBy (Some byte) None = ⊥
 LeavesBy (Some byte) (Some reader) = (reader.byte ≡ byte) × HasRead reader []
 
 -- how far the input was read in looking for the byte that leaves
-abbrev pub IsStage : Option LeaveReader → InputStage → Type 0
-IsStage None s = s ≡ Reading
-IsStage (Some reader) s = (bytes : List ℕ) → HasRead reader bytes → s ≡ stage reader.byte bytes
+abbrev pub stage_of : Option LeaveReader → InputStage
+stage_of None = Reading
+stage_of (Some reader) = reader.stage
 
 -- the user leaves, if there is a byte that leaves
 abbrev pub Leaves : Option LeaveReader → Option LeaveReader → Type 0

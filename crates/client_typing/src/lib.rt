@@ -4,9 +4,10 @@
 
 mod typing;
 
-ghost use Rattle.std.specs.Prelude.{◌≡◌, ◌<◌, ◌++◌, ◌∷◌, ℕ, List, codes};
+ghost use Rattle.std.specs.Prelude.{◌≡◌, ◌<◌, ◌++◌, ◌∷◌, [], ℕ, List, codes};
 ghost use Rattle.keys.specs.Grammar.{items, line, nothing};
-ghost use Rattle.client_typing.specs.Fitting.{given_keys, IsLine};
+ghost use Rattle.client_typing.specs.Assisting.{HasSent, Makes, Standing};
+ghost use Rattle.client_typing.specs.Fitting.{fit_keys, given_keys, IsLine};
 ghost use Rattle.client_typing.specs.Own.{view_command};
 
 pub use typing::Typing;
@@ -21,4 +22,14 @@ pub fn own_keys_split_nothing()
         → items (before ++ later) ≡ ((items before).0 ++ (items later).0, (items later).1) }
     ensures fit { IsLine (codes "fit") }
     ensures view { (back : ℕ) → back < 65536 → IsLine (view_command back) }
+{}
+
+/// With keys of its own a client sends each key that is typed, in order and once, but for those that it takes. What it
+/// gives of its own comes where the session waits for no key, no matter how the keys are split among reads.
+pub fn typed_keys_are_sent()
+    ensures begins { HasSent nothing 0 [] [] }
+    ensures sent { (lines : ℕ) (old new : Standing) (keys more typed sent : List ℕ) → Makes lines old keys more new
+        → HasSent old.rest old.back typed sent → HasSent new.rest new.back (typed ++ keys) (sent ++ more) }
+    ensures fit { (back : ℕ) (typed sent : List ℕ) → HasSent nothing back typed sent
+        → HasSent nothing back typed (sent ++ fit_keys) }
 {}

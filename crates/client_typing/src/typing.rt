@@ -1,11 +1,11 @@
 //! What a user types, without the byte that leaves, and the keys that a client has of its own.
 
-ghost use Rattle.std.specs.Prelude.{◌≡◌, ◌<◌, ◌↔◌, ◌+◌, ◌%◌, ◌++◌, ◌∷◌, ℕ, Bool, List, [], None, length};
+ghost use Rattle.std.specs.Prelude.{◌≡◌, ◌<◌, ◌↔◌, ◌+◌, ◌%◌, ◌==◌, ◌&&◌, ◌++◌, ◌∷◌, ℕ, Bool, List, [], None, length};
 ghost use Rattle.std.specs.Prelude.{IsTrue, IsSome, OnOk, IfOk, IfSome};
 ghost use Rattle.keys.specs.Grammar.{rest_step};
 ghost use Rattle.keys.specs.Kept.{rest_of};
-ghost use Rattle.client_typing.specs.Own.{IsPageKey, turned, view_keys};
-ghost use Rattle.client_typing.specs.Fitting.{given_keys, fit_keys, awaits_key};
+ghost use Rattle.client_typing.specs.Own.{IsPageKey, question, turned, view_keys};
+ghost use Rattle.client_typing.specs.Fitting.{IsLine, given_keys, fit_keys, awaits_key};
 
 use client_words::{Arguments, InputStage, LeaveReader, PeerFault};
 use keys::KeyReader;
@@ -29,7 +29,7 @@ pub struct Typing {
     pub back: u16,
     /// How often something was typed, counted round.
     pub reads: u32,
-    /// The help was asked for.
+    /// The key that was typed last asks for the help.
     pub asks_help: bool,
 }
 
@@ -52,12 +52,13 @@ fn after_page_key(keys: &[u8]) -> Option<(&[u8], bool)>
 }
 
 impl Typing {
-    ghost use Rattle.client_typing.specs.Assisting.{Assists, IsAssisted, Takes};
-    ghost use Rattle.client_typing.specs.Following.{LetsThrough, Follows, IsSet, IsStage, IsUnread, Leaves, LeavesBy, StaysBeside, Rests};
+    ghost use Rattle.client_typing.specs.Assisting.{Assists, Takes, after_key, at, beginning, end_of, passed, to_end};
+    ghost use Rattle.client_typing.specs.Following.{LetsThrough, Follows, IsSet, IsUnread, Leaves, LeavesBy, Rests};
+    ghost use Rattle.client_typing.specs.Following.{StaysBeside, stage_of};
 
     pub fn new(arguments: &Arguments<'_>) -> Typing
         ensures stands { IsUnread result }
-        ensures assisted { IsAssisted result [] [] }
+        ensures begins { at result ≡ beginning }
         ensures assists { result.assists ≡ arguments.now.assist }
         ensures leave { LeavesBy arguments.now.leave result.leave }
     {
@@ -79,12 +80,13 @@ impl Typing {
     /// Begins with another session, which has read no key.
     pub fn begin(&mut self)
         ensures stands { IsUnread self.new }
-        ensures assisted { IsAssisted self.new [] [] }
+        ensures begins { at self.new ≡ beginning }
         ensures same { IsSet self.old self.new }
     {
         self.keys = KeyReader::new();
         self.is_begun = false;
         self.back = 0;
+        self.asks_help = false;
     }
 
     /// Whether there is a byte that leaves, whatever the server does.
@@ -96,7 +98,7 @@ impl Typing {
 
     /// How far the input was read in looking for the byte that leaves.
     pub fn stage(&self) -> InputStage
-        ensures { IsStage self.now.leave result }
+        ensures { result ≡ stage_of self.now.leave }
     {
         match &self.leave {
             Some(leave) => leave.stage(),
@@ -107,6 +109,7 @@ impl Typing {
     /// Leaves by the byte that waits.
     pub fn leave(&mut self)
         ensures leaves { Leaves self.old.leave self.new.leave }
+        ensures left { (stage_of self.old.leave ≡ InputStage.Reading → ⊥) → stage_of self.new.leave ≡ InputStage.Left }
         ensures same { self.new ≡ record self.old { leave = self.new.leave } }
     {
         if let Some(leave) = &mut self.leave {
@@ -155,6 +158,7 @@ impl Typing {
     fn give(&mut self, line: &[u8], out: &mut Vec<u8>) -> Result<(), AllocError>
         ensures given { OnOk result (out.new.items ≡ out.old.items ++ given_keys line.now) }
         ensures follows { OnOk result (Follows self.old.keys (given_keys line.now) self.new.keys) }
+        ensures rests { IsLine line.now → Rests self.old → OnOk result (Rests self.new) }
         ensures same { StaysBeside self.old self.new }
     {
         out.extend_from_slice(b"\x01:")?;
@@ -170,8 +174,6 @@ impl Typing {
     pub fn fit(&mut self, out: &mut Vec<u8>) -> Result<(), AllocError>
         ensures given { OnOk result (out.new.items ≡ out.old.items ++ fit_keys) }
         ensures follows { OnOk result (Follows self.old.keys fit_keys self.new.keys) }
-        ensures assists { Rests self.old
-            → OnOk result (Assists self.old [] out.old.items self.new out.new.items) }
         ensures same { StaysBeside self.old self.new }
     {
         self.give(b"fit", out)
@@ -180,7 +182,7 @@ impl Typing {
     // Moves the view this many lines back.
     fn scroll(&mut self, back: u16, out: &mut Vec<u8>) -> Result<(), PeerFault>
         ensures given { OnOk result (out.new.items ≡ out.old.items ++ view_keys back) }
-        ensures follows { OnOk result (Follows self.old.keys (view_keys back) self.new.keys) }
+        ensures rests { Rests self.old → OnOk result (Rests self.new) }
         ensures back { OnOk result (self.new.back ≡ back) }
         ensures same { IsSet self.old self.new }
     {
@@ -188,15 +190,6 @@ impl Typing {
         self.give(line.as_bytes(), out)?;
         self.back = back;
         Ok(())
-    }
-
-    // Moves the view by a page.
-    fn turn(&mut self, is_up: bool, page: u16, out: &mut Vec<u8>) -> Result<(), PeerFault>
-        ensures assists { (keys : List ℕ) → Rests self.old → IsPageKey keys is_up
-            → OnOk result (Assists self.old keys out.old.items self.new out.new.items) }
-        ensures same { IsSet self.old self.new }
-    {
-        self.scroll(self.turned(is_up, page), out)
     }
 
     // How many lines the view is moved back after a page.
@@ -211,10 +204,11 @@ impl Typing {
     }
 
     // Brings lines that were moved back to the end, before a key.
-    #[tactic(auto, using(crate::proofs::Assisted::assists_none))]
     fn come_to_end(&mut self, out: &mut Vec<u8>) -> Result<(), PeerFault>
-        ensures assists { OnOk result (Assists self.old [] out.old.items self.new out.new.items) }
-        ensures end { OnOk result (Rests self.new → self.new.back ≡ 0) }
+        ensures sends { OnOk result
+            (out.new.items ≡ out.old.items ++ to_end (rest_of self.old.keys) self.old.back) }
+        ensures back { OnOk result (self.new.back ≡ end_of (rest_of self.old.keys) self.old.back) }
+        ensures reads { OnOk result (rest_of self.new.keys ≡ rest_of self.old.keys) }
         ensures same { IsSet self.old self.new }
     {
         if self.back == 0 || !self.is_at_rest() {
@@ -224,34 +218,34 @@ impl Typing {
     }
 
     // Takes a key that isn't the client's own. Lines that were moved back come to the end first.
-    fn press(&mut self, key: u8, is_last: bool, out: &mut Vec<u8>) -> Result<(), PeerFault>
-        ensures assists { OnOk result (Assists self.old (key ∷ []) out.old.items self.new out.new.items) }
+    fn press(&mut self, key: u8, out: &mut Vec<u8>) -> Result<(), PeerFault>
+        ensures sends { OnOk result (out.new.items
+            ≡ (out.old.items ++ to_end (rest_of self.old.keys) self.old.back) ++ passed (rest_of self.old.keys) key) }
+        ensures after { OnOk result (at self.new ≡ after_key (at self.old) key) }
         ensures same { IsSet self.old self.new }
     {
         self.come_to_end(out)?;
-        self.pass(key, is_last, out)
+        self.pass(key, out)
     }
 
     // Passes a key on. The command key waits for the one after it, which may ask for the help: that pair isn't sent.
-    fn pass(&mut self, key: u8, is_last: bool, out: &mut Vec<u8>) -> Result<(), PeerFault>
-        ensures assists { (Rests self.old → self.old.back ≡ 0)
-            → OnOk result (Assists self.old (key ∷ []) out.old.items self.new out.new.items) }
+    fn pass(&mut self, key: u8, out: &mut Vec<u8>) -> Result<(), PeerFault>
+        ensures sends { OnOk result (out.new.items ≡ out.old.items ++ passed (rest_of self.old.keys) key) }
+        ensures reads { (rest_step (rest_of self.old.keys) key).1 ≡ rest_of self.new.keys }
+        ensures asks { self.new.asks_help ≡ (awaits_key (rest_of self.old.keys) && key == question) }
+        ensures back { self.new.back ≡ self.old.back }
         ensures same { IsSet self.old self.new }
     {
         let is_second = self.is_begun;
         self.follow(key);
-        if self.is_begun {
+        self.asks_help = is_second && key == b'?';
+        if self.is_begun || self.asks_help {
             return Ok(());
         }
-        if !is_second {
-            out.push(key)?;
-            return Ok(());
+        if is_second {
+            out.push(1)?;
         }
-        if key == b'?' {
-            self.asks_help = is_last;
-            return Ok(());
-        }
-        out.extend_from_slice(&[1, key])?;
+        out.push(key)?;
         Ok(())
     }
 
@@ -262,27 +256,26 @@ impl Typing {
         page: u16,
         out: &mut Vec<u8>,
     ) -> Result<&'k [u8], PeerFault>
-        ensures takes { IfOk result (λ later. Takes self.old keys.now later.now out.old.items
-            self.new out.new.items) }
-        ensures fewer { 0 < length keys.now → IfOk result (λ later. length later.now < length keys.now) }
+        requires { 0 < length keys.now }
+        ensures takes { IfOk result (λ later. Takes page self.old keys.now out.old.items
+            later.now self.new out.new.items) }
+        ensures fewer { IfOk result (λ later. length later.now < length keys.now) }
         ensures same { IsSet self.old self.new }
     {
         if self.is_at_rest()
             && let Some((later, is_up)) = after_page_key(keys)
         {
-            self.turn(is_up, page, out)?;
+            self.scroll(self.turned(is_up, page), out)?;
+            self.asks_help = false;
             return Ok(later);
         }
-        let Some((key, later)) = keys.split_first() else {
-            return Ok(keys);
-        };
-        self.press(*key, later.is_empty(), out)?;
-        Ok(later)
+        self.press(keys[0], out)?;
+        Ok(&keys[1..])
     }
 
     /// Appends what is to be sent of some keys. `page` is how many lines a page has.
     pub fn assist(&mut self, keys: &[u8], page: u16, out: &mut Vec<u8>) -> Result<(), PeerFault>
-        ensures assists { OnOk result (Assists self.old keys.now out.old.items self.new out.new.items) }
+        ensures assists { OnOk result (Assists page self.old keys.now out.old.items self.new out.new.items) }
         ensures same { IsSet self.old self.new }
     {
         let mut rest = keys;

@@ -1,6 +1,32 @@
--- When a file was written.
-use Rattle.std.specs.Prelude.{◌≡◌, ◌⊎◌, ℤ, ◌<ℤ◌, ◌≤ℤ◌}
+-- When a file was written, and the mark beside a socket.
+use Rattle.std.specs.Prelude.{◌≡◌, ◌⊎◌, ℕ, ℤ, ◌<ℤ◌, ◌≤ℤ◌, Bool, false, MatchBool, List, [], ◌++◌, codes, Option, Some}
+use Rattle.client_peer.specs.declared.meeting.SessionMark.{SessionMark}
 
 -- a time, in seconds and nanoseconds, that isn't before another one
 abbrev pub IsNoEarlier : (ℤ × ℤ) → (ℤ × ℤ) → Type 0
 IsNoEarlier it other = (other.0 <ℤ it.0) ⊎ ((it.0 ≡ other.0) × (other.1 ≤ℤ it.1))
+
+-- both files are there, and one was written no earlier than the other
+abbrev pub IsAsNew : Option (ℤ × ℤ) → Option (ℤ × ℤ) → Type 0
+IsAsNew (Some it) (Some other) = IsNoEarlier it other
+IsAsNew it other = ⊥
+
+-- The answer is what the times say at which two files were written.
+pub record Compares (is_of : List ℕ → Option (ℤ × ℤ) → Type 0) (path other : List ℕ) (is_new : Bool) : Type 0 where
+  pub it : Option (ℤ × ℤ)
+  pub made : Option (ℤ × ℤ)
+  pub path_is : is_of path it
+  pub other_is : is_of other made
+  pub says : MatchBool is_new (IsAsNew it made) (IsAsNew it made → ⊥)
+
+-- the file that names the session which is served at a socket
+abbrev pub session_file : List ℕ → List ℕ
+session_file socket = socket ++ codes ".session"
+
+-- The mark is what was read of that file of this socket. It is the server's own exactly if it was written no earlier
+-- than the socket was made; one that can't be read has no name and is no server's.
+pub record IsMarkOf (has : List ℕ → List ℕ → Type 0) (lacks : List ℕ → Type 0)
+    (is_of : List ℕ → Option (ℤ × ℤ) → Type 0) (socket : List ℕ) (mark : SessionMark)
+    : Type 0 where
+  pub is : (has (session_file socket) mark.name.items × Compares is_of (session_file socket) socket mark.is_current)
+      ⊎ (lacks (session_file socket) × (mark.name.items ≡ []) × (mark.is_current ≡ false))

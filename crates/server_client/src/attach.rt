@@ -3,8 +3,9 @@
 ghost use Rattle.std.specs.Prelude.{◌≡◌, ◌⊎◌};
 ghost use Rattle.std.specs.Io.KnownBytes.{Appends};
 
+use crate::beside::warn_of_mark;
 use crate::ending::{PeerEnding, tell_end, tell_fault, tell_unseen};
-use crate::opening::{prepare, warn_of_mark, warn_of_token};
+use crate::opening::{prepare, warn_of_token};
 use crate::shared::{SharedPeer, start_thread};
 use crate::typing::{resize, type_out};
 use crate::waiting::{start, wait};

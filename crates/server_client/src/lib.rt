@@ -2,6 +2,7 @@
 #![tactic(auto)]
 
 mod attach;
+mod beside;
 mod comeback;
 mod ending;
 mod opening;
@@ -12,7 +13,7 @@ mod waiting;
 mod writing;
 
 pub use attach::client;
-use opening::mark_of;
+use beside::mark_of;
 use std::io;
 use std::io::{Read, Write};
 use std::os::unix::net::UnixStream;
@@ -33,8 +34,10 @@ impl Connects for HostRuntime {
     }
 
     fn has_session(&self, socket: &str, session: &[u8]) -> bool {
-        let mark = mark_of(self, socket);
-        mark.is_current && mark.name.as_slice() == session
+        match mark_of(self, socket) {
+            Ok(mark) => mark.is_current && mark.name.as_slice() == session,
+            Err(_) => false,
+        }
     }
 }
 

@@ -1,12 +1,10 @@
 //! The connection with its first frame, and the files that the arguments name.
 
-ghost use Rattle.std.specs.Prelude.{◌≡◌, ◌↔◌, [], IfOk, IsTrue};
-ghost use Rattle.server_client.specs.Marks.{IsNoEarlier};
+ghost use Rattle.std.specs.Prelude.{◌≡◌, [], IfOk};
 ghost use Rattle.server_client.specs.Opening.{BeginsWith, LeadsBack, LeadsTo};
 
 use crate::PeerHost;
 use attach_proto::Token;
-use client_peer::SessionMark;
 use client_words::{Arguments, PeerFault, RefusedPart, Subcommand};
 use std::alloc::Global;
 use std::fs::{File, OpenOptions};
@@ -24,9 +22,6 @@ const PATIENCE: u64 = 20;
 // How long a client that comes back lets windows go first, in milliseconds: one that comes before them
 // shows none.
 const GRACE: u64 = 300;
-
-// The most bytes of a file beside the socket that is read.
-const MOST_BESIDE: u64 = 65_536;
 
 // Modes of a file: those of its group and of all others.
 const OTHERS_READ: u32 = 0o044;
@@ -125,73 +120,6 @@ fn sizes_of<R: fs::Files<File = File>>(
         }
     }
     Ok(files)
-}
-
-// Whether a path names something that isn't read: a FIFO would wait for a writer, and a device may have no end.
-fn is_unreadable<R: fs::Files<File = File>>(rt: &R, path: &str) -> bool {
-    match fs::metadata(rt, path) {
-        Ok(found) => !found.is_file() || found.len() > MOST_BESIDE,
-        Err(_) => false,
-    }
-}
-
-/// Reads a short plain file beside the socket. None if there is none, or if it can't be read.
-pub fn read_beside<R: fs::Files<File = File> + AllocGlobal>(rt: &R, path: &str) -> Option<Vec<u8>> {
-    if is_unreadable(rt, path) {
-        return None;
-    }
-    fs::read(rt, path).ok()
-}
-
-/// Warns on standard error, if the peer is to come back, of a session's mark that isn't read.
-pub fn warn_of_mark<R: fs::Files<File = File> + AllocGlobal, E: Write>(
-    rt: &R,
-    arguments: &Arguments<'_>,
-    errors: &mut E,
-) {
-    if arguments.again > 0
-        && let Ok(path) = format!(in rt.alloc(); "{}.session", arguments.socket)
-        && is_unreadable(rt, path.as_str())
-    {
-        let _ = writeln!(
-            errors,
-            "mux: the session's name isn't read: {path} isn't a short plain file: remove it"
-        );
-    }
-}
-
-/// What stands beside the socket about the session that is served there. A mark is made anew for each server, so one
-/// that is older than the socket isn't this server's.
-pub fn mark_of<R: fs::Files<File = File> + AllocGlobal>(rt: &R, socket: &str) -> SessionMark {
-    let mut mark = SessionMark {
-        name: Vec::new(rt.alloc()),
-        is_current: false,
-    };
-    if let Ok(path) = format!(in rt.alloc(); "{socket}.session")
-        && let Some(name) = read_beside(rt, path.as_str())
-    {
-        mark.name = name;
-        mark.is_current = is_as_new(rt, path.as_str(), socket);
-    }
-    mark
-}
-
-// Whether a time isn't before another one: seconds, and nanoseconds.
-fn is_no_earlier(it: (i64, i64), other: (i64, i64)) -> bool
-    ensures { IsTrue result ↔ IsNoEarlier it other }
-{
-    it.0 > other.0 || (it.0 == other.0 && it.1 >= other.1)
-}
-
-// Whether a file was written no earlier than another one.
-fn is_as_new<R: fs::Files<File = File>>(rt: &R, path: &str, other: &str) -> bool {
-    match (fs::metadata(rt, path), fs::metadata(rt, other)) {
-        (Ok(it), Ok(other)) => is_no_earlier(
-            (it.mtime(), it.mtime_nsec()),
-            (other.mtime(), other.mtime_nsec()),
-        ),
-        _ => false,
-    }
 }
 
 /// The socket to connect to, and the first frame to send.

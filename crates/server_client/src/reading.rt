@@ -1,12 +1,10 @@
 //! Connects, and reads what the server sends.
 
-ghost use Rattle.std.specs.Prelude.{◌≡◌, ◌++◌, ℕ, List, OnOk};
-ghost use Rattle.std.specs.Io.KnownBytes.{Consumes};
-
 use crate::PeerHost;
 use crate::opening::Door;
-use crate::shared::{PeerSeat, SharedPeer, Takes, is_open};
+use crate::shared::{PeerSeat, SharedPeer, is_open};
 use attach_proto::{LONGEST, Why};
+use client_peer::Piece;
 use client_words::{PeerFault, RefusedPart};
 use std::alloc::Global;
 use std::io::{ErrorKind, Read};
@@ -32,45 +30,36 @@ fn connect<R: PeerHost + Wait>(
     Ok(stream)
 }
 
-/// The peer behind its lock, which shows nothing of what it has taken.
-#[derive(Drop)]
-struct Taker<'a, R> {
-    rt: &'a R,
-    shared: &'a SharedPeer,
-}
-
-impl<R: Wait> Takes<ConnectionEnd> for Taker<'_, R> {
-    ghost has_taken = { λ _ _. Unit {0} };
-
-    fn take(&mut self, bytes: &[u8]) -> Result<ConnectionEnd, PeerFault> {
-        let shared = self.shared;
-        let mut guard = shared.seat.lock(self.rt);
-        let PeerSeat { peer, reader, .. } = &mut *guard;
-        let was_welcome = peer.is_welcome;
-        let end = peer.take_read(shared.alloc, reader, bytes)?;
-        peer.keep_notice();
-        let is_news = peer.is_welcome != was_welcome || peer.has_notice();
-        drop(guard);
-        shared.work.notify_all();
-        if is_news {
-            shared.news.notify_all();
-        }
-        Ok(end)
+// Hears what was read. Returns how the connection ended, if it did.
+fn take<R: Wait>(
+    rt: &R,
+    shared: &SharedPeer,
+    piece: Piece<'_>,
+) -> Result<ConnectionEnd, PeerFault> {
+    let mut guard = shared.seat.lock(rt);
+    let PeerSeat { peer, reader, .. } = &mut *guard;
+    let was_welcome = peer.is_welcome;
+    let end = peer.take_read(shared.alloc, reader, piece)?;
+    // Without memory the text comes with the next draw.
+    let _ = peer.keep_notice();
+    let is_news = peer.is_welcome != was_welcome || peer.has_notice();
+    drop(guard);
+    shared.work.notify_all();
+    if is_news {
+        shared.news.notify_all();
     }
+    Ok(end)
 }
 
-// Reads once, and hands on all that was read. Returns how the connection ended, if it did.
-fn read_once<S: Read, T: Takes<ConnectionEnd>>(
+// Reads once, and hears what was read. Returns how the connection ended, if it did.
+fn read_once<R: Wait, S: Read>(
+    rt: &R,
+    shared: &SharedPeer,
     stream: &mut S,
     buffer: &mut [u8],
-    taker: &mut T,
-) -> Result<ConnectionEnd, PeerFault>
-    ensures { (came : List ℕ) → T.has_taken taker.old came
-        → OnOk result ((piece : List ℕ) × Consumes (S.remaining stream.old) (S.remaining stream.new) piece
-        × T.has_taken taker.new (came ++ piece)) }
-{
-    match stream.read(buffer) {
-        Ok(count) => taker.take(&buffer[..count]),
+) -> Result<ConnectionEnd, PeerFault> {
+    match Piece::read(stream, buffer) {
+        Ok(piece) => take(rt, shared, piece),
         Err(error) if error.kind() == ErrorKind::Interrupted => Ok(None),
         Err(error) => Err(PeerFault::Refused(RefusedPart::Stream, error)),
     }
@@ -107,11 +96,10 @@ fn read_all<R: PeerHost + Wait>(
     let stream = connect(rt, shared, door)?;
     let mut stream: &UnixStream = &stream;
     let mut buffer = vec![in shared.alloc; 0; LONGEST]?;
-    let mut taker = Taker { rt, shared };
     let mut has_hung_up = false;
     for _ in rt.forever() {
         has_hung_up = has_hung_up || wait_for_room(rt, shared, stream);
-        if let Some(end) = read_once(&mut stream, buffer.as_mut_slice(), &mut taker)? {
+        if let Some(end) = read_once(rt, shared, &mut stream, buffer.as_mut_slice())? {
             return end;
         }
     }

@@ -1,28 +1,15 @@
 //! What the threads of a peer share, and how they begin.
 
-ghost use Rattle.std.specs.Prelude.{◌++◌, ℕ, List, OnOk};
-
 use crate::PeerHost;
 use attach_proto::{Reader, Side};
 use client_peer::{Meeting, Peer, SessionMark};
-use client_words::{Arguments, PeerFault};
+use client_words::Arguments;
 use std::alloc::{AllocError, Global};
 use std::io::Write;
 use std::os::unix::net::UnixStream;
 use std::sync::{Arc, Condvar, Mutex, Wait};
 use std::thread;
 use std::thread::Threads;
-
-/// Takes what is read, and answers.
-pub trait Takes<A> {
-    /// It has taken these bytes.
-    ghost has_taken: { Self → List ℕ → Type 0 };
-
-    /// Takes the next bytes.
-    fn take(&mut self, bytes: &[u8]) -> Result<A, PeerFault>
-        ensures { (came : List ℕ) → has_taken self.old came
-            → OnOk result (has_taken self.new (came ++ bytes.now)) };
-}
 
 /// A peer with its present connection.
 #[derive(Drop)]

@@ -1,12 +1,10 @@
 //! Reads standard input and the sizes' file, and sends what they say.
 
-ghost use Rattle.std.specs.Prelude.{◌++◌, ℕ, List, OnOk};
-ghost use Rattle.std.specs.Io.KnownBytes.{Consumes};
-
-use crate::shared::{SharedPeer, Takes};
+use crate::shared::SharedPeer;
 use crate::writing::send;
 use crate::{PeerHost, Source};
 use attach_proto::LONGEST;
+use client_peer::Piece;
 use client_words::{InputStage, PeerFault, RefusedPart, SizeLines};
 use std::alloc::AllocError;
 use std::fs::File;
@@ -16,48 +14,34 @@ use std::sync::Wait;
 // The errno of a terminal whose other end has gone: it counts as the end of the input.
 const EIO: i32 = 5;
 
-/// The peer behind its lock, which shows nothing of what it has taken.
-#[derive(Drop)]
-struct Typist<'a, R> {
-    rt: &'a R,
-    shared: &'a SharedPeer,
-}
-
-impl<R: Wait> Takes<bool> for Typist<'_, R> {
-    ghost has_taken = { λ _ _. Unit {0} };
-
-    // Sends input that was read. Returns whether to go on.
-    fn take(&mut self, input: &[u8]) -> Result<bool, PeerFault> {
-        let (rt, shared) = (self.rt, self.shared);
-        let mut seat = shared.seat.lock(rt);
-        seat.peer.type_in(input)?;
-        let goes_on = !matches!(seat.peer.typing.stage(), InputStage::Left);
-        let is_stuck = seat.peer.is_stuck;
-        drop(seat);
-        // The input may have put something on the terminal.
-        shared.tell();
-        if !is_stuck {
-            send(rt, shared);
-        }
-        let seat = shared.seat.lock(rt);
-        let seat = shared.work.wait_while(rt, seat, |seat| seat.peer.is_full());
-        Ok(goes_on && !seat.peer.is_final)
+// Sends what was read. Returns whether to go on; None at the input's end.
+fn take<R: Wait>(rt: &R, shared: &SharedPeer, piece: Piece<'_>) -> Result<Option<bool>, PeerFault> {
+    let mut seat = shared.seat.lock(rt);
+    if !seat.peer.type_in(piece)? {
+        return Ok(None);
     }
+    let goes_on = !matches!(seat.peer.typing.stage(), InputStage::Left);
+    let is_stuck = seat.peer.is_stuck;
+    drop(seat);
+    // The input may have put something on the terminal.
+    shared.tell();
+    if !is_stuck {
+        send(rt, shared);
+    }
+    let seat = shared.seat.lock(rt);
+    let seat = shared.work.wait_while(rt, seat, |seat| seat.peer.is_full());
+    Ok(Some(goes_on && !seat.peer.is_final))
 }
 
-// Reads the input once, and hands on all that was read. Returns whether to go on; None at its end.
-fn read_once<I: Read, T: Takes<bool>>(
+// Reads the input once, and sends what was read. Returns whether to go on; None at its end.
+fn read_once<R: Wait, I: Read>(
+    rt: &R,
+    shared: &SharedPeer,
     input: &mut I,
     buffer: &mut [u8],
-    taker: &mut T,
-) -> Result<Option<bool>, PeerFault>
-    ensures { (came : List ℕ) → T.has_taken taker.old came
-        → OnOk result ((piece : List ℕ) × Consumes (I.remaining input.old) (I.remaining input.new) piece
-        × T.has_taken taker.new (came ++ piece)) }
-{
-    match input.read(buffer) {
-        Ok(0) => Ok(None),
-        Ok(count) => Ok(Some(taker.take(&buffer[..count])?)),
+) -> Result<Option<bool>, PeerFault> {
+    match Piece::read(input, buffer) {
+        Ok(piece) => take(rt, shared, piece),
         Err(error) if error.raw_os_error() == Some(EIO) => Ok(None),
         Err(error) if error.kind() == ErrorKind::Interrupted => Ok(Some(true)),
         Err(error) => Err(PeerFault::Refused(RefusedPart::Input, error)),
@@ -71,9 +55,8 @@ fn take_all<R: Wait, I: Source>(
     input: &mut I,
 ) -> Result<bool, PeerFault> {
     let mut buffer = vec![in shared.alloc; 0; LONGEST]?;
-    let mut typist = Typist { rt, shared };
     for _ in 0..u64::MAX {
-        match read_once(input, buffer.as_mut_slice(), &mut typist)? {
+        match read_once(rt, shared, input, buffer.as_mut_slice())? {
             Some(true) => {}
             Some(false) => return Ok(false),
             None => return Ok(true),

@@ -4,9 +4,10 @@ ghost use Rattle.std.specs.Prelude.{◌≡◌};
 ghost use Rattle.server_client.specs.Lines.{has_line};
 
 use crate::attach::Sources;
+use crate::beside::{Beside, mark_of};
 use crate::comeback::Comeback;
 use crate::ending::PeerEnding;
-use crate::opening::{Door, another_door, mark_of, read_beside};
+use crate::opening::{Door, another_door};
 use crate::reading::serve;
 use crate::shared::{SharedPeer, start_thread};
 use crate::writing::send;
@@ -43,7 +44,11 @@ fn now<R: PeerHost>(rt: &R, began: Option<Instant>) -> u64 {
 // Looks at the time. Waits if there is nothing to do.
 fn look<R: PeerHost + Wait>(rt: &R, shared: &SharedPeer, began: Option<Instant>) -> PeerTask {
     let mut seat = shared.seat.lock(rt);
-    let task = seat.peer.look(now(rt, began));
+    // Without memory it looks again.
+    let task = seat
+        .peer
+        .look(now(rt, began))
+        .unwrap_or(PeerTask::WaitShortly);
     if seat.peer.has_output() {
         shared.work.notify_all();
     }
@@ -102,7 +107,7 @@ fn is_hidden<R: Files<File = File> + AllocGlobal>(
     let (Ok(line), Ok(path)) = (line, path) else {
         return true;
     };
-    match read_beside(rt, path.as_str()) {
+    match rt.read_beside(path.as_str()) {
         Some(lines) => has_line(&lines, line.as_bytes()),
         None => true,
     }
@@ -137,7 +142,9 @@ fn reopen<R: PeerHost + Wait + Files<File = File> + AllocGlobal>(
     arguments: &Arguments<'_>,
     comeback: &mut Comeback,
 ) {
-    let mark = mark_of(rt, arguments.socket);
+    let Ok(mark) = mark_of(rt, arguments.socket) else {
+        return thread::sleep(rt, Duration::from_millis(PAUSE));
+    };
     let mut seat = shared.seat.lock(rt);
     let number = seat.peer.page_number;
     let is_hidden = is_hidden(rt, arguments, number);
@@ -165,8 +172,9 @@ fn learn<R: PeerHost + Wait + Files<File = File> + AllocGlobal>(
     tries: u32,
 ) -> bool {
     for _ in 0..tries {
-        let mark = mark_of(rt, arguments.socket);
-        if arguments.subcommand.is_attach() || mark.is_current || mark.name.is_empty() {
+        if let Ok(mark) = mark_of(rt, arguments.socket)
+            && (arguments.subcommand.is_attach() || mark.is_current || mark.name.is_empty())
+        {
             shared.learn(rt, mark);
             return true;
         }
@@ -187,7 +195,7 @@ fn come_back<R: PeerHost + Threads + Wait + Files<File = File> + AllocGlobal>(
     if comeback.lets_pass(is_pending) {
         return Ok(());
     }
-    let mark = mark_of(rt, arguments.socket);
+    let mark = mark_of(rt, arguments.socket)?;
     let met = shared.begin(rt, &mark);
     judge(rt, shared, arguments, comeback, met);
     if met != Meeting::Same {

@@ -6,7 +6,7 @@ ghost use Rattle.server_client.specs.Sending.{SendsSome};
 
 use crate::shared::SharedPeer;
 use crate::{PeerHost, Sink};
-use client_peer::Batch;
+use client_peer::{Batch, Output};
 use client_words::{PeerFault, RefusedPart};
 use std::alloc::Global;
 use std::fs::File;
@@ -16,19 +16,15 @@ use std::os::unix::net::UnixStream;
 use std::sync::{Arc, Wait};
 
 // Writes bytes to standard output, and lines to the sizes' file.
-fn write<O: Write>(
-    output: &mut O,
-    sizes: &mut Option<File>,
-    bytes: &[u8],
-    lines: &[u8],
-) -> io::Result<()>
-    ensures { OnOk result (Appends (O.contents output.old) (O.contents output.new) bytes.now) }
+fn write<O: Write>(output: &mut O, file: &mut Option<File>, waiting: Output) -> io::Result<()>
+    ensures { OnOk result (Appends (O.contents output.old) (O.contents output.new) waiting.bytes.items) }
 {
+    let Output { bytes, sizes } = waiting;
     // If the sizes' file takes no size, the peer goes on.
-    if let Some(file) = sizes {
-        let _ = file.write_all(lines);
+    if let Some(file) = file {
+        let _ = file.write_all(&sizes);
     }
-    output.write_all(bytes)?;
+    output.write_all(&bytes)?;
     output.flush()
 }
 
@@ -44,9 +40,9 @@ pub fn write_out<R: PeerHost + Wait, O: Sink>(
         let mut seat = shared
             .work
             .wait_while(rt, seat, |seat| !seat.peer.has_output());
-        let (bytes, lines) = seat.peer.begin_writing();
+        let waiting = seat.peer.begin_writing();
         drop(seat);
-        let fault = match write(output, sizes, &bytes, &lines) {
+        let fault = match write(output, sizes, waiting) {
             Ok(()) => None,
             Err(error) => Some(PeerFault::Refused(RefusedPart::Output, error)),
         };

@@ -13,7 +13,7 @@ returns-then-is_empty-clause-ok c = passes_same c.args.self.now
 
 pub returns-in-Some-clause-hears : goal.returns-in-Some-clause-hears
 returns-in-Some-clause-hears c = λ ping empty.
-    heard_read c.args.self.now c.take_all.new.self c.args.reader.now c.feed-fed.new.self c.args.bytes.now
+    heard_read c.args.self.now c.take_all.new.self c.args.reader.now c.feed-fed.new.self c.args.piece.bytes.now
     c.new-messages.result.items c.feed-fed.new.out.items c.as_slice.result.now c.feed-fed.result
     c.in_ok-why.field-0 c.new-messages.ensures.items c.as_slice.ensures.value c.in_ok-why.ensures.hears
     (Some c.ended.result)
@@ -23,7 +23,7 @@ returns-in-Some-clause-hears c = λ ping empty.
 
 pub returns-clause-hears : goal.returns-clause-hears
 returns-clause-hears c = λ ping empty.
-    heard_read c.args.self.now c.take_all.new.self c.args.reader.now c.feed-fed.new.self c.args.bytes.now
+    heard_read c.args.self.now c.take_all.new.self c.args.reader.now c.feed-fed.new.self c.args.piece.bytes.now
     c.new-messages.result.items c.feed-fed.new.out.items c.as_slice.result.now c.feed-fed.result
     c.in_ok-why.field-0 c.new-messages.ensures.items c.as_slice.ensures.value c.in_ok-why.ensures.hears None
     (ap (option_map (end_for c.args.self.now.subcommand)) (sym c.in-None.is)) c.in_ok-why.ensures.fed
@@ -31,8 +31,8 @@ returns-clause-hears c = λ ping empty.
 
 pub returns-in_err-why-clause-fault : goal.returns-in_err-why-clause-fault
 returns-in_err-why-clause-fault c =
-    if_err_given (FailsRead c.args.self.now c.args.reader.now c.args.bytes.now c.feed-fed.new.self) c.from_residual.result _
-    (fails_read c.args.self.now c.args.reader.now c.feed-fed.new.self c.args.bytes.now c.new-messages.result.items
+    if_err_given (FailsRead c.args.self.now c.args.reader.now c.args.piece.bytes.now c.feed-fed.new.self) c.from_residual.result _
+    (fails_read c.args.self.now c.args.reader.now c.feed-fed.new.self c.args.piece.bytes.now c.new-messages.result.items
     c.feed-fed.new.out.items c.as_slice.result.now _ c.new-messages.ensures.items c.as_slice.ensures.value c.feed-fed.result
     c.in_err-why.ensures.fault (λ r. (c.feed-fed.ensures.memory r).1) c.feed-fed.ensures.reads c.feed-fed.ensures.answer)
     (search rules)
