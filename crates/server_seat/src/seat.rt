@@ -105,25 +105,29 @@ pub trait SessionSeat {
     // that.
     ghost finds_full: { Self → ℕ → Bool → Type 0 };
 
-    // The seat, a window, and whether much waits for it. Only a call of `set_full` shows that all loops were
-    // told.
-    ghost sets_full: { Self → ℕ → Bool → Type 0 };
-
     // The seat, and whether the trail takes no entry any more. Only a call of `has_stopped` shows that.
     ghost stops: { Self → Bool → Type 0 };
 
-    // The seat, a user, the time, a cost, and whether the user paid it. Only a call of `pay` shows that.
-    ghost pays: { Self → User → Time → ℕ → Bool → Type 0 };
+    // What follows has the seat before one call and the seat after it. Only that call shows it, and after a second
+    // one the seat may be another.
 
-    // The seat, a user, a cost, and what came of the step. Only a call of `settle` shows that it was settled.
-    ghost settles: { Self → User → ℕ → CameOf → Type 0 };
+    // A user, the time, a cost, and whether the user paid it (`pay`).
+    ghost pays: { Self → User → Time → ℕ → Bool → Self → Type 0 };
 
-    // The seat, a user, a kind, and what `add` answered. Only a call of `add` shows that one more was counted
-    // (None).
-    ghost counts: { Self → User → Kind → Option ℕ → Type 0 };
+    // A user, a cost, and what came of the step for which it was settled (`settle`).
+    ghost settles: { Self → User → ℕ → CameOf → Self → Type 0 };
 
-    // The seat, a user and a kind. Only a call of `remove` shows that one less was counted.
-    ghost uncounts: { Self → User → Kind → Type 0 };
+    // A user, a kind, and how many a user may have if one more wasn't counted (`add`).
+    ghost counts: { Self → User → Kind → Option ℕ → Self → Type 0 };
+
+    // A user, and a kind of which one less was counted (`remove`).
+    ghost uncounts: { Self → User → Kind → Self → Type 0 };
+
+    // A window, and whether all loops were told that much waits for it (`set_full`).
+    ghost sets_full: { Self → ℕ → Bool → Self → Type 0 };
+
+    // The time was told to the trail's file (`set_time`).
+    ghost sets_time: { Self → Self → Type 0 };
 
     /// The users who may connect when the server starts.
     fn users(&self) -> &Users
@@ -136,24 +140,30 @@ pub trait SessionSeat {
 
     /// Pays `cost` thousandths of a unit for a step that a user is about to try, unless the user has
     /// to wait. Returns whether it was paid.
-    fn pay<R: Wait>(&self, rt: &R, user: UserId, now: Duration, cost: u32) -> bool
-        ensures { pays self.now user now cost result };
+    fn pay<R: Wait>(&mut self, rt: &R, user: UserId, now: Duration, cost: u32) -> bool
+        ensures paid { pays self.old user now cost result self.new }
+        ensures known { known self.new ≡ known self.old };
 
     /// Settles what was paid for a step, by what came of it.
-    fn settle<R: Wait>(&self, rt: &R, user: UserId, cost: u32, outcome: Outcome)
-        ensures { settles self.now user cost outcome };
+    fn settle<R: Wait>(&mut self, rt: &R, user: UserId, cost: u32, outcome: Outcome)
+        ensures settled { settles self.old user cost outcome self.new }
+        ensures known { known self.new ≡ known self.old };
 
     /// Counts one more client or window of a user. If the user has as many as a user may have, none
     /// is counted, and that number is returned.
-    fn add<R: Wait>(&self, rt: &R, user: UserId, kind: GuestKind) -> Option<u8>
-        ensures { counts self.now user kind result };
+    fn add<R: Wait>(&mut self, rt: &R, user: UserId, kind: GuestKind) -> Option<u8>
+        ensures counted { counts self.old user kind result self.new }
+        ensures known { known self.new ≡ known self.old };
 
     /// Counts one client or window less of a user.
-    fn remove<R: Wait>(&self, rt: &R, user: UserId, kind: GuestKind)
-        ensures { uncounts self.now user kind };
+    fn remove<R: Wait>(&mut self, rt: &R, user: UserId, kind: GuestKind)
+        ensures uncounted { uncounts self.old user kind self.new }
+        ensures known { known self.new ≡ known self.old };
 
     /// Says the time to the trail's file, for the entries of the steps that follow.
-    fn set_time<R: Clock>(&self, rt: &R);
+    fn set_time<R: Clock>(&mut self, rt: &R)
+        ensures told { sets_time self.old self.new }
+        ensures known { known self.new ≡ known self.old };
 
     /// Whether the trail has a file to which nothing is written any more, or takes as much memory as it may.
     fn has_stopped(&self) -> bool
@@ -170,8 +180,9 @@ pub trait SessionSeat {
         ensures { lets_type self.now user window result };
 
     /// Tells all loops whether much waits for a window, as its loop sees it now.
-    fn set_full<R: Wait>(&self, rt: &R, window: u32, is_full: bool)
-        ensures { sets_full self.now window is_full };
+    fn set_full<R: Wait>(&mut self, rt: &R, window: u32, is_full: bool)
+        ensures told { sets_full self.old window is_full self.new }
+        ensures known { known self.new ≡ known self.old };
 
     /// Whether much waits for a window, with what was typed into it since its loop told: what is typed next
     /// has to wait.
