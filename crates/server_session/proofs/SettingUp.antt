@@ -25,11 +25,11 @@ module _ (owner : UserId) (lines : List SetupLine) (i : ℕ) (d : SetupLine) (ol
       (mid, before, line_of (get_or lines i d), line_at lines i d lt, next.0, next.1)
 
   pub stops_here : (why : LoopsFault)
-      → IfRefused why (λ number said. IsStopped owner (line_of (get_or lines i d)) number said mid new)
-      → IfRefused why (λ number said. Stops owner (map line_of lines) number said old new)
+      → IfRefused why (λ named said. IsStopped owner (line_of (get_or lines i d)) named said mid new)
+      → IfRefused why (λ named said. Stops owner (map line_of lines) named said old new)
   stops_here fault.NoMemory stopped = tt
   stops_here (fault.Setup why) stopped = stopped
-  stops_here (fault.Refused number said) stopped = record {
+  stops_here (fault.Refused number line said) stopped = record {
     before = i;
     mid = mid;
     done = before;

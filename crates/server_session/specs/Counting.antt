@@ -1,5 +1,5 @@
 -- What is counted of users and of windows.
-use Rattle.std.specs.Prelude.{◌≡◌, ◌<◌, ◌++◌, ◌∷◌, ◌^◌, ◌-◌, ◌/◌, ℕ, Bool, true, false, [], Option, Some, None}
+use Rattle.std.specs.Prelude.{◌≡◌, ◌<◌, ◌++◌, ◌∷◌, ◌^◌, ◌+◌, ◌-◌, ◌/◌, ◌%◌, ℕ, Bool, true, false, [], Option, Some, None}
 use Rattle.std.specs.Prelude.{IfSome, if◌then◌else◌, min, option_map, unwrap_or}
 use Rattle.std.specs.Duration.{as_nanos}
 use Rattle.std.specs.declared.time.Duration.{Duration}
@@ -13,6 +13,11 @@ use Rattle.server_users.specs.declared.allowance.Outcome.{Outcome}
 use Rattle.server_users.specs.declared.tally.Tally.{Tally}
 use Rattle.server_session.specs.Loading.{IsFull, SameBut, typed_into}
 use Rattle.server_session.specs.declared.books.Books.{Books}
+use Rattle.server_session.specs.declared.books.Calls.{Calls}
+
+-- one call more
+abbrev pub once_more : Calls → Calls
+once_more calls = record { count = (calls.count + 1) % 2 ^ 64 }
 
 -- ---- steps that are paid for
 

@@ -6,7 +6,6 @@ use Rattle.hub.specs.Seats.{Told}
 use Rattle.hub.specs.Trails.{Entry}
 use Rattle.hub.specs.kept.Kept.{Kept}
 use Rattle.hub.specs.kept.Kept.TheVariants as kept
-use Rattle.server_session.specs.declared.trail_size.TheConstants.{ACT, CHECK, ENTRY}
 
 -- this percentage of the most, if it was passed: it hadn't been, and is now
 abbrev pub if_passed : ℕ → ℕ → ℕ → ℕ → Option ℕ
@@ -25,10 +24,9 @@ text_size (kept.Command user window line) = length line
 text_size (kept.Open user rows columns keep title) = length title
 text_size other = 0
 
--- the bytes of an entry, with its checks and acts
+-- the bytes of an entry in memory: 128 of its own, its text, 52 for each check, and 44 for each act
 abbrev pub entry_size : Entry → ℕ
-entry_size e =
-    min (ENTRY + text_size e.event + length e.verdicts * CHECK + length e.acts * ACT) (2 ^ 64 - 1)
+entry_size e = min (128 + text_size e.event + length e.verdicts * 52 + length e.acts * 44) (2 ^ 64 - 1)
 
 -- without memory for its copy it counts as none
 abbrev pub size_if : Option Entry → ℕ

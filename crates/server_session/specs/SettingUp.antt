@@ -1,7 +1,7 @@
 -- What a setup commands before anybody connects.
-use Rattle.std.specs.Prelude.{◌≡◌, ◌⊎◌, ℕ, zero, suc, true, List, [], length, Some, Ok, Err, slice_get}
+use Rattle.std.specs.Prelude.{◌≡◌, ◌⊎◌, ℕ, zero, suc, Bool, true, List, [], length, Some, Ok, Err, slice_get}
 use Rattle.acl.specs.declared.user_id.UserId.{UserId}
-use Rattle.program_words.specs.SetupLines.{Line, commands_in, first_fault}
+use Rattle.program_words.specs.SetupLines.{Line, commands_in, first_fault, numbered}
 use Rattle.program_words.specs.declared.setup.SetupFault.TheVariants.{NoMemory as OfMemory}
 use Rattle.session.specs.Setup.{command_of}
 use Rattle.session.specs.Texts.{text_of}
@@ -11,6 +11,7 @@ use Rattle.session.specs.refusal.Refusal.{Refusal}
 use Rattle.hub.specs.Seats.{Answers, Sitting, Told}
 use Rattle.server_session.specs.declared.loop_body.LoopsFault.{LoopsFault}
 use Rattle.server_session.specs.declared.loop_body.LoopsFault.TheVariants as fault
+use Rattle.server_session.specs.declared.setting_up.Agreement.{Agreement}
 
 -- a line was submitted: the session answered its command by one step for the seat
 pub record IsGiven (owner : UserId) (line : Line) (reply : Reply) (old new : Sitting) : Type 0 where
@@ -26,33 +27,34 @@ AreDone owner lines (suc n) old new =
     × (line : Line) × (slice_get lines n ≡ Some line) × (done : Done) × IsGiven owner line (Ok done) mid new
 
 -- the fault is that a line was refused with this text, if memory didn't run out
-abbrev pub IfRefused : LoopsFault → (ℕ → List ℕ → Type 0) → Type 0
+abbrev pub IfRefused : LoopsFault → (Line → List ℕ → Type 0) → Type 0
 IfRefused fault.NoMemory P = Unit {0}
 IfRefused (fault.Setup why) P = ⊥
-IfRefused (fault.Refused number said) P = P number said.items
+IfRefused (fault.Refused number line said) P = P (numbered number line.items) said.items
 
--- a line was submitted and refused, which its number and the refusal's text tell
-pub record IsStopped (owner : UserId) (line : Line) (number : ℕ) (said : List ℕ) (old new : Sitting) : Type 0 where
-  pub number_is : number ≡ line.number
+-- a line was submitted and refused, which is named with the refusal's text
+pub record IsStopped (owner : UserId) (line named : Line) (said : List ℕ) (old new : Sitting) : Type 0 where
+  pub named_is : named ≡ line
   pub refusal : Refusal
   pub text : said ≡ text_of refusal
   pub given : IsGiven owner line (Err refusal) old new
 
 -- the lines before one of them were done, and that one was refused
-pub record Stops (owner : UserId) (lines : List Line) (number : ℕ) (said : List ℕ) (old new : Sitting) : Type 0 where
+pub record Stops (owner : UserId) (lines : List Line) (named : Line) (said : List ℕ) (old new : Sitting) : Type 0 where
   pub before : ℕ
   pub mid : Sitting
   pub done : AreDone owner lines before old mid
   pub line : Line
   pub is_next : slice_get lines before ≡ Some line
-  pub stopped : IsStopped owner line number said mid new
+  pub stopped : IsStopped owner line named said mid new
 
 -- why the lines of a file weren't all done; nothing is submitted if one can be no command
 abbrev pub Fails : UserId → List ℕ → LoopsFault → Sitting → Sitting → Type 0
 Fails owner file fault.NoMemory old new = Unit {0}
 Fails owner file (fault.Setup why) old new =
     (new ≡ old) × ((why ≡ OfMemory) ⊎ (first_fault (commands_in file) ≡ Some why))
-Fails owner file (fault.Refused number said) old new = Stops owner (commands_in file) number said.items old new
+Fails owner file (fault.Refused number line said) old new =
+    Stops owner (commands_in file) (numbered number line.items) said.items old new
 
 -- all lines of a file were done
 abbrev pub IsSetUp : UserId → List ℕ → Sitting → Sitting → Type 0
@@ -66,3 +68,13 @@ pub record HasBegun (owner : UserId) (file : List ℕ) (seats : List Sitting) : 
   pub seat : Sitting
   pub is_first : slice_get seats 0 ≡ Some seat
   pub done : IsSetUp owner file first seat
+
+-- ---- what is told of a session that is closed
+
+-- the file whose lines it began with
+abbrev pub setup_of : Agreement → List ℕ
+setup_of agreement = agreement.setup.items
+
+-- every answer that a loop was given stands in its trail
+abbrev pub agrees : Agreement → Bool
+agrees agreement = agreement.is_so

@@ -3,7 +3,7 @@
 ghost use Rattle.std.specs.Prelude.{◌≡◌, ℕ, None, [], option_map};
 ghost use Rattle.acl.specs.declared.user_id.UserId.{UserId as User};
 ghost use Rattle.server_session.specs.Counting.{Adds, FindsFull, HasPaid, HasSettled, IsLoaded, Removes};
-ghost use Rattle.server_session.specs.Counting.{load_of, load_opened, purse_of};
+ghost use Rattle.server_session.specs.Counting.{load_of, load_opened, once_more, purse_of};
 ghost use Rattle.server_session.specs.Loading.{looked_at, with_typed};
 
 use crate::loads::Loads;
@@ -29,6 +29,24 @@ impl Limits {
     }
 }
 
+/// The calls by which a loop has counted something, counted round at 2 ^ 64: a second one shows.
+#[derive(Drop)]
+pub struct Calls {
+    count: u64,
+}
+
+impl Calls {
+    pub(crate) fn none() -> Calls {
+        Calls { count: 0 }
+    }
+
+    pub(crate) fn note(&mut self)
+        ensures { self.new ≡ once_more self.old }
+    {
+        self.count = self.count.wrapping_add(1);
+    }
+}
+
 /// What is counted. Each relation is shown by a call of its function alone, so an answer that is given
 /// without a call shows nothing.
 pub trait Counting {
@@ -36,6 +54,7 @@ pub trait Counting {
     ghost use Rattle.acl.specs.declared.user_id.UserId.{UserId as User};
     ghost use Rattle.server_seat.specs.declared.seat.GuestKind.{GuestKind as Kind};
     ghost use Rattle.server_users.specs.declared.allowance.Outcome.{Outcome as CameOf};
+    ghost use Rattle.server_session.specs.Counting.{once_more};
 
     // A user, the time in milliseconds, a cost, and whether it was paid.
     ghost pays: { Self → User → ℕ → ℕ → Bool → Self → Type 0 };
@@ -63,36 +82,44 @@ pub trait Counting {
     ghost finds_full: { Self → ℕ → Bool → Type 0 };
 
     /// Pays for a step that a user is about to try, as `Allowances::pay` does.
-    fn pay(&mut self, user: UserId, now: u64, cost: u32) -> bool
-        ensures { pays self.old user now cost result self.new };
+    fn pay(&mut self, calls: &mut Calls, user: UserId, now: u64, cost: u32) -> bool
+        ensures paid { pays self.old user now cost result self.new }
+        ensures once { calls.new ≡ once_more calls.old };
 
     /// Settles what came of a step that was paid for, as `Allowances::settle` does.
-    fn settle(&mut self, user: UserId, cost: u32, outcome: Outcome)
-        ensures { settles self.old user cost outcome self.new };
+    fn settle(&mut self, calls: &mut Calls, user: UserId, cost: u32, outcome: Outcome)
+        ensures settled { settles self.old user cost outcome self.new }
+        ensures once { calls.new ≡ once_more calls.old };
 
     /// Counts one more client or window of a user, as `Tally::add` does.
-    fn add(&mut self, user: UserId, kind: GuestKind) -> Option<u8>
-        ensures { adds self.old user kind result self.new };
+    fn add(&mut self, calls: &mut Calls, user: UserId, kind: GuestKind) -> Option<u8>
+        ensures added { adds self.old user kind result self.new }
+        ensures once { calls.new ≡ once_more calls.old };
 
     /// Counts one client or window less of a user.
-    fn remove(&mut self, user: UserId, kind: GuestKind)
-        ensures { removes self.old user kind self.new };
+    fn remove(&mut self, calls: &mut Calls, user: UserId, kind: GuestKind)
+        ensures removed { removes self.old user kind self.new }
+        ensures once { calls.new ≡ once_more calls.old };
 
     /// A window opened. Returns whether there is memory to count for it.
-    fn open(&mut self, window: u32) -> bool
-        ensures { opens self.old window result self.new };
+    fn open(&mut self, calls: &mut Calls, window: u32) -> bool
+        ensures opened { opens self.old window result self.new }
+        ensures once { calls.new ≡ once_more calls.old };
 
     /// A window is gone.
-    fn close(&mut self, window: u32)
-        ensures { closes self.old window self.new };
+    fn close(&mut self, calls: &mut Calls, window: u32)
+        ensures closed { closes self.old window self.new }
+        ensures once { calls.new ≡ once_more calls.old };
 
     /// Counts bytes that a step typed into a window.
-    fn type_in(&mut self, window: u32, bytes: usize)
-        ensures { types_in self.old window bytes self.new };
+    fn type_in(&mut self, calls: &mut Calls, window: u32, bytes: usize)
+        ensures typed { types_in self.old window bytes self.new }
+        ensures once { calls.new ≡ once_more calls.old };
 
     /// A window's loop looked at what waits for it: whether that is much.
-    fn set_full(&mut self, window: u32, is_full: bool)
-        ensures { sets_full self.old window is_full self.new };
+    fn set_full(&mut self, calls: &mut Calls, window: u32, is_full: bool)
+        ensures told { sets_full self.old window is_full self.new }
+        ensures once { calls.new ≡ once_more calls.old };
 
     /// Whether what is typed into a window has to wait.
     fn is_full(&self, window: u32) -> bool
@@ -148,44 +175,52 @@ impl Counting for Books {
 
     ghost finds_full = { λ books window full. FindsFull books window full };
 
-    fn pay(&mut self, user: UserId, now: u64, cost: u32) -> bool {
+    fn pay(&mut self, calls: &mut Calls, user: UserId, now: u64, cost: u32) -> bool {
+        calls.note();
         self.allowances.pay(user, now, cost)
     }
 
-    fn settle(&mut self, user: UserId, cost: u32, outcome: Outcome) {
+    fn settle(&mut self, calls: &mut Calls, user: UserId, cost: u32, outcome: Outcome) {
+        calls.note();
         self.allowances.settle(user, cost, outcome);
     }
 
-    fn add(&mut self, user: UserId, kind: GuestKind) -> Option<u8> {
+    fn add(&mut self, calls: &mut Calls, user: UserId, kind: GuestKind) -> Option<u8> {
+        calls.note();
         match kind {
             GuestKind::Client => self.clients.add(user),
             GuestKind::Window => self.windows.add(user),
         }
     }
 
-    fn remove(&mut self, user: UserId, kind: GuestKind) {
+    fn remove(&mut self, calls: &mut Calls, user: UserId, kind: GuestKind) {
+        calls.note();
         match kind {
             GuestKind::Client => self.clients.remove(user),
             GuestKind::Window => self.windows.remove(user),
         }
     }
 
-    fn open(&mut self, window: u32) -> bool {
+    fn open(&mut self, calls: &mut Calls, window: u32) -> bool {
+        calls.note();
         match self.loads.open(window) {
             Ok(()) => true,
             Err(_) => false,
         }
     }
 
-    fn close(&mut self, window: u32) {
+    fn close(&mut self, calls: &mut Calls, window: u32) {
+        calls.note();
         self.loads.close(window);
     }
 
-    fn type_in(&mut self, window: u32, bytes: usize) {
+    fn type_in(&mut self, calls: &mut Calls, window: u32, bytes: usize) {
+        calls.note();
         self.loads.add(window, bytes);
     }
 
-    fn set_full(&mut self, window: u32, is_full: bool) {
+    fn set_full(&mut self, calls: &mut Calls, window: u32, is_full: bool) {
+        calls.note();
         self.loads.set(window, is_full);
     }
 

@@ -12,7 +12,7 @@ mod shared_session;
 mod trail_size;
 
 pub use accounts::Accounts;
-pub use books::{Books, Counting, Limits};
+pub use books::{Books, Calls, Counting, Limits};
 pub use hub::{Begun, Seat, Trail};
 pub use loop_body::{LoopBody, LoopsFault, Start, keep};
 pub use seated::Seated;

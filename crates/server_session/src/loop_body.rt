@@ -4,7 +4,7 @@ ghost use Rattle.std.specs.Prelude.{◌≡◌, ◌<◌, ◌≤◌, IfOk, length}
 ghost use Rattle.acl.specs.declared.leaders.Edition.TheVariants.{Second};
 ghost use Rattle.session.specs.Trace.{begun as run_begun};
 ghost use Rattle.hub.specs.Seats.{StandsFor};
-ghost use Rattle.server_session.specs.SettingUp.{HasBegun};
+ghost use Rattle.server_session.specs.SettingUp.{HasBegun, setup_of};
 
 use crate::setting_up::{Agreement, Giver, SetUp, close, set_up};
 use crate::shared_session::SharedSession;
@@ -14,7 +14,7 @@ use program_words::SetupFault;
 use server_trail::Recorder;
 use server_users::Users;
 use session::Refusal;
-use std::alloc::{AllocError, Global};
+use std::alloc::Global;
 use std::marker::Brand;
 use std::sync::ledger::Blank;
 use std::sync::{Mutex, Wait};
@@ -32,13 +32,11 @@ pub enum LoopsFault {
     /// A line of the setup can be no command.
     Setup(SetupFault),
     /// The setup's line of this number was refused with this text.
-    Refused(usize, Vec<u8>),
-}
-
-impl From<AllocError> for LoopsFault {
-    fn from(_error: AllocError) -> LoopsFault {
-        LoopsFault::NoMemory
-    }
+    Refused {
+        number: usize,
+        line: Vec<u8>,
+        said: Vec<u8>,
+    },
 }
 
 /// Runs the loops. Each is given a place of type `P` to begin with.
@@ -73,10 +71,10 @@ pub trait LoopBody<P: Drop, R> {
 /// What a session begins with: who may connect, the file with the commands that are given before anybody
 /// does, and a place for each loop.
 #[derive(Drop)]
-pub struct Start<'a, P: Drop> {
+pub struct Start<P: Drop> {
     pub alloc: Global,
     pub users: Users,
-    pub setup: &'a [u8],
+    pub setup: Vec<u8>,
     pub places: Vec<P>,
 }
 
@@ -169,7 +167,7 @@ fn begin<L, P, K, R>(
     rt: &R,
     parts: Parts,
     users: Users,
-    setup: &[u8],
+    setup: Vec<u8>,
     loop_body: &K,
 ) -> Result<(RunningSession<L>, Vec<Seat<L>>, SetUp), LoopsFault>
 where
@@ -182,7 +180,8 @@ where
     requires session { (L.edition ≡ Second) × (L.owner ≡ parts.owner) }
     ensures seats { IfOk result (λ made. length made.1.items ≡ L.parts) }
     ensures users { IfOk result (λ made. made.0.shared.users ≡ users) }
-    ensures set_up { IfOk result (λ made. HasBegun parts.owner setup.now made.1.items) }
+    ensures setup { IfOk result (λ made. made.2.file ≡ setup) }
+    ensures set_up { IfOk result (λ made. HasBegun parts.owner setup.items made.1.items) }
 {
     let Parts {
         alloc,
@@ -190,7 +189,10 @@ where
         owner,
         loops,
     } = parts;
-    let left = Mutex::new(Vec::with_capacity(alloc, loops)?);
+    let Ok(left) = Vec::with_capacity(alloc, loops) else {
+        return Err(LoopsFault::NoMemory);
+    };
+    let left = Mutex::new(left);
     // A new session and a new hub are refused only if there is no memory.
     let Ok(session) = new_session::<L>(alloc, owner) else {
         return Err(LoopsFault::NoMemory);
@@ -222,6 +224,7 @@ where
     requires blank { (parts.blank.name ≡ L.name) × (parts.blank.parts ≡ L.parts)
         × (parts.loops ≡ L.parts) × (0 < parts.loops) × (parts.loops ≤ 8) }
     requires session { (L.edition ≡ Second) × (L.owner ≡ parts.owner) }
+    ensures { IfOk result (λ agreement. setup_of agreement ≡ start.setup.items) }
 {
     let Start {
         users,
@@ -244,6 +247,7 @@ where
     P: Send + Drop,
     K: LoopBody<P, R> + Sync,
     R: Clock + Threads + Wait + Sync,
+    ensures { IfOk result (λ agreement. setup_of agreement ≡ start.setup.items) }
 {
     let loops = start.places.len().clamp(1, MOST);
     let parts = Parts {

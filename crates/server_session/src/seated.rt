@@ -1,17 +1,18 @@
 //! A loop's seat in the session that it shares.
 
-ghost use Rattle.std.specs.Prelude.{◌≡◌, ◌||◌, Option, is_some, nat_lt, true, ℕ};
+ghost use Rattle.std.specs.Prelude.{◌≡◌, ◌||◌, IfSome, Option, is_some, nat_lt, true, ℕ};
 ghost use Rattle.session.specs.Trace.{happening};
 ghost use Rattle.hub.specs.Seats.{Ruled};
 ghost use Rattle.server_session.specs.Loading.{closed_by, opened_by, size_of};
-ghost use Rattle.server_session.specs.Counting.{millis_of};
+ghost use Rattle.server_session.specs.Counting.{millis_of, once_more};
 ghost use Rattle.server_session.specs.Gauging.{IsGauged};
 ghost use Rattle.server_session.specs.Outcomes.{checked, outcome_of};
 ghost use Rattle.server_trail.specs.declared.waiting.Stopped.{Stopped as Stop};
-ghost use Rattle.server_session.specs.Seating.{AreClosed, IsClosed, IsCounted, Steps, fault_of};
+ghost use Rattle.server_session.specs.Seating.{AreClosed, IsClosed, IsCounted, Steps};
+ghost use Rattle.server_session.specs.Seating.{after_closings, calls_to_count, fault_of, if_called};
 
 use crate::accounts::Accounts;
-use crate::books::Counting;
+use crate::books::{Calls, Counting};
 use crate::shared_session::LoopSession;
 use crate::trail_size::SharedSum;
 use acl::UserId;
@@ -90,12 +91,20 @@ fn closed_by(effect: &Effect) -> Option<u32>
     }
 }
 
-/// A seat in a session, with the session and its users' accounts.
+// The time in whole milliseconds.
+fn millis(now: Duration) -> u64
+    ensures { result ≡ millis_of now }
+{
+    u64::try_from(now.as_millis()).unwrap_or(u64::MAX)
+}
+
+/// A seat in a session, with the session and its users' accounts, and the calls by which it counted.
 #[derive(Drop)]
 pub struct Seated<'a, L: Begun, S, B, T = AtomicU64> {
     shared: &'a S,
     accounts: &'a Accounts<B, T>,
     seat: Seat<L>,
+    calls: Calls,
 }
 
 impl<'a, L: Begun, S, B, T> Seated<'a, L, S, B, T> {
@@ -112,6 +121,7 @@ impl<'a, L: Begun, S, B, T> Seated<'a, L, S, B, T> {
             shared,
             accounts,
             seat,
+            calls: Calls::none(),
         }
     }
 
@@ -125,42 +135,56 @@ impl<'a, L: Begun, S, B, T> Seated<'a, L, S, B, T> {
 
 impl<L: Begun, S, B: Counting, T: SharedSum> Seated<'_, L, S, B, T> {
     // Counts the entry of an answer. Returns how full the trail is by it, if that is news.
-    fn gauge(&self, answer: &Answer) -> Option<u8>
-        ensures { IsGauged (T.adds self.now.accounts.now.trail.bytes) answer.now result }
+    fn gauge(&mut self, answer: &Answer) -> Option<u8>
+        ensures gauged { IsGauged (T.adds self.old.accounts.now.trail.bytes) answer.now result }
+        ensures once { self.new ≡ record self.old { calls = if_called answer.now.place self.old.calls } }
     {
         let Some(place) = answer.place() else {
             return None;
         };
-        self.accounts.trail.add(place, answer.entry())
+        let trail = &self.accounts.trail;
+        trail.add(&mut self.calls, place, answer.entry())
     }
 
     // A window that is gone by an effect isn't counted any more.
-    fn close_by(&self, rt: &impl Wait, effect: &Effect)
-        ensures { IsClosed B.closes effect.now }
+    fn close_by(&mut self, rt: &impl Wait, effect: &Effect)
+        ensures closed { IsClosed B.closes effect.now }
+        ensures once { self.new ≡ record self.old { calls = if_called (closed_by effect.now) self.old.calls } }
     {
         if let Some(window) = closed_by(effect) {
-            self.accounts.close(rt, window);
+            self.accounts.books.lock(rt).close(&mut self.calls, window);
         }
     }
 
     // Nor are the windows that are gone by these effects.
-    fn close_all(&self, rt: &impl Wait, effects: &[(Effect, Option<UserId>)])
-        ensures { AreClosed B.closes effects.now }
+    fn close_all(&mut self, rt: &impl Wait, effects: &[(Effect, Option<UserId>)])
+        ensures closed { AreClosed B.closes effects.now }
+        ensures once { self.new ≡ record self.old { calls = after_closings effects.now self.old.calls } }
     {
         'effects: for sent in effects {
             self.close_by(rt, &sent.0);
         }
     }
 
-    // Counts what an answered event typed. A window that it opened is counted from now on.
-    fn count(&self, rt: &impl Wait, answer: &Answer)
-        ensures { IsCounted B.types_in B.opens answer.now }
+    fn count_typed(&mut self, rt: &impl Wait, answer: &Answer)
+        ensures counted { IfSome answer.now.typed
+            (λ window. (was : B) × (then : B) × B.types_in was window (size_of answer.now.event) then) }
+        ensures once { self.new ≡ record self.old { calls = if_called answer.now.typed self.old.calls } }
     {
         if let Some(window) = answer.typed() {
-            self.accounts.type_in(rt, window, size_of(answer.event()));
+            let mut books = self.accounts.books.lock(rt);
+            books.type_in(&mut self.calls, window, size_of(answer.event()));
         }
+    }
+
+    // Counts what an answered event typed. A window that it opened is counted from now on.
+    fn count(&mut self, rt: &impl Wait, answer: &Answer)
+        ensures counted { IsCounted B.types_in B.opens answer.now }
+        ensures once { self.new ≡ record self.old { calls = calls_to_count answer.now self.old.calls } }
+    {
+        self.count_typed(rt, answer);
         if let Some(window) = opened_by(answer.event(), answer.reply()) {
-            let _ = self.accounts.open(rt, window);
+            let _ = self.accounts.books.lock(rt).open(&mut self.calls, window);
         }
     }
 }
@@ -169,14 +193,16 @@ impl<L: Begun, S: LoopSession<L>, B: Counting, T: SharedSum> SessionSeat
     for Seated<'_, L, S, B, T> {
     ghost known = { λ s. S.known s.shared.now };
 
-    // The session answered by one step for this seat, or refused.
+    // The session answered by one step for this seat, or refused. What the answer says is counted once.
     ghost submits = { λ s event result left.
         Steps B.types_in B.opens (T.adds s.accounts.now.trail.bytes) (S.answers s.shared.now)
-        (S.refuses s.shared.now) s.seat event result left.seat };
+        (S.refuses s.shared.now) s.seat s.calls event result left.seat left.calls
+        × (left ≡ record s { seat = left.seat; calls = left.calls }) };
 
     // The session handed these effects to this seat. Windows that are gone by them aren't counted any more.
     ghost takes = { λ s effects told left. S.hands s.shared.now s.seat effects told left.seat
-        × AreClosed B.closes effects };
+        × AreClosed B.closes effects
+        × (left ≡ record s { seat = left.seat; calls = after_closings effects s.calls }) };
 
     // The session ruled so.
     ghost lets_type = { λ s user window may.
@@ -184,21 +210,28 @@ impl<L: Begun, S: LoopSession<L>, B: Counting, T: SharedSum> SessionSeat
 
     ghost finds_full = { λ s window is_full. (books : B) × B.finds_full books window is_full };
 
-    ghost sets_full = { λ s window is_full. (was : B) × (then : B) × B.sets_full was window is_full then };
-
     // The trail's file has stopped, or the trail takes as much memory as it may.
     ghost stops = { λ s has_stopped. (stop : Option Stop) × S.stops s.shared.now stop
         × (bytes : ℕ) × T.sums s.accounts.now.trail.bytes bytes
         × (has_stopped ≡ (is_some stop || nat_lt 2147483648 bytes)) };
 
-    ghost pays = { λ s user now cost is_paid.
-        (was : B) × (then : B) × B.pays was user (millis_of now) cost is_paid then };
+    // Each of these is one call of what is counted.
+    ghost pays = { λ s user now cost is_paid left. (left ≡ record s { calls = once_more s.calls })
+        × (was : B) × (then : B) × B.pays was user (millis_of now) cost is_paid then };
 
-    ghost settles = { λ s user cost outcome. (was : B) × (then : B) × B.settles was user cost outcome then };
+    ghost settles = { λ s user cost outcome left. (left ≡ record s { calls = once_more s.calls })
+        × (was : B) × (then : B) × B.settles was user cost outcome then };
 
-    ghost counts = { λ s user kind most. (was : B) × (then : B) × B.adds was user kind most then };
+    ghost counts = { λ s user kind most left. (left ≡ record s { calls = once_more s.calls })
+        × (was : B) × (then : B) × B.adds was user kind most then };
 
-    ghost uncounts = { λ s user kind. (was : B) × (then : B) × B.removes was user kind then };
+    ghost uncounts = { λ s user kind left. (left ≡ record s { calls = once_more s.calls })
+        × (was : B) × (then : B) × B.removes was user kind then };
+
+    ghost sets_full = { λ s window is_full left. (left ≡ record s { calls = once_more s.calls })
+        × (was : B) × (then : B) × B.sets_full was window is_full then };
+
+    ghost sets_time = { λ s left. (left ≡ s) × S.times s.shared.now };
 
     fn users(&self) -> &Users {
         self.shared.users()
@@ -223,23 +256,27 @@ impl<L: Begun, S: LoopSession<L>, B: Counting, T: SharedSum> SessionSeat
         }
     }
 
-    fn pay<R: Wait>(&self, rt: &R, user: UserId, now: Duration, cost: u32) -> bool {
-        self.accounts.pay(rt, user, now, cost)
+    fn pay<R: Wait>(&mut self, rt: &R, user: UserId, now: Duration, cost: u32) -> bool {
+        let mut books = self.accounts.books.lock(rt);
+        books.pay(&mut self.calls, user, millis(now), cost)
     }
 
-    fn settle<R: Wait>(&self, rt: &R, user: UserId, cost: u32, outcome: Outcome) {
-        self.accounts.settle(rt, user, cost, outcome);
+    fn settle<R: Wait>(&mut self, rt: &R, user: UserId, cost: u32, outcome: Outcome) {
+        let mut books = self.accounts.books.lock(rt);
+        books.settle(&mut self.calls, user, cost, outcome);
     }
 
-    fn add<R: Wait>(&self, rt: &R, user: UserId, kind: GuestKind) -> Option<u8> {
-        self.accounts.add(rt, user, kind)
+    fn add<R: Wait>(&mut self, rt: &R, user: UserId, kind: GuestKind) -> Option<u8> {
+        let mut books = self.accounts.books.lock(rt);
+        books.add(&mut self.calls, user, kind)
     }
 
-    fn remove<R: Wait>(&self, rt: &R, user: UserId, kind: GuestKind) {
-        self.accounts.remove(rt, user, kind);
+    fn remove<R: Wait>(&mut self, rt: &R, user: UserId, kind: GuestKind) {
+        let mut books = self.accounts.books.lock(rt);
+        books.remove(&mut self.calls, user, kind);
     }
 
-    fn set_time<R: Clock>(&self, rt: &R) {
+    fn set_time<R: Clock>(&mut self, rt: &R) {
         self.shared.set_time(rt);
     }
 
@@ -259,11 +296,12 @@ impl<L: Begun, S: LoopSession<L>, B: Counting, T: SharedSum> SessionSeat
         self.shared.may_type(rt, user, window).may_type()
     }
 
-    fn set_full<R: Wait>(&self, rt: &R, window: u32, is_full: bool) {
-        self.accounts.set_full(rt, window, is_full);
+    fn set_full<R: Wait>(&mut self, rt: &R, window: u32, is_full: bool) {
+        let mut books = self.accounts.books.lock(rt);
+        books.set_full(&mut self.calls, window, is_full);
     }
 
     fn is_full<R: Wait>(&self, rt: &R, window: u32) -> bool {
-        self.accounts.is_full(rt, window)
+        self.accounts.books.lock(rt).is_full(window)
     }
 }

@@ -1,16 +1,15 @@
 //! What is commanded before anybody connects, and how a session is closed.
 
-ghost use Rattle.std.specs.Prelude.{◌≡◌, ℕ, IfErr, OnOk, Ok, Some, None, false, length, map, true};
+ghost use Rattle.std.specs.Prelude.{◌≡◌, ℕ, IfErr, IfOk, OnOk, Ok, Some, None, false, length, map, true};
 ghost use Rattle.hub.specs.Closing.{IsFirstWrong, receipts_of};
 ghost use Rattle.hub.specs.Legal.{IsLegal};
 ghost use Rattle.program_words.specs.SetupLines.{line_of};
 ghost use Rattle.session.specs.Texts.{text_of};
 ghost use Rattle.session.specs.event.Done.{Done};
-ghost use Rattle.server_session.specs.SettingUp.{AreDone, Fails, IfRefused, IsGiven, IsSetUp};
-ghost use Rattle.server_session.specs.SettingUp.{IsStopped, Stops};
+ghost use Rattle.server_session.specs.SettingUp.{AreDone, Fails, IfRefused, IsGiven, IsSetUp, IsStopped, Stops, agrees};
 
 use crate::loop_body::LoopsFault;
-use crate::shared_session::SharedSession;
+use crate::shared_session::{LoopSession, SharedSession};
 use acl::UserId;
 use hub::{Begun, Hub, Seat, Trail};
 use program_words::{SetupLine, read_setup};
@@ -27,14 +26,18 @@ pub struct Giver {
     pub owner: UserId,
 }
 
-// Says that the line of this number was refused.
-fn refused(alloc: Global, number: usize, refusal: &Refusal) -> LoopsFault
-    ensures { IfRefused result (λ line said. (line ≡ number) × (said ≡ text_of refusal.now)) }
+// Says that a line was refused.
+fn refused(alloc: Global, line: &SetupLine, refusal: &Refusal) -> LoopsFault
+    ensures { IfRefused result (λ named said. (named ≡ line_of line.now) × (said ≡ text_of refusal.now)) }
 {
-    let mut said = Vec::new(alloc);
-    match refusal.text(&mut said) {
-        Ok(()) => LoopsFault::Refused(number, said),
-        Err(_) => LoopsFault::NoMemory,
+    let (mut text, mut said) = (Vec::new(alloc), Vec::new(alloc));
+    if text.extend_from_slice(line.text.as_bytes()).is_err() || refusal.text(&mut said).is_err() {
+        return LoopsFault::NoMemory;
+    }
+    LoopsFault::Refused {
+        number: line.number,
+        line: text,
+        said,
     }
 }
 
@@ -48,8 +51,8 @@ fn give<L: Begun, R: Wait>(
     line: &SetupLine,
 ) -> Result<(), LoopsFault>
     ensures done { OnOk result ((done : Done) × IsGiven giver.owner (line_of line.now) (Ok done) seat.old seat.new) }
-    ensures refused { IfErr result (λ fault. IfRefused fault (λ number said.
-        IsStopped giver.owner (line_of line.now) number said seat.old seat.new)) }
+    ensures refused { IfErr result (λ fault. IfRefused fault (λ named said.
+        IsStopped giver.owner (line_of line.now) named said seat.old seat.new)) }
 {
     let (user, command) = spoken(giver.owner, line.text.as_bytes());
     let event = Event::Command {
@@ -64,7 +67,7 @@ fn give<L: Begun, R: Wait>(
     };
     match answer.reply() {
         Ok(_) => Ok(()),
-        Err(refusal) => Err(refused(giver.alloc, line.number, refusal)),
+        Err(refusal) => Err(refused(giver.alloc, line, refusal)),
     }
 }
 
@@ -77,8 +80,8 @@ fn give_all<L: Begun, R: Wait>(
     lines: &[SetupLine],
 ) -> Result<(), LoopsFault>
     ensures done { OnOk result (AreDone giver.owner (map line_of lines.now) (length lines.now) seat.old seat.new) }
-    ensures stops { IfErr result (λ fault. IfRefused fault (λ number said.
-        Stops giver.owner (map line_of lines.now) number said seat.old seat.new)) }
+    ensures stops { IfErr result (λ fault. IfRefused fault (λ named said.
+        Stops giver.owner (map line_of lines.now) named said seat.old seat.new)) }
 {
     for line in lines {
         if let Err(fault) = give(rt, giver, shared, seat, line) {
@@ -88,57 +91,79 @@ fn give_all<L: Begun, R: Wait>(
     Ok(())
 }
 
+// Submits the lines of a file, up to the first one that is refused.
+fn give_file<L: Begun, R: Wait>(
+    rt: &R,
+    giver: Giver,
+    shared: &SharedSession<L, Recorder>,
+    seat: &mut Seat<L>,
+    file: &[u8],
+) -> Result<(), LoopsFault>
+    ensures done { OnOk result (IsSetUp giver.owner file.now seat.old seat.new) }
+    ensures fails { IfErr result (λ fault. Fails giver.owner file.now fault seat.old seat.new) }
+{
+    match read_setup(giver.alloc, file) {
+        Ok(lines) => give_all(rt, giver, shared, seat, &lines),
+        Err(fault) => Err(LoopsFault::Setup(fault)),
+    }
+}
+
 /// Submits the lines of a setup's file, up to the first one that is refused.
 pub fn set_up<L: Begun, R: Wait>(
     rt: &R,
     giver: Giver,
     shared: &SharedSession<L, Recorder>,
     seat: &mut Seat<L>,
-    file: &[u8],
+    file: Vec<u8>,
 ) -> Result<SetUp, LoopsFault>
-    ensures done { OnOk result (IsSetUp giver.owner file.now seat.old seat.new) }
-    ensures fails { IfErr result (λ fault. Fails giver.owner file.now fault seat.old seat.new) }
+    ensures file { IfOk result (λ it. it.file ≡ file) }
+    ensures done { OnOk result (IsSetUp giver.owner file.items seat.old seat.new) }
+    ensures fails { IfErr result (λ fault. Fails giver.owner file.items fault seat.old seat.new) }
 {
-    match read_setup(giver.alloc, file) {
-        Ok(lines) => match give_all(rt, giver, shared, seat, &lines) {
-            Ok(()) => Ok(SetUp(())),
-            Err(fault) => Err(fault),
-        },
-        Err(fault) => Err(LoopsFault::Setup(fault)),
+    match give_file(rt, giver, shared, seat, &file) {
+        Ok(()) => Ok(SetUp { file }),
+        Err(fault) => Err(fault),
     }
 }
 
-/// Shows that all lines of a session's setup were done.
+/// Shows that all lines of this file were done in a session.
 #[derive(Drop)]
-pub struct SetUp(());
+pub struct SetUp {
+    file: Vec<u8>,
+}
 
-/// Whether every answer that a loop was given stands in the session's trail. Only a session that was set up
-/// and is closed says so.
-#[derive(Clone, Copy, Debug)]
+/// The setup's file that a session began with, and whether every answer that a loop was given stands in the
+/// session's trail. Only a session that was set up and is closed says so.
+#[derive(Debug, Drop)]
 pub struct Agreement {
+    setup: Vec<u8>,
     is_so: bool,
 }
 
 impl Agreement {
-    /// Whether it is so.
-    pub fn holds(self) -> bool
-        ensures { result ≡ self.is_so }
+    /// Whether every answer stands in the trail.
+    pub fn holds(&self) -> bool
+        ensures { result ≡ agrees self.now }
     {
         self.is_so
     }
 }
 
 /// Closes a session that was set up, whose loops gave these seats back.
-pub fn close<L: Begun>(hub: Hub<L>, _set_up: SetUp, left: Vec<Seat<L>>) -> (Trail, Agreement)
+pub fn close<L: Begun>(hub: Hub<L>, set_up: SetUp, left: Vec<Seat<L>>) -> (Trail, Agreement)
     ensures legal { IsLegal result.0 }
+    ensures setup { result.1.setup ≡ set_up.file }
     ensures agrees { result.1.is_so ≡ true
         → IsFirstWrong result.0.entries (receipts_of left.items) None }
     ensures differs { result.1.is_so ≡ false
         → (wrong : ℕ) × IsFirstWrong result.0.entries (receipts_of left.items) (Some wrong) }
 {
+    let SetUp { file: setup } = set_up;
     let (trail, wrong) = hub.close(left);
-    match wrong {
-        Some(_) => (trail, Agreement { is_so: false }),
-        None => (trail, Agreement { is_so: true }),
+    if let Some(_) = wrong {
+        let is_so = false;
+        return (trail, Agreement { setup, is_so });
     }
+    let is_so = true;
+    (trail, Agreement { setup, is_so })
 }

@@ -25,6 +25,9 @@ pub trait TrailLines {
     // shows that it was put down.
     ghost puts: { Self → ℕ → Option Entry → Type 0 };
 
+    // Only a call of `set_time` shows that the time was said.
+    ghost times: { Self → Type 0 };
+
     // Only a call of `stopped` shows what it answered.
     ghost stops: { Self → Option Stop → Type 0 };
 
@@ -39,7 +42,8 @@ pub trait TrailLines {
         ensures line { IfOk result (IsEntrys place (option_copied entry.entry)) };
 
     /// Says the time, for the lines that follow.
-    fn set_time<R: Clock>(&self, rt: &R);
+    fn set_time<R: Clock>(&self, rt: &R)
+        ensures { times self.now };
 
     /// What shows that no line is taken any more; None as long as lines are taken.
     fn stopped(&self) -> Option<Stopped>
@@ -52,6 +56,8 @@ pub trait TrailLines {
 impl TrailLines for Recorder {
     // A lock hides the lines. That one was put down, or that the file has stopped, the answer shows.
     ghost puts = { λ recorder place entry. Unit {0} };
+
+    ghost times = { λ recorder. Unit {0} };
 
     ghost stops = { λ recorder stop. Unit {0} };
 
@@ -105,6 +111,9 @@ pub trait LoopSession<L: Begun> {
     // A user, a window, and what the session ruled on typing.
     ghost rules: { Self → User → ℕ → Ruled → Type 0 };
 
+    // The time was said to the trail's file.
+    ghost times: { Self → Type 0 };
+
     // What shows that the trail's file takes no line any more.
     ghost stops: { Self → Option Stop → Type 0 };
 
@@ -131,7 +140,8 @@ pub trait LoopSession<L: Begun> {
         ensures { rules self.now user window result };
 
     /// Says the time to the trail's file, for the entries that follow.
-    fn set_time<R: Clock>(&self, rt: &R);
+    fn set_time<R: Clock>(&self, rt: &R)
+        ensures { times self.now };
 
     /// What shows that the trail has a file to which nothing is written any more; None otherwise.
     fn stopped(&self) -> Option<Stopped>
@@ -173,29 +183,6 @@ impl<L: Begun, T: Drop> SharedSession<L, T> {
 }
 
 impl<L: Begun, T: TrailLines> SharedSession<L, T> {
-    /// Submits an event to the session. If that makes an entry, its line goes to the trail's file.
-    pub fn submit<'e>(
-        &self,
-        rt: &impl Wait,
-        seat: &mut Seat<L>,
-        event: Event<'e>,
-    ) -> Result<Answer<'e>, HubFault>
-        ensures answer { IfOk result (λ told. Answers (happening event.entry) told seat.old
-            seat.new) }
-        ensures filed { IfOk result (IsFiled T.puts self.now.recorder) }
-        ensures refused { IfErr result (IsRefused (happening event.entry)) }
-        ensures same { OnErr result (seat.new ≡ seat.old) }
-    {
-        let answer = match self.hub.submit(rt, seat, event) {
-            Ok(answer) => answer,
-            Err(fault) => return Err(fault),
-        };
-        if let (Some(recorder), Some(place)) = (&self.recorder, answer.place()) {
-            let _ = recorder.put(rt, place, answer.entry());
-        }
-        Ok(answer)
-    }
-
     // A loop has ended.
     pub(crate) fn leave(&self, rt: &impl Wait) {
         if let Some(recorder) = &self.recorder {
@@ -220,6 +207,9 @@ impl<L: Begun, T: TrailLines> LoopSession<L> for SharedSession<L, T> {
     // The hub ruled on this user and this window.
     ghost rules = { λ shared user window ruled. (ruled.user ≡ user) × (ruled.window ≡ window) };
 
+    // The time was said to the file, if there is one.
+    ghost times = { λ shared. IfSome shared.recorder T.times };
+
     // The file has stopped, if there is one.
     ghost stops = { λ shared stop. StopsAs T.stops shared.recorder stop };
 
@@ -233,7 +223,14 @@ impl<L: Begun, T: TrailLines> LoopSession<L> for SharedSession<L, T> {
         seat: &mut Seat<L>,
         event: Event<'e>,
     ) -> Result<Answer<'e>, HubFault> {
-        SharedSession::submit(self, rt, seat, event)
+        let answer = match self.hub.submit(rt, seat, event) {
+            Ok(answer) => answer,
+            Err(fault) => return Err(fault),
+        };
+        if let (Some(recorder), Some(place)) = (&self.recorder, answer.place()) {
+            let _ = recorder.put(rt, place, answer.entry());
+        }
+        Ok(answer)
     }
 
     fn take<R: Wait>(&self, rt: &R, seat: &mut Seat<L>) -> (Handed, bool) {

@@ -2,8 +2,10 @@
 
 ghost use Rattle.std.specs.Prelude.{◌≡◌, ◌≤◌, ℕ, nat_lt};
 ghost use Rattle.std.specs.Option.{option_copied};
+ghost use Rattle.server_session.specs.Counting.{once_more};
 ghost use Rattle.server_session.specs.Gauging.{Gauges, entry_size, if_passed, mark_between, text_size};
 
+use crate::books::Calls;
 use acl::Act;
 use hub::{FULL, Kept, TrailEntry};
 use session::Verdict;
@@ -68,7 +70,8 @@ fn entry_size(entry: &TrailEntry) -> u64
 
 /// A number to which threads add. Each relation is shown by a call of its function alone.
 pub trait SharedSum {
-    ghost use Rattle.std.specs.Prelude.{ℕ};
+    ghost use Rattle.std.specs.Prelude.{◌≡◌, ℕ};
+    ghost use Rattle.server_session.specs.Counting.{once_more};
 
     // What was added, and the sum before that.
     ghost adds: { Self → ℕ → ℕ → Type 0 };
@@ -76,8 +79,9 @@ pub trait SharedSum {
     ghost sums: { Self → ℕ → Type 0 };
 
     /// Adds to the sum. Returns what it was before.
-    fn add(&self, more: u64) -> u64
-        ensures { adds self.now more result };
+    fn add(&self, calls: &mut Calls, more: u64) -> u64
+        ensures added { adds self.now more result }
+        ensures once { calls.new ≡ once_more calls.old };
 
     fn sum(&self) -> u64
         ensures { sums self.now result };
@@ -89,7 +93,8 @@ impl SharedSum for AtomicU64 {
 
     ghost sums = { λ sum now. Unit {0} };
 
-    fn add(&self, more: u64) -> u64 {
+    fn add(&self, calls: &mut Calls, more: u64) -> u64 {
+        calls.note();
         self.fetch_add(more, Ordering::SeqCst)
     }
 
@@ -115,8 +120,9 @@ impl TrailSize {
 impl<T: SharedSum> TrailSize<T> {
     /// Counts the entry at this place. Returns the percentage of the most entries or bytes that the
     /// trail passes by it, if that is news.
-    pub fn add(&self, place: usize, entry: Option<&TrailEntry>) -> Option<u8>
-        ensures { Gauges (T.adds self.now.bytes) place (option_copied entry.entry) result }
+    pub fn add(&self, calls: &mut Calls, place: usize, entry: Option<&TrailEntry>) -> Option<u8>
+        ensures gauges { Gauges (T.adds self.now.bytes) place (option_copied entry.entry) result }
+        ensures once { calls.new ≡ once_more calls.old }
     {
         let place = place as u64;
         let by_entries = mark_between(place, place.saturating_add(1), FULL as u64);
@@ -124,7 +130,7 @@ impl<T: SharedSum> TrailSize<T> {
             Some(entry) => entry_size(entry),
             None => 0,
         };
-        let before = self.bytes.add(size);
+        let before = self.bytes.add(calls, size);
         by_entries.or(mark_between(before, before.saturating_add(size), MOST))
     }
 

@@ -267,7 +267,7 @@ pub fn perform(rt: &impl System, loops: usize, acts: &[StageAct]) -> Result<Seen
     let start = Start {
         alloc,
         users,
-        setup: &[],
+        setup: Vec::new(alloc),
         places,
     };
     let playing = Playing {

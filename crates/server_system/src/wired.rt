@@ -1,6 +1,10 @@
 //! A connection that a loop waits for.
 
-ghost use Rattle.std.specs.Prelude.{◌≡◌, OnOk};
+ghost use Rattle.std.specs.Prelude.{◌≡◌, IfErr, IsTrue, Ok, OnOk, true};
+ghost use Rattle.std.specs.Io.{WritesAtMost};
+ghost use Rattle.std.specs.Io.KnownBytes.{WriteAppends};
+ghost use Rattle.std.specs.IoError.{error_kind};
+ghost use Rattle.std.specs.declared.io.ErrorKind.TheVariants.{WouldBlock};
 ghost use Rattle.server_system.specs.Waiting.{awaits_after};
 
 use libc::net as c;
@@ -35,11 +39,16 @@ pub fn bound_unread<S: AsRawFd>(stream: &S) {
 
 /// A stream that a loop waits for.
 pub trait PolledStream: Read + Write {
-    ghost use Rattle.std.specs.Prelude.{◌≡◌};
+    ghost use Rattle.std.specs.Prelude.{◌≡◌, Bool, OnOk};
+
+    // The stream, whether its loop is woken when it takes bytes again, and the stream after that was asked for. Only a
+    // call of `wake_for` shows it.
+    ghost wakes: { Self → Bool → Self → Type 0 };
 
     /// The loop is woken when there is something to read and, if that is asked for, when the stream takes
     /// bytes again.
     fn wake_for(&mut self, room: bool) -> io::Result<()>
+        ensures wakes { OnOk result (wakes self.old room self.new) }
         ensures written { Self.contents self.new ≡ Self.contents self.old }
         ensures unread { Self.remaining self.new ≡ Self.remaining self.old };
 
@@ -74,6 +83,9 @@ impl Write for PeerSocket<'_> {
 }
 
 impl PolledStream for PeerSocket<'_> {
+    // What the poll waits for, no clause can say.
+    ghost wakes = { λ socket room left. Unit {0} };
+
     fn wake_for(&mut self, room: bool) -> io::Result<()> {
         let interest = if room {
             Interest::READABLE | Interest::WRITABLE
@@ -100,6 +112,8 @@ pub struct Wired<S: PolledStream + Drop> {
     stream: S,
     awaits_room: bool,
     is_widened: bool,
+    // The poll was asked for that.
+    ghost woken: { awaits_room ≡ true → ∥ ((was : S) × (then : S) × S.wakes was true then) ∥₁ },
 }
 
 // Whether a connection that was given this many bytes has to take bytes again, by what came of it; None if that is
@@ -145,19 +159,21 @@ impl<S: PolledStream + Drop> Wired<S> {
         }
     }
 
-    // Waits until the connection takes bytes again, or doesn't.
-    fn await_room(&mut self, awaits_room: bool) -> io::Result<()>
-        ensures awaits { OnOk result (self.new.awaits_room ≡ awaits_room) }
+    // Waits until the connection takes bytes again, or doesn't. Returns whether that is so.
+    fn await_room(&mut self, awaits_room: bool) -> bool
+        ensures awaits { IsTrue result → self.new.awaits_room ≡ awaits_room }
         ensures written { S.contents self.new.stream ≡ S.contents self.old.stream }
     {
         if self.awaits_room == awaits_room {
-            return Ok(());
+            return true;
         }
-        let woken = self.stream.wake_for(awaits_room);
-        if woken.is_ok() {
-            self.awaits_room = awaits_room;
+        match self.stream.wake_for(awaits_room) {
+            Ok(()) => {
+                self.awaits_room = awaits_room;
+                true
+            }
+            Err(_) => false,
         }
-        woken
     }
 }
 
@@ -173,16 +189,20 @@ impl<S: PolledStream + Drop> Write for Wired<S> {
     ghost contents = { λ wired. S.contents wired.stream };
 
     // What the stream took counts as written, even if the poll refuses to wake the loop for less.
-    fn write(&mut self, buf: &[u8]) -> io::Result<usize> {
+    fn write(&mut self, buf: &[u8]) -> io::Result<usize>
+        ensures bound { WritesAtMost result buf.now }
+        ensures bytes { WriteAppends (S.contents self.old.stream) (S.contents self.new.stream) result buf.now }
+        // If it takes no bytes for now, its loop is woken when it does.
+        ensures blocked { IfErr result (λ error. error_kind error ≡ WouldBlock → self.new.awaits_room ≡ true) }
+    {
         self.suit(buf.len() > LARGE);
         let written = self.stream.write(buf);
-        if let Some(awaits_room) = awaits_after(written, buf.len()) {
-            let woken = self.await_room(awaits_room);
-            if let (Err(_), Err(error)) = (&written, woken) {
-                return Err(error);
+        match awaits_after(written, buf.len()) {
+            Some(awaits_room) if !self.await_room(awaits_room) && written.is_err() => {
+                Err(io::Error::from(ErrorKind::NotConnected))
             }
+            _ => written,
         }
-        written
     }
 
     fn flush(&mut self) -> io::Result<()> {

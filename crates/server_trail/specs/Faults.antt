@@ -5,6 +5,7 @@ use Rattle.server_trail.specs.declared.disk.StopCause.{StopCause}
 use Rattle.server_trail.specs.declared.disk.StopCause.TheVariants as stop
 use Rattle.server_trail.specs.declared.journal.JournalFault.{JournalFault}
 use Rattle.server_trail.specs.declared.journal.JournalFault.TheVariants as fault
+use Rattle.server_trail.specs.declared.reading.ReadBack.{ReadBack}
 
 -- of a file that had to stop for its disk, from the error of its last write
 abbrev pub stopped_by : Option Error → JournalFault
@@ -24,8 +25,8 @@ fault_of (Some stop.Memory) ended refused unsynced = Some fault.Memory
 fault_of (Some stop.Disk) ended refused unsynced = Some (stopped_by refused)
 fault_of None ended refused unsynced = lost_by ended refused unsynced
 
--- of a file that was read back
-abbrev pub read_as : Result Bool Error → Option JournalFault
-read_as (Ok true) = None
-read_as (Ok false) = Some fault.Differs
-read_as (Err error) = Some (fault.NotRead (record { 0 = error }))
+-- of a file that is to be read back: what shows that it was
+abbrev pub read_as : Result (Option ReadBack) Error → Result ReadBack JournalFault
+read_as (Ok (Some back)) = Ok back
+read_as (Ok None) = Err fault.Differs
+read_as (Err error) = Err (fault.NotRead (record { 0 = error }))

@@ -2,4 +2,5 @@ pub mod Merging
 pub mod Files
 pub mod Faults
 pub mod Disks
+pub mod Journals
 pub mod Waiting

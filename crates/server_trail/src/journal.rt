@@ -1,11 +1,12 @@
 //! The file to which a server writes its session's trail.
 
-ghost use Rattle.std.specs.Prelude.{◌≡◌};
+ghost use Rattle.std.specs.Prelude.{◌≡◌, IfOk};
 ghost use Rattle.server_trail.specs.Faults.{fault_of, lost_by, read_as, stopped_by};
+ghost use Rattle.server_trail.specs.Journals.{journal_path};
 
 use crate::disk::{Disk, DiskWatch, StopCause, WatchedDisk, last_cause};
 use crate::file::{TrailFile, begin, header_of};
-use crate::reading::is_trail;
+use crate::reading::{ReadBack, read_back};
 use crate::recorder::Recorder;
 use crate::waiting::Written;
 use acl::{Edition, UserId};
@@ -98,13 +99,8 @@ fn lost_by(
     }
     match unsynced {
         Some(error) => Some(JournalFault::Unsynced(SystemError(error))),
-        None => {
-            if is_ended {
-                None
-            } else {
-                Some(JournalFault::Unended)
-            }
-        }
+        None if is_ended => None,
+        None => Some(JournalFault::Unended),
     }
 }
 
@@ -123,19 +119,14 @@ fn fault_of(
     }
 }
 
-// The fault of a file that was read back.
-fn read_as(is_whole: io::Result<bool>) -> Option<JournalFault>
-    ensures { result ≡ read_as is_whole }
+// What came of reading a file back.
+fn read_as(back: io::Result<Option<ReadBack>>) -> Result<ReadBack, JournalFault>
+    ensures { result ≡ read_as back }
 {
-    match is_whole {
-        Ok(is_whole) => {
-            if is_whole {
-                None
-            } else {
-                Some(JournalFault::Differs)
-            }
-        }
-        Err(error) => Some(JournalFault::NotRead(SystemError(error))),
+    match back {
+        Ok(Some(back)) => Ok(back),
+        Ok(None) => Err(JournalFault::Differs),
+        Err(error) => Err(JournalFault::NotRead(SystemError(error))),
     }
 }
 
@@ -152,13 +143,13 @@ pub struct Journal<'a> {
     ended: Condvar,
 }
 
-// Whether nothing is written to the file any more, and its fault, unless it was read back and is the trail.
+// Whether nothing is written to the file any more, and what came of it.
 #[derive(Drop)]
 struct JournalEnd {
     is_over: bool,
     // It was written to its end, and is to be read back.
     is_ended: bool,
-    fault: Option<JournalFault>,
+    outcome: Result<ReadBack, JournalFault>,
 }
 
 // Makes a new file, which only its owner may read and write.
@@ -178,10 +169,11 @@ impl<'a> Journal<'a> {
         alloc: Global,
         path: &'a str,
         owner: UserId,
-    ) -> Result<Journal<'a>, JournalFault> {
-        let header = match header_of(&files, alloc, owner, VERSION) {
-            Ok(header) => header,
-            Err(_) => return Err(JournalFault::Memory),
+    ) -> Result<Journal<'a>, JournalFault>
+        ensures { IfOk result (λ journal. journal_path journal ≡ path.entry.now) }
+    {
+        let Ok(header) = header_of(&files, alloc, owner, VERSION) else {
+            return Err(JournalFault::Memory);
         };
         let mut file = create(&files, path).map_err(JournalFault::of_making)?;
         if let Err(error) = begin(alloc, &mut file, &header) {
@@ -197,7 +189,7 @@ impl<'a> Journal<'a> {
             end: Mutex::new(JournalEnd {
                 is_over: false,
                 is_ended: false,
-                fault: Some(JournalFault::Unended),
+                outcome: Err(JournalFault::Unended),
             }),
             ended: Condvar::new(),
         })
@@ -249,7 +241,7 @@ impl<'a> Journal<'a> {
         let (refused, unsynced) = (disk.refused(), disk.unsynced());
         let mut end = self.end.lock(rt);
         match fault_of(stopped, is_ended, refused, unsynced) {
-            Some(fault) => end.fault = Some(fault),
+            Some(fault) => end.outcome = Err(fault),
             None => end.is_ended = true,
         }
         end.is_over = true;
@@ -266,8 +258,13 @@ impl<'a> Journal<'a> {
         end.is_over
     }
 
-    // Reads the file back. The answer is whether it is the trail of a session of this edition and owner.
-    fn is_whole(&self, edition: Edition, owner: UserId, entries: &EntryList) -> io::Result<bool> {
+    // Reads the file back, which is to be the trail of a session of this edition and owner.
+    fn read_back(
+        &self,
+        edition: Edition,
+        owner: UserId,
+        entries: &EntryList,
+    ) -> io::Result<Option<ReadBack>> {
         let header = Header {
             edition,
             owner,
@@ -276,7 +273,7 @@ impl<'a> Journal<'a> {
         };
         let file = fs::open(&self.files, self.path)?;
         let mut reader = BufReader::new(self.alloc, file)?;
-        is_trail(self.alloc, &mut reader, &header, entries)
+        read_back(self.alloc, &mut reader, &header, entries)
     }
 
     /// Reads the file back, if it was written to its end, and compares it with the session's trail:
@@ -284,12 +281,13 @@ impl<'a> Journal<'a> {
     pub fn compare(&self, rt: &impl Wait, edition: Edition, owner: UserId, entries: &EntryList) {
         let mut end = self.end.lock(rt);
         if end.is_ended {
-            end.fault = read_as(self.is_whole(edition, owner, entries));
+            end.outcome = read_as(self.read_back(edition, owner, entries));
         }
     }
 
-    /// The fault of the file, if it has one: it has none only after it was read back. The next call gives none.
-    pub fn fault(&self, rt: &impl Wait) -> Option<JournalFault> {
-        self.end.lock(rt).fault.take()
+    /// What shows that the file was read back, or its fault; after the first call, that it has no end.
+    pub fn outcome(&self, rt: &impl Wait) -> Result<ReadBack, JournalFault> {
+        let mut end = self.end.lock(rt);
+        std::mem::replace(&mut end.outcome, Err(JournalFault::Unended))
     }
 }

@@ -14,7 +14,7 @@ pub use disk::{DiskNews, DiskWatch, StopCause};
 pub use file::{TrailFile, begin, header_of};
 pub use journal::{Journal, JournalFault};
 pub use merge::Merge;
-pub use reading::is_trail;
+pub use reading::{ReadBack, read_back};
 pub use recorder::Recorder;
 pub use trail_lines::Cause;
 pub use waiting::{MOST, PutLine, Stopped, Written};

@@ -1,6 +1,6 @@
 //! A trail's file that is read back.
 
-ghost use Rattle.std.specs.Prelude.{◌≡◌, ◌∷◌, ◌++◌, [], ℕ, List, Some, true, IfOk, take};
+ghost use Rattle.std.specs.Prelude.{◌≡◌, ◌∷◌, ◌++◌, [], ℕ, List, Some, true, IfOk, IsSome, take};
 ghost use Rattle.trail_lines.specs.Entries.{line_of};
 ghost use Rattle.trail_lines.specs.Heading.{header_text};
 ghost use Rattle.server_trail.specs.Files.{Reads, Cuts, ReadsLines, IsTrailOf, IsLastOf};
@@ -92,27 +92,30 @@ fn are_lines<R: BufRead>(
     Ok(true)
 }
 
-/// Whether a file has exactly this trail: the header's first line, a line for each entry in its place, a
-/// last line that counts them, and nothing after it. `Err` if the file can't be read or memory is
-/// refused.
-pub fn is_trail<R: BufRead>(
+/// Shows that a file was read back, and is the trail of its session.
+#[derive(Debug, Drop)]
+pub struct ReadBack(());
+
+/// Reads back a file that is to have exactly this trail: the header's first line, a line for each entry in its
+/// place, a last line that counts them, and nothing after it. `Err` if the file can't be read or memory is refused.
+pub fn read_back<R: BufRead>(
     alloc: Global,
     reader: &mut R,
     header: &Header,
     entries: &EntryList,
-) -> io::Result<bool>
-    ensures { IfOk result (λ is. is ≡ true
+) -> io::Result<Option<ReadBack>>
+    ensures { IfOk result (λ back. IsSome back
         → Reads (R.remaining reader.old) (IsTrailOf header.now entries.now.entries)) }
 {
     let mut line = Vec::new(alloc);
     if !has_line(reader, &mut line)? || !is_first(alloc, line.as_slice(), header)? {
-        return Ok(false);
+        return Ok(None);
     }
     if !are_lines(reader, &mut line, entries)? || !has_line(reader, &mut line)? {
-        return Ok(false);
+        return Ok(None);
     }
-    if !is_last(alloc, line.as_slice(), entries.len() as u64)? {
-        return Ok(false);
+    if !is_last(alloc, line.as_slice(), entries.len() as u64)? || !is_over(reader, &mut line)? {
+        return Ok(None);
     }
-    is_over(reader, &mut line)
+    Ok(Some(ReadBack(())))
 }

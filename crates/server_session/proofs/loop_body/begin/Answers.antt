@@ -7,6 +7,6 @@ returns-in-Ok-set_up-clause-set_up g c =
     let parts = c.requires.blank.2 in
     let some = c.requires.blank.3 in
     let seats = c.in-Ok-new.ensures.seats.0 in
-    begun_by c.args.parts.owner c.args.setup.now c.in-Ok-new.seats.items c.index_mut-first.result.now
+    begun_by c.args.parts.owner c.args.setup.items c.in-Ok-new.seats.items c.index_mut-first.result.now
     c.ask_for_entries.new.self c.set_up.new.seat (omega arith) c.in-Ok-new.ensures.seats.1
     c.index_mut-first.ensures.value c.ask_for_entries.ensures c.in-Ok-set_up.ensures.done
