@@ -7,7 +7,7 @@ use std::sync::Wait;
 use std::thread::Threads;
 use web_client::{Loopback, Site};
 use web_options::{Listen, WebFault, WebOptions, look_for_paths, origins_of, site_of};
-use web_relay::WebListener;
+use web_relay::{Stream, WebListener};
 use web_turn::{Bridge, BridgeOptions, serve, start_log};
 
 /// The system's number for a kind of addresses that it doesn't have.
@@ -34,7 +34,7 @@ fn serve_at<R: Host + Threads + Wait + Eprint, O: Write>(
         choice: options.choice(rt.alloc())?,
         log,
     };
-    let bridge = Bridge::new(rt.alloc(), site, asked)?;
+    let bridge = Bridge::<Stream>::new(rt.alloc(), site, asked)?;
     writeln!(output, "mux-web: ready")?;
     output.flush()?;
     Ok(serve(rt, bridge, listeners)?)

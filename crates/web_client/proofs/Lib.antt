@@ -1,4 +1,3 @@
-pub mod Writing
 pub mod Tokens
 pub mod Adding
 pub mod Login

@@ -1,5 +1,5 @@
 -- What a browser asks of the server.
-use Rattle.std.specs.Prelude.{◌≡◌, ◌⊎◌, ℕ, ◌+◌, ◌-◌, ◌*◌, ◌%◌, max, min, List, [], ◌∷◌, ◌++◌}
+use Rattle.std.specs.Prelude.{◌≡◌, ◌⊎◌, Bool, true, ℕ, ◌+◌, ◌-◌, ◌*◌, ◌%◌, max, min, List, [], ◌∷◌, ◌++◌}
 use Rattle.std.specs.Prelude.{length, take, drop, slice_index, None, IsUtf8}
 use Rattle.std.specs.List.{flat_map, AllByRecursion}
 use Rattle.acl.specs.Names.{named_by}
@@ -9,7 +9,10 @@ use Rattle.attach_proto.specs.Spelling.{spelling}
 use Rattle.web_client.specs.declared.client.WebClient.{WebClient}
 use Rattle.web_client.specs.declared.identity.Identity.{Identity}
 use Rattle.web_client.specs.declared.identity.Identity.TheVariants.{Nobody, Own, Watching, Link, Unknown, Left}
-use Rattle.web_client.specs.Sending.{IsRest}
+use Rattle.web_client.specs.declared.stream.Arrival.{Arrival}
+use Rattle.web_client.specs.declared.stream.Arrival.TheVariants.{End}
+use Rattle.web_client.specs.declared.stream.Wrote.{Wrote}
+use Rattle.web_client.specs.Streaming.{HearsRead, WritesOut}
 use Rattle.web_page.specs.Hearing.{WebDisplay, IsBlank, IsResized}
 
 -- ---- messages
@@ -113,14 +116,18 @@ Keeps (Link secret) after = after ≡ Link secret
 Keeps Unknown after = after ≡ Unknown
 Keeps Left after = after ≡ Left
 
--- what waits for the server may be written, and nothing else changes
-abbrev pub AsksOnly : Identity → Identity → Type 0
-AsksOnly Nobody after = after ≡ Nobody
-AsksOnly (Own before) after = IsOwn after (λ c. (c.display ≡ before.display) × IsRest before.outgoing c.outgoing)
-AsksOnly (Watching rows columns) after = after ≡ Watching rows columns
-AsksOnly (Link secret) after = after ≡ Link secret
-AsksOnly Unknown after = after ≡ Unknown
-AsksOnly Left after = after ≡ Left
+-- One read of the server was made for its own client, which heard what came. Without a client the connection ends.
+abbrev pub HearsFor : {S : Type 0} → (S → List ℕ → Arrival → S → Type 0) → S → Identity → Arrival → S → Identity
+    → Type 0
+HearsFor reads stream (Own before) came left after =
+    IsOwn after (λ c. (c.outgoing ≡ before.outgoing) × HearsRead reads stream before.display came left c.display)
+HearsFor reads stream other came left after = (after ≡ other) × (left ≡ stream) × (came ≡ End)
+
+-- what waits of its own client was written
+abbrev pub AsksFor : {S : Type 0} → (S → List ℕ → Wrote → S → Type 0) → S → Identity → Bool → S → Identity → Type 0
+AsksFor writes stream (Own before) whole left after =
+    IsOwn after (λ c. (c.display ≡ before.display) × WritesOut writes stream before.outgoing whole left c.outgoing)
+AsksFor writes stream other whole left after = (after ≡ other) × (left ≡ stream) × (whole ≡ true)
 
 -- ---- any number of messages
 

@@ -1,4 +1,4 @@
-pub mod Sending
+pub mod Streaming
 pub mod Asking
 pub mod Judging
 pub mod Frames

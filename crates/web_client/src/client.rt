@@ -1,21 +1,18 @@
 //! A client of the server: the frames that go to it, and what came from it.
 
-ghost use Rattle.std.specs.Prelude.{◌≡◌, ◌≢◌, ◌++◌, ◌≤◌, ℕ, List, length, take, drop, IfOk, OnOk, OnErr, IfErr};
-ghost use Rattle.std.specs.IoError.{error_kind};
-ghost use Rattle.std.specs.Io.KnownBytes.{Keeps};
+ghost use Rattle.std.specs.Prelude.{◌≡◌, ◌++◌, ◌≤◌, ℕ, List, length, take, drop, IfOk, OnOk, OnErr, IfErr};
 ghost use Rattle.std.specs.String.{string_bytes};
 ghost use Rattle.attach_proto.specs.Spelling.{spelling, IsSpellable};
 ghost use Rattle.web_page.specs.Hearing.{IsBlank, IsResized};
 ghost use Rattle.web_client.specs.Asking.{IsLogin};
 ghost use Rattle.web_client.specs.Judging.{IsTyped, FailsFor};
-ghost use Rattle.web_client.specs.Sending.{IsSent, IsRest, HearsNext};
+ghost use Rattle.web_client.specs.Streaming.{HearsRead, WritesOut};
 ghost use Rattle.web_client.specs.declared.client.WebClient.{WebClient as Attached};
 
 use crate::outgoing::Outgoing;
+use crate::stream::{Arrival, WebStream};
 use attach_proto::{Bytes, Message, Text, Token, WriteFault, write_message};
 use std::alloc::Global;
-use std::io;
-use std::io::{ErrorKind, Read, Write};
 use web_page::{ClientFault, WebDisplay};
 use web_requests::Watcher;
 
@@ -122,31 +119,24 @@ impl WebClient {
         self.ask(&Message::Detach)
     }
 
-    /// Reads the server once, and hears the bytes that this read gave. If the stream has a fault, the error is
-    /// `InvalidData`.
-    pub(crate) fn receive<S: Read>(
-        &mut self,
-        server: &mut S,
-        buffer: &mut [u8],
-    ) -> io::Result<usize>
-        ensures hears { OnOk result (HearsNext (S.remaining server.old) self.old.display (S.remaining server.new)
-            self.new.display) }
-        ensures unheard { IfErr result (λ error. error_kind error ≢ ErrorKind.InvalidData
-            → (self.new ≡ self.old) × Keeps (S.remaining server.old) (S.remaining server.new)) }
+    /// Reads the server once, and hears what came. If it can't be heard the connection ends.
+    pub(crate) fn receive<S: WebStream>(&mut self, server: &mut S, buffer: &mut [u8]) -> Arrival
+        ensures hears { HearsRead S.reads server.old self.old.display result server.new self.new.display }
         ensures asks { self.new.outgoing ≡ self.old.outgoing }
     {
-        let count = server.read(buffer)?;
+        let (count, arrival) = server.read_once(buffer);
+        if count == 0 {
+            return arrival;
+        }
         match self.display.hear_all(&buffer[..count]) {
-            Ok(()) => Ok(count),
-            Err(_) => Err(io::Error::from(ErrorKind::InvalidData)),
+            Ok(()) => arrival,
+            Err(_) => Arrival::End,
         }
     }
 
-    /// Writes the bytes that wait, as far as the server takes them.
-    pub(crate) fn send_all<W: Write>(&mut self, server: &mut W) -> io::Result<()>
-        ensures sent { (put : List ℕ) → IsSent put (W.contents server.old) self.old.outgoing
-            → IsSent put (W.contents server.new) self.new.outgoing }
-        ensures rest { IsRest self.old.outgoing self.new.outgoing }
+    /// Writes the bytes that wait, as far as the server takes them. Returns false if the connection is broken.
+    pub(crate) fn send_all<S: WebStream>(&mut self, server: &mut S) -> bool
+        ensures sent { WritesOut S.writes server.old self.old.outgoing result server.new self.new.outgoing }
         ensures display { self.new.display ≡ self.old.display }
     {
         self.outgoing.send_all(server)
@@ -184,11 +174,10 @@ impl SharedClient {
         &self.client.display
     }
 
-    /// Reads the server once, and hears the bytes that this read gave.
-    pub fn receive<S: Read>(&mut self, server: &mut S, buffer: &mut [u8]) -> io::Result<usize>
-        ensures hears { OnOk result (HearsNext (S.remaining server.old) self.old.client.display
-            (S.remaining server.new) self.new.client.display) }
-        ensures unheard { IfErr result (λ e. error_kind e ≢ ErrorKind.InvalidData → self.new ≡ self.old) }
+    /// Reads the server once, and hears what came.
+    pub fn receive<S: WebStream>(&mut self, server: &mut S, buffer: &mut [u8]) -> Arrival
+        ensures hears { HearsRead S.reads server.old self.old.client.display result server.new
+            self.new.client.display }
         ensures asks { self.new.client.outgoing ≡ self.old.client.outgoing }
     {
         self.client.receive(server, buffer)
@@ -204,11 +193,10 @@ impl SharedClient {
         self.client.press(keys)
     }
 
-    /// Writes the bytes that wait, as far as the server takes them.
-    pub fn send_all<W: Write>(&mut self, server: &mut W) -> io::Result<()>
-        ensures sent { (put : List ℕ) → IsSent put (W.contents server.old) self.old.client.outgoing
-            → IsSent put (W.contents server.new) self.new.client.outgoing }
-        ensures rest { IsRest self.old.client.outgoing self.new.client.outgoing }
+    /// Writes the bytes that wait, as far as the server takes them. Returns false if the connection is broken.
+    pub fn send_all<S: WebStream>(&mut self, server: &mut S) -> bool
+        ensures sent { WritesOut S.writes server.old self.old.client.outgoing result server.new
+            self.new.client.outgoing }
         ensures display { self.new.client.display ≡ self.old.client.display }
     {
         self.client.send_all(server)

@@ -1,12 +1,10 @@
 //! Bytes on their way to the server, or to a browser.
 
-ghost use Rattle.std.specs.Prelude.{◌≡◌, ◌++◌, ◌≤◌, ℕ, List, [], length, drop, vec_len, IfOk, OnOk, OnErr};
-ghost use Rattle.std.specs.Io.KnownBytes.{WriteAppends};
-ghost use Rattle.web_client.specs.Sending.{IsSent, IsRest};
+ghost use Rattle.std.specs.Prelude.{◌≡◌, ◌++◌, ◌≤◌, [], length, drop, vec_len, OnOk, OnErr};
+ghost use Rattle.web_client.specs.Streaming.{WritesOut, count_of};
 
+use crate::stream::{WebStream, Wrote};
 use std::alloc::{AllocError, Global};
-use std::io;
-use std::io::{ErrorKind, Write};
 use std::marker::Model;
 
 /// Removes the first bytes. A drain would move the others, and drop these, one by one.
@@ -19,41 +17,34 @@ pub fn drop_front(bytes: &mut Vec<u8>, taken: usize)
     bytes.truncate(left);
 }
 
-// Makes one write of bytes that wait. Those that were taken don't wait any more; after an error all still wait.
-fn write_once<W: Write>(bytes: &mut Vec<u8>, writer: &mut W) -> io::Result<usize>
-    ensures ok { IfOk result (λ n. (n ≤ length bytes.old.items) × (bytes.new.items ≡ drop n bytes.old.items)) }
-    ensures err { OnErr result (bytes.new.items ≡ bytes.old.items) }
-    ensures rest { IsRest bytes.old.items bytes.new.items }
-    ensures writes { WriteAppends (W.contents writer.old) (W.contents writer.new) result bytes.old.items }
-    ensures sent { (put : List ℕ) → IsSent put (W.contents writer.old) bytes.old.items
-        → IsSent put (W.contents writer.new) bytes.new.items }
+// Makes one write of bytes that wait. Those that were taken don't wait any more.
+fn write_once<S: WebStream>(bytes: &mut Vec<u8>, stream: &mut S) -> Wrote
+    ensures taken { bytes.new.items ≡ drop (count_of result) bytes.old.items }
+    ensures writes { S.writes stream.old bytes.old.items result stream.new }
 {
-    let taken = writer.write(bytes)?;
-    drop_front(bytes, taken);
-    Ok(taken)
+    let wrote = stream.write_once(bytes);
+    match wrote {
+        Wrote::Some(count) => drop_front(bytes, count),
+        Wrote::Nothing | Wrote::Full | Wrote::Broken => {}
+    }
+    wrote
 }
 
-/// Writes bytes that wait, as far as the writer takes them.
-pub fn write_all<W: Write>(bytes: &mut Vec<u8>, writer: &mut W) -> io::Result<()>
-    ensures rest { IsRest bytes.old.items bytes.new.items }
-    ensures sent { (put : List ℕ) → IsSent put (W.contents writer.old) bytes.old.items
-        → IsSent put (W.contents writer.new) bytes.new.items }
+/// Writes bytes that wait, as far as the stream takes them. Returns false if it is broken.
+pub fn write_all<S: WebStream>(bytes: &mut Vec<u8>, stream: &mut S) -> bool
+    ensures { WritesOut S.writes stream.old bytes.old.items result stream.new bytes.new.items }
 {
     'writes: for _ in 0..u64::MAX {
         if bytes.is_empty() {
-            break;
+            return true;
         }
-        match write_once(bytes, writer) {
-            Ok(0) => return Err(io::Error::from(ErrorKind::WriteZero)),
-            Ok(_) => {}
-            Err(error) => match error.kind() {
-                ErrorKind::WouldBlock => break,
-                ErrorKind::Interrupted => {}
-                _ => return Err(error),
-            },
+        match write_once(bytes, stream) {
+            Wrote::Some(_) | Wrote::Nothing => {}
+            Wrote::Full => return true,
+            Wrote::Broken => return false,
         }
     }
-    Ok(())
+    true
 }
 
 /// Bytes that were put here and not yet written. Contracts see them as a list.
@@ -100,12 +91,10 @@ impl Outgoing {
         self.bytes.len()
     }
 
-    /// Writes the bytes that wait, as far as the writer takes them.
-    pub fn send_all<W: Write>(&mut self, writer: &mut W) -> io::Result<()>
-        ensures rest { IsRest self.old self.new }
-        ensures sent { (put : List ℕ) → IsSent put (W.contents writer.old) self.old
-            → IsSent put (W.contents writer.new) self.new }
+    /// Writes the bytes that wait, as far as the stream takes them. Returns false if it is broken.
+    pub fn send_all<S: WebStream>(&mut self, stream: &mut S) -> bool
+        ensures { WritesOut S.writes stream.old self.old result stream.new self.new }
     {
-        write_all(&mut self.bytes, writer)
+        write_all(&mut self.bytes, stream)
     }
 }

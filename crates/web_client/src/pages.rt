@@ -1,46 +1,37 @@
 //! A browser's own client, and which page a browser is shown.
 
-ghost use Rattle.std.specs.IoError.{error_kind};
-ghost use Rattle.std.specs.Prelude.{◌≡◌, ◌≢◌, ◌↔◌, ◌≤◌, ℕ, List, OnOk, IfErr, IsTrue, false};
-ghost use Rattle.web_client.specs.Asking.{AsksOnly, Keeps, IsOwn, IfOwn, IsWatcher};
-ghost use Rattle.web_client.specs.Sending.{IsSent, HearsNext};
+ghost use Rattle.std.specs.Prelude.{◌≡◌, ◌↔◌, ◌≤◌, OnOk, IsTrue, false};
+ghost use Rattle.web_client.specs.Asking.{AsksFor, HearsFor, Keeps, IsOwn, IfOwn, IsWatcher};
 ghost use Rattle.web_client.specs.Rows.{Adds, IsDue, Shows, SendsAll};
 ghost use Rattle.web_client.specs.Frames.{IsWithin};
 
 use crate::client::SharedClient;
 use crate::identity::Identity;
+use crate::stream::{Arrival, WebStream};
 use crate::visitor::Visitor;
 use crate::wire::{Phase, SentPage, WireFault};
-use std::io;
-use std::io::{ErrorKind, Read, Write};
 
 impl Visitor {
-    /// Reads the server once for the browser's own client, which hears what this read gave. `Ok(0)` if it has none.
-    pub fn hear<S: Read>(&mut self, server: &mut S, buffer: &mut [u8]) -> io::Result<usize>
-        ensures hears { IfOwn self.old.identity (λ old. OnOk result (IsOwn self.new.identity (λ new.
-            HearsNext (S.remaining server.old) old.display (S.remaining server.new) new.display))) }
-        ensures unheard { IfErr result (λ e. error_kind e ≢ ErrorKind.InvalidData → self.new ≡ self.old) }
-        ensures keeps { Keeps self.old.identity self.new.identity }
+    /// Reads the server once for the browser's own client, which hears what came. If it has none the connection ends.
+    pub fn hear<S: WebStream>(&mut self, server: &mut S, buffer: &mut [u8]) -> Arrival
+        ensures hears { HearsFor S.reads server.old self.old.identity result server.new self.new.identity }
         ensures same { self.new ≡ record self.old { identity = self.new.identity } }
     {
         match &mut self.identity {
             Identity::Own(client) => client.receive(server, buffer),
-            _ => Ok(0),
+            _ => Arrival::End,
         }
     }
 
-    /// Writes what its own client has for the server, as far as the server takes it.
-    pub fn ask<S: Write>(&mut self, server: &mut S) -> io::Result<()>
-        ensures sent { IfOwn self.old.identity (λ old. IsOwn self.new.identity (λ new. (put : List ℕ)
-            → IsSent put (S.contents server.old) old.outgoing → IsSent put (S.contents server.new) new.outgoing)) }
-        ensures asks { AsksOnly self.old.identity self.new.identity }
-        ensures apart { (IsOwn self.old.identity (λ _. Unit {0}) → ⊥)
-            → (self.new ≡ self.old) × (server.new ≡ server.old) }
+    /// Writes what its own client has for the server, as far as the server takes it. Returns false if the connection
+    /// is broken.
+    pub fn ask<S: WebStream>(&mut self, server: &mut S) -> bool
+        ensures asks { AsksFor S.writes server.old self.old.identity result server.new self.new.identity }
         ensures same { self.new ≡ record self.old { identity = self.new.identity } }
     {
         match &mut self.identity {
             Identity::Own(client) => client.send_all(server),
-            _ => Ok(()),
+            _ => true,
         }
     }
 

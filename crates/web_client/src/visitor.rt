@@ -1,9 +1,9 @@
 //! A browser's connection: its request, its messages, and who it is.
 
-ghost use Rattle.std.specs.Prelude.{◌≡◌, ◌↔◌, ◌⊎◌, ℕ, List, drop, IfOk, OnOk, OnErr, IfErr, IsTrue, ◌<◌, ◌≤◌, []};
+ghost use Rattle.std.specs.Prelude.{◌≡◌, ◌↔◌, ◌⊎◌, drop, IfOk, OnOk, OnErr, IfErr, IsTrue, ◌<◌, ◌≤◌, []};
 ghost use Rattle.std.specs.Prelude.{length, false, true, codes, vec_len};
 ghost use Rattle.web_client.specs.Asking.{Asks};
-ghost use Rattle.web_client.specs.Sending.{IsReceived, IsMore, IsSent, IsRest};
+ghost use Rattle.web_client.specs.Streaming.{Receives, WritesOut};
 ghost use Rattle.web_client.specs.Judging.{IsAllowed};
 ghost use Rattle.web_client.specs.Rows.{Closes, TellsAway, TellsLast, TellsHere, Refuses, handed};
 ghost use Rattle.web_requests.specs.Serving.{refusal};
@@ -13,11 +13,10 @@ ghost use Rattle.web_client.specs.Frames.{TakesBytes, TakesOpen, TellsOut, CanRe
 use crate::frame::PageFrame;
 use crate::identity::{Identity, MessageFault};
 use crate::outgoing::{drop_front, write_all};
+use crate::stream::{Arrival, WebStream};
 use crate::wire::{Phase, SentPage, Wire, WireFault};
 use attach_proto::Why;
 use std::alloc::Global;
-use std::io;
-use std::io::{Read, Write};
 use web_requests::{Response, Site, Upgrade, answered, refusal};
 use websocket::protocol::CloseCode;
 
@@ -97,11 +96,10 @@ impl Visitor {
         !self.is_last() && waiting <= MUCH && self.wire.output.len() <= MUCH
     }
 
-    /// Writes what waits for the browser, as far as it takes it.
-    pub fn send_all<B: Write>(&mut self, browser: &mut B) -> io::Result<()>
-        ensures sent { (put : List ℕ) → IsSent put (B.contents browser.old) self.old.wire.output.items
-            → IsSent put (B.contents browser.new) self.new.wire.output.items }
-        ensures rest { IsRest self.old.wire.output.items self.new.wire.output.items }
+    /// Writes what waits for the browser, as far as it takes it. Returns false if the connection is broken.
+    pub fn send_all<S: WebStream>(&mut self, browser: &mut S) -> bool
+        ensures sent { WritesOut S.writes browser.old self.old.wire.output.items result browser.new
+            self.new.wire.output.items }
         ensures same { self.new ≡ record self.old { wire = record self.old.wire { output = self.new.wire.output } } }
     {
         write_all(&mut self.wire.output, browser)
@@ -205,16 +203,15 @@ impl Visitor {
     }
 
     /// Reads the browser once. What came waits to be taken.
-    pub fn receive<B: Read>(&mut self, browser: &mut B, buffer: &mut [u8]) -> io::Result<usize>
-        ensures received { (sent : List ℕ) → IsReceived sent (B.remaining browser.old) self.old.input.items
-            → OnOk result (IsReceived sent (B.remaining browser.new) self.new.input.items) }
-        ensures adds { IsMore self.old.input.items self.new.input.items }
-        ensures err { OnErr result (self.new.input.items ≡ self.old.input.items) }
+    pub fn receive<S: WebStream>(&mut self, browser: &mut S, buffer: &mut [u8]) -> Arrival
+        ensures receives { Receives S.reads browser.old self.old.input.items result browser.new self.new.input.items }
         ensures same { self.new ≡ record self.old { input = self.new.input } }
     {
-        let count = browser.read(buffer)?;
-        self.input.extend_from_slice(&buffer[..count])?;
-        Ok(count)
+        let (count, arrival) = browser.read_once(buffer);
+        match self.input.extend_from_slice(&buffer[..count]) {
+            Ok(()) => arrival,
+            Err(_) => Arrival::End,
+        }
     }
 
     // Whether what is kept for it is within its bounds.

@@ -3,7 +3,7 @@ use Rattle.web_relay.proofs.Vocabulary.{◌≡◌, ℕ, ◌<◌, false, Option, 
 use Rattle.web_relay.specs.Places.{IsNoOlder, IsSilent}
 
 -- of the places below one, the oldest is at this place; or nobody is silent there
-abbrev pub Below : Slab Relay → ℕ → Option (ℕ × Duration) → Type 0
+abbrev pub Below : {S : Type 0} → Slab (Relay S) → ℕ → Option (ℕ × Duration) → Type 0
 Below relays n None = (q : ℕ) → q < n → IsSilent (get relays q) → ⊥
 Below relays n (Some at) =
     IsSomeAnd (get relays at.0) (λ r. (r.has_begun ≡ false) × (r.began ≡ at.1))

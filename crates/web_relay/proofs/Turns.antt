@@ -1,35 +1,36 @@
 -- Halls, place by place.
 use Rattle.web_relay.proofs.Vocabulary.{◌≡◌, ◌≢◌, ℕ, suc, ◌+◌, ◌≤◌, ◌<◌, List, [], refl, sym, subst, ◌∙◌, inl, inr}
 use Rattle.web_relay.proofs.Vocabulary.{Bool, true, false, Option, Some, None, ap, length, arith, Result, Ok, Err}
-use Rattle.web_relay.proofs.Vocabulary.{OnErr, count_by, IfSome, cases_lt, Slab, get, Hall, Renews, HallNumber}
+use Rattle.web_relay.proofs.Vocabulary.{OnErr, count_by, IfSome, cases_lt, Slab, get, Hall, Renews, HallNumber, AtBoth}
 use Rattle.web_relay.proofs.Vocabulary.{Duration}
 use Rattle.std.proofs.Common.{◌∷◌, ◌==◌, if◌then◌else◌, get_or}
 use Rattle.std.specs.Prelude.{IfOk, OnSome, is_some}
+use Rattle.std.proofs.Common.{get_or-set_same}
 use Rattle.std.proofs.lemmas.List.{get_or_past}
-use Rattle.slab.specs.Slab.{Updates}
+use Rattle.slab.specs.Slab.{Updates, with_value}
 use Rattle.web_relay.specs.Halls.{IsNewer, hall_of, with_serial}
 use Rattle.web_requests.specs.declared.site.Watcher.{Watcher}
 
 -- ---- each place in its turn
 
-module _ (P : Option Hall → Option Hall → Type 0) (before now : Slab Hall) (place : ℕ)
+module _ {S : Type 0} (P : Option (Hall S) → Option (Hall S) → Type 0) (before now : Slab (Hall S)) (place : ℕ)
     (done : (q : ℕ) → q < place → P (get before q) (get now q))
     (rest : (q : ℕ) → place ≤ q → get now q ≡ get before q) where
-  pub done-more : (after : Slab Hall) → P (get now place) (get after place)
+  pub done-more : (after : Slab (Hall S)) → P (get now place) (get after place)
       → ((other : ℕ) → other ≢ place → get after other ≡ get now other)
       → (q : ℕ) → q < place + 1 → P (get before q) (get after q)
   done-more after here others q below =
       elim (cases_lt q place) [
         | inl low ↦
-            subst (λ (v : Option Hall). P (get before q) v) (sym (others q (λ (e : q ≡ place). omega arith)))
+            subst (λ (v : Option (Hall S)). P (get before q) v) (sym (others q (λ (e : q ≡ place). omega arith)))
             (done q low)
         | inr high ↦
             let e : q ≡ place = omega arith in
             subst (λ (n : ℕ). P (get before n) (get after n)) (sym e)
-            (subst (λ (v : Option Hall). P v (get after place)) (rest place (omega arith)) here)
+            (subst (λ (v : Option (Hall S)). P v (get after place)) (rest place (omega arith)) here)
       ]
 
-  pub rest-more : (after : Slab Hall) → ((other : ℕ) → other ≢ place → get after other ≡ get now other)
+  pub rest-more : (after : Slab (Hall S)) → ((other : ℕ) → other ≢ place → get after other ≡ get now other)
       → (q : ℕ) → place + 1 ≤ q → get after q ≡ get before q
   rest-more after others q high = others q (λ (e : q ≡ place). omega arith) ∙ rest q (omega arith)
 
@@ -39,58 +40,80 @@ module _ (P : Option Hall → Option Hall → Type 0) (before now : Slab Hall) (
         | inl low ↦ done q low
         | inr high ↦
             let past : get before q ≡ None = get_or_past before.slots q None (omega arith) in
-            subst (λ (v : Option Hall). P v (get now q)) (sym past)
-            (subst (λ (v : Option Hall). P None v) (sym (rest q high ∙ past)) none)
+            subst (λ (v : Option (Hall S)). P v (get now q)) (sym past)
+            (subst (λ (v : Option (Hall S)). P None v) (sym (rest q high ∙ past)) none)
       ]
 
-newer-later : (w : Option Watcher) (now : Duration) (early late : ℕ) (old new : Option Hall) → early ≤ late
+newer-later : {S : Type 0} (w : Option Watcher) (now : Duration) (early late : ℕ) (old new : Option (Hall S))
+    → early ≤ late
     → IsNewer w now late old new → IsNewer w now early old new
 newer-later w now early late None new le n = n
 newer-later w now early late (Some old) None le n = n
 newer-later w now early late (Some old) (Some new) le n = (n.0, omega (arith, n.1), n.2)
 
 -- a hall that is newer than a later serial
-pub renews-later : (w : Option Watcher) (now : Duration) (early late : ℕ) (old new : Option Hall) → early ≤ late
+pub renews-later : {S : Type 0} (w : Option Watcher) (now : Duration) (early late : ℕ) (old new : Option (Hall S))
+    → early ≤ late
     → Renews w now late old new → Renews w now early old new
 renews-later w now early late old new le (inl stays) = inl stays
 renews-later w now early late old new le (inr newer) = inr (newer-later w now early late old new le newer)
 
 -- ---- a hall's number
 
-only-one : (there hall : Hall) (b : Bool) → if◌then◌else◌ {A = Option Hall} b (Some there) None ≡ Some hall
+only-one : {S : Type 0} (there hall : Hall S) (b : Bool) → if◌then◌else◌ {A = Option (Hall S)} b
+    (Some there) None ≡ Some hall
     → there ≡ hall
 only-one there hall true e = cc
 only-one there hall false e = cc
 
-pub hall-is : (halls : Slab Hall) (number : HallNumber) (there hall : Hall) → get halls number.place ≡ Some there
-    → hall_of halls number ≡ Some hall → there ≡ hall
-hall-is halls number there hall is found =
-    only-one there hall (there.serial == number.serial)
-    (subst (λ (v : Option Hall). with_serial number.serial v ≡ Some hall) is found)
+module _ {S : Type 0} where
+  pub hall-is : (halls : Slab (Hall S)) (number : HallNumber) (there hall : Hall S)
+      → get halls number.place ≡ Some there
+      → hall_of halls number ≡ Some hall → there ≡ hall
+  hall-is halls number there hall is found =
+      only-one there hall (there.serial == number.serial)
+      (subst (λ (v : Option (Hall S)). with_serial number.serial v ≡ Some hall) is found)
 
 -- no hall is there
-pub no-halls : (halls : List (Option Hall)) → ((q : ℕ) → get_or halls q None ≡ None) → count_by is_some halls ≡ 0
+pub no-halls : {S : Type 0} (halls : List (Option (Hall S))) → ((q : ℕ) → get_or halls q None ≡ None)
+    → count_by is_some halls ≡ 0
 no-halls [] all = refl
 no-halls (None ∷ halls) all = no-halls halls (λ q. all (suc q))
 no-halls (Some hall ∷ halls) all = absurd (let e : Some hall ≡ None = all 0 in cc)
 
 -- ---- a hall that comes for another one
 
-pub where-it-was : {P : Type 0} (there taken : Option Hall) → (there ≡ None → ⊥) → taken ≡ there → OnSome taken P → P
+pub where-it-was : {S : Type 0} {P : Type 0} (there taken : Option (Hall S)) → (there ≡ None → ⊥) → taken ≡ there
+    → OnSome taken P → P
 where-it-was None taken some is p = absurd (some refl)
 where-it-was (Some hall) None some is p = absurd (let e : None ≡ Some hall = is in cc)
 where-it-was (Some hall) (Some other) some is p = p
 
-pub insert-others : {E : Type 0} (r : Result ℕ E) (before after : Slab Hall) (place : ℕ) (hall : Hall)
-    → before.vacant_key ≡ place → IfOk r (λ key. key ≡ before.vacant_key)
-    → IfOk r (λ key. Updates before after key (Some hall))
-    → OnErr r (after ≡ record before { capacity = after.capacity })
-    → (other : ℕ) → other ≢ place → get after other ≡ get before other
-insert-others (Ok key) before after place hall next is updates err other apart =
-    updates.others other (λ (e : other ≡ key). apart (e ∙ is ∙ next))
-insert-others (Err e) before after place hall next is updates err other apart =
-    ap (λ (s : Slab Hall). get s other) err
+module _ {S : Type 0} where
+  pub insert-others : {E : Type 0} (r : Result ℕ E) (before after : Slab (Hall S)) (place : ℕ) (hall : Hall S)
+      → before.vacant_key ≡ place → IfOk r (λ key. key ≡ before.vacant_key)
+      → IfOk r (λ key. Updates before after key (Some hall))
+      → OnErr r (after ≡ record before { capacity = after.capacity })
+      → (other : ℕ) → other ≢ place → get after other ≡ get before other
+  insert-others (Ok key) before after place hall next is updates err other apart =
+      updates.others other (λ (e : other ≡ key). apart (e ∙ is ∙ next))
+  insert-others (Err e) before after place hall next is updates err other apart =
+      ap (λ (s : Slab (Hall S)). get s other) err
 
 pub some_more : (P Q : ℕ → Type 0) (r : Option ℕ) → ((n : ℕ) → P n → Q n) → IfSome r P → IfSome r Q
 some_more P Q None more h = tt
 some_more P Q (Some n) more h = more n h
+
+-- ---- the hall at one place
+
+module _ {S : Type 0} (P : Hall S → Hall S → Type 0) (s : Slab (Hall S)) (place : ℕ) (a b : Hall S)
+    (there : get s place ≡ Some a) where
+  pub changed_there : P a b → AtBoth P (get s place) (get (with_value s place b) place)
+  changed_there p =
+      elim (cases_lt place (length s.slots)) [
+        | inl within ↦
+            subst (λ (v : Option (Hall S)). AtBoth P v (get (with_value s place b) place)) (sym there)
+            (subst (λ (v : Option (Hall S)). AtBoth P (Some a) v)
+            (sym (get_or-set_same s.slots place (Some b) None within)) p)
+        | inr past ↦ absurd (let wrong : None ≡ Some a = sym (get_or_past s.slots place None past) ∙ there in cc)
+      ]

@@ -12,11 +12,9 @@ pub use Rattle.web_relay.specs.Halls.{AtBoth, Chooses, Closes, HallHears, HallTu
 pub use Rattle.web_relay.specs.Places.{is_neighbour}
 pub use Rattle.web_relay.specs.Relaying.{HearsOnce, IsConnected, IsToHear, IsToRead, LosesServer, ReadsOnce}
 pub use Rattle.web_relay.specs.Seeing.{Watches}
-pub use Rattle.web_relay.specs.Tokens.{outcome}
 pub use Rattle.web_relay.specs.Walking.{Repeats}
 pub use Rattle.web_relay.specs.declared.hall.Hall.{Hall}
 pub use Rattle.web_relay.specs.declared.halls.HallNumber.{HallNumber}
 pub use Rattle.web_relay.specs.declared.halls.Halls.{Halls}
 pub use Rattle.web_relay.specs.declared.relay.Relay.{Relay}
 pub use Rattle.web_relay.specs.declared.relay.Upstream.TheVariants.{Connected}
-pub use Rattle.web_relay.specs.declared.streams.ReadOutcome.TheVariants.{End, More, Nothing}

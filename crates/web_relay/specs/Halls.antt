@@ -1,6 +1,6 @@
 -- The halls of watchers.
 use Rattle.std.specs.Prelude.{◌≡◌, ◌==◌, ◌+◌, ◌⊎◌, ◌<◌, ◌≤◌, nat_lt, ℕ, true, false, Option, Some, None}
-use Rattle.std.specs.Prelude.{List, ◌++◌, IfSome, IsSome, IsSomeAnd, if◌then◌else◌}
+use Rattle.std.specs.Prelude.{Bool, ◌||◌, not, List, ◌++◌, IfSome, IsSome, IsSomeAnd, if◌then◌else◌}
 use Rattle.std.specs.String.{string_bytes}
 use Rattle.std.specs.Duration.{as_nanos}
 use Rattle.std.specs.declared.time.Duration.{Duration}
@@ -8,208 +8,217 @@ use Rattle.slab.specs.Slab.{Slab, SameValues, Updates, get, slab_len}
 use Rattle.attach_proto.specs.declared.message.Message.TheVariants.{Attach, Keys}
 use Rattle.attach_proto.specs.Spelling.{spelling}
 use Rattle.web_client.specs.declared.client.SharedClient.{SharedClient}
-use Rattle.web_client.specs.Sending.{IsRest}
+use Rattle.web_client.specs.Streaming.{HearsRead, WritesOut}
+use Rattle.web_client.specs.declared.stream.Arrival.{Arrival}
+use Rattle.web_client.specs.declared.stream.Arrival.TheVariants.{More, Nothing, End}
+use Rattle.web_client.specs.declared.stream.WebStream.{Ghosts as Streams}
 use Rattle.web_page.specs.Hearing.{IsBlank}
 use Rattle.web_page.specs.Vacant.{IsVacant}
 use Rattle.web_requests.specs.declared.site.Watcher.{Watcher}
-use Rattle.web_relay.specs.Hearing.{MayHear}
 use Rattle.web_relay.specs.Walking.{Repeats}
 use Rattle.web_relay.specs.declared.hall.Hall.{Hall}
 use Rattle.web_relay.specs.declared.halls.Halls.{Halls}
 use Rattle.web_relay.specs.declared.halls.HallNumber.{HallNumber}
-use Rattle.web_relay.specs.declared.streams.ReadOutcome.{ReadOutcome}
-use Rattle.web_relay.specs.declared.streams.ReadOutcome.TheVariants.{More, Nothing, End}
 
--- the hall at a place, if it has this serial
-abbrev pub with_serial : ℕ → Option Hall → Option Hall
-with_serial serial None = None
-with_serial serial (Some hall) = if hall.serial == serial then Some hall else None
+module _ {S : Type 0} where
+  -- the hall at a place, if it has this serial
+  abbrev pub with_serial : ℕ → Option (Hall S) → Option (Hall S)
+  with_serial serial None = None
+  with_serial serial (Some hall) = if hall.serial == serial then Some hall else None
 
--- the hall of a number
-abbrev pub hall_of : Slab Hall → HallNumber → Option Hall
-hall_of halls number = with_serial number.serial (get halls number.place)
+  -- the hall of a number
+  abbrev pub hall_of : Slab (Hall S) → HallNumber → Option (Hall S)
+  hall_of halls number = with_serial number.serial (get halls number.place)
 
--- a hall of this size is there
-abbrev pub HasSize : (ℕ × ℕ) → Option Hall → Type 0
-HasSize size None = ⊥
-HasSize size (Some hall) = hall.size ≡ size
+  -- a hall of this size is there
+  abbrev pub HasSize : (ℕ × ℕ) → Option (Hall S) → Type 0
+  HasSize size None = ⊥
+  HasSize size (Some hall) = hall.size ≡ size
 
--- no hall of this size is there
-abbrev pub HasNone : (ℕ × ℕ) → Slab Hall → Type 0
-HasNone size halls = (place : ℕ) → HasSize size (get halls place) → ⊥
+  -- no hall of this size is there
+  abbrev pub HasNone : (ℕ × ℕ) → Slab (Hall S) → Type 0
+  HasNone size halls = (place : ℕ) → HasSize size (get halls place) → ⊥
 
--- its page isn't larger than this
-abbrev pub FitsIn : (ℕ × ℕ) → Hall → Type 0
-FitsIn size hall = (hall.size.0 ≤ size.0) × (hall.size.1 ≤ size.1)
+  -- its page isn't larger than this
+  abbrev pub FitsIn : (ℕ × ℕ) → Hall S → Type 0
+  FitsIn size hall = (hall.size.0 ≤ size.0) × (hall.size.1 ≤ size.1)
 
--- a hall whose page isn't larger than this, or any hall if all are larger
-abbrev pub IsStandIn : (ℕ × ℕ) → Slab Hall → ℕ → Type 0
-IsStandIn size halls place = IsSomeAnd (get halls place) (λ hall. FitsIn size hall
-    ⊎ ((other : ℕ) → IfSome (get halls other) (λ it. FitsIn size it → ⊥)))
+  -- a hall whose page isn't larger than this, or any hall if all are larger
+  abbrev pub IsStandIn : (ℕ × ℕ) → Slab (Hall S) → ℕ → Type 0
+  IsStandIn size halls place = IsSomeAnd (get halls place) (λ hall. FitsIn size hall
+      ⊎ ((other : ℕ) → IfSome (get halls other) (λ it. FitsIn size it → ⊥)))
 
--- of the halls that were looked at the best is at this place, or still at the other one
-abbrev pub IsBetterOf : (ℕ × ℕ) → ℕ → Hall → Option ℕ → Option ℕ → Type 0
-IsBetterOf size place hall None new = new ≡ Some place
-IsBetterOf size place hall (Some old) new =
-    (FitsIn size hall × (new ≡ Some place)) ⊎ ((FitsIn size hall → ⊥) × (new ≡ Some old))
+  -- of the halls that were looked at the best is at this place, or still at the other one
+  abbrev pub IsBetterOf : (ℕ × ℕ) → ℕ → Hall S → Option ℕ → Option ℕ → Type 0
+  IsBetterOf size place hall None new = new ≡ Some place
+  IsBetterOf size place hall (Some old) new =
+      (FitsIn size hall × (new ≡ Some place)) ⊎ ((FitsIn size hall → ⊥) × (new ≡ Some old))
 
-abbrev pub numbered : ℕ → Option Hall → Option HallNumber
-numbered place None = None
-numbered place (Some hall) = Some (record { place = place; serial = hall.serial })
+  abbrev pub numbered : ℕ → Option (Hall S) → Option HallNumber
+  numbered place None = None
+  numbered place (Some hall) = Some (record { place = place; serial = hall.serial })
 
--- the number of the hall at a place
-abbrev pub number_at : Slab Hall → ℕ → Option HallNumber
-number_at halls place = numbered place (get halls place)
+  -- the number of the hall at a place
+  abbrev pub number_at : Slab (Hall S) → ℕ → Option HallNumber
+  number_at halls place = numbered place (get halls place)
 
-abbrev pub number_of : Slab Hall → Option ℕ → Option HallNumber
-number_of halls None = None
-number_of halls (Some place) = number_at halls place
+  abbrev pub number_of : Slab (Hall S) → Option ℕ → Option HallNumber
+  number_of halls None = None
+  number_of halls (Some place) = number_at halls place
 
--- Nothing is there before and after, or a hall of which this holds.
-abbrev pub AtBoth : (Hall → Hall → Type 0) → Option Hall → Option Hall → Type 0
-AtBoth P None new = new ≡ None
-AtBoth P (Some old) None = ⊥
-AtBoth P (Some old) (Some new) = P old new
+  -- Nothing is there before and after, or a hall of which this holds.
+  abbrev pub AtBoth : (Hall S → Hall S → Type 0) → Option (Hall S) → Option (Hall S) → Type 0
+  AtBoth P None new = new ≡ None
+  AtBoth P (Some old) None = ⊥
+  AtBoth P (Some old) (Some new) = P old new
 
--- each place has the hall that it had, of which this holds
-abbrev pub AtEach : (Hall → Hall → Type 0) → Slab Hall → Slab Hall → Type 0
-AtEach P old new = (place : ℕ) → AtBoth P (get old place) (get new place)
+  -- each place has the hall that it had, of which this holds
+  abbrev pub AtEach : (Hall S → Hall S → Type 0) → Slab (Hall S) → Slab (Hall S) → Type 0
+  AtEach P old new = (place : ℕ) → AtBoth P (get old place) (get new place)
 
 -- ---- what a hall's client hears and asks
 
--- What came of the server was heard, perhaps nothing; or nothing comes now; or the connection ended.
-abbrev pub HallHearsAs : ReadOutcome → Hall → Hall → Type 0
-HallHearsAs More old new =
-    MayHear old.client.client.display new.client.client.display
-    × (new.client.client.outgoing ≡ old.client.client.outgoing)
-    × (new ≡ record old { client = new.client; stream = new.stream })
-HallHearsAs Nothing old new = new ≡ record old { stream = new.stream; is_ready = false }
-HallHearsAs End old new =
-    (new.client.client.outgoing ≡ old.client.client.outgoing)
-    × (new ≡ record old { client = new.client; stream = new.stream; is_lost = true })
+module _ {S : Type 0} where
+  -- what came was heard; or nothing comes now; or the connection ended
+  abbrev pub HallHearsAs : Arrival → Hall S → Hall S → Type 0
+  HallHearsAs More old new = new ≡ old
+  HallHearsAs Nothing old new = new ≡ record old { is_ready = false }
+  HallHearsAs End old new = new ≡ record old { is_lost = true }
 
--- one read of the server
-abbrev pub HallHears : Hall → Hall → Type 0
-HallHears old new = (came : ReadOutcome) × HallHearsAs came old new
+  abbrev pub IsHallToHear : Hall S → Type 0
+  IsHallToHear hall = (hall.is_ready ≡ true) × (hall.is_lost ≡ false)
 
-abbrev pub IsHallToHear : Hall → Type 0
-IsHallToHear hall = (hall.is_ready ≡ true) × (hall.is_lost ≡ false)
+  -- a hall that may have more to hear
+  abbrev pub IsBusyHall : Option (Hall S) → Type 0
+  IsBusyHall None = ⊥
+  IsBusyHall (Some hall) = IsHallToHear hall
 
--- a hall that may have more to hear
-abbrev pub IsBusyHall : Option Hall → Type 0
-IsBusyHall None = ⊥
-IsBusyHall (Some hall) = IsHallToHear hall
-
--- what waits for the server may be written, and the connection may have ended
-pub record HallWrites (old new : Hall) : Type 0 where
-  pub asked : IsRest old.client.client.outgoing new.client.client.outgoing
-  pub shown : new.client.client.display ≡ old.client.client.display
-  pub lost : (new.is_lost ≡ old.is_lost) ⊎ (new.is_lost ≡ true)
-  pub rest : new ≡ record old { client = new.client; stream = new.stream; is_lost = new.is_lost }
-
--- What the server sent is heard, in up to 16 reads, and what waits for it written. Nobody counts as its audience yet.
-abbrev pub HallTurns : Hall → Hall → Type 0
-HallTurns old new =
-    (mid : Hall) × Repeats IsHallToHear HallHears 16 (record old { audience = 0 }) mid × HallWrites mid new
-
--- its connection has something to read, or has room
-abbrev pub heeds : Hall → Hall
-heeds hall = record hall { is_ready = true }
+  -- its connection has something to read, or has room
+  abbrev pub heeds : Hall S → Hall S
+  heeds hall = record hall { is_ready = true }
 
 -- it wasn't sent to the chosen window within 10 seconds
 abbrev pub IsDue : Duration → Option Duration → Type 0
 IsDue now None = Unit {0}
 IsDue now (Some chosen) = as_nanos chosen + 10000000000 ≤ as_nanos now
 
-abbrev pub IsToChoose : Duration → Hall → Type 0
-IsToChoose now hall = IsDue now hall.chosen × (hall.client.client.display.told.is_welcome ≡ true)
+module _ {S : Type 0} where
+  abbrev pub IsToChoose : Duration → Hall S → Type 0
+  IsToChoose now hall = IsDue now hall.chosen × (hall.client.client.display.told.is_welcome ≡ true)
 
 -- the keys that choose a window come after what waits for the server
 abbrev pub asked_for : List ℕ → SharedClient → SharedClient
 asked_for choice c =
     record c { client = record c.client { outgoing = c.client.outgoing ++ spelling (Keys choice) } }
 
--- It is sent to the chosen window if it is time for that, or lost if it can't be; else it stays as it is.
-pub record Chooses (choice : List ℕ) (now : Duration) (old new : Hall) : Type 0 where
-  pub due : IsToChoose now old
-      → (new ≡ record old { chosen = Some now; client = asked_for choice old.client })
-      ⊎ (new ≡ record old { chosen = Some now; is_lost = true })
-  pub early : (IsToChoose now old → ⊥) → new ≡ old
+module _ {S : Type 0} where
+  -- It is sent to the chosen window if it is time for that, or lost if it can't be; else it stays as it is.
+  pub record Chooses (choice : List ℕ) (now : Duration) (old new : Hall S) : Type 0 where
+    pub due : IsToChoose now old
+        → (new ≡ record old { chosen = Some now; client = asked_for choice old.client })
+        ⊎ (new ≡ record old { chosen = Some now; is_lost = true })
+    pub early : (IsToChoose now old → ⊥) → new ≡ old
 
--- its client was opened 10 seconds ago, and sees no window
-abbrev pub IsStuck : Duration → Hall → Type 0
-IsStuck now hall =
-    (as_nanos hall.opened + 10000000000 ≤ as_nanos now)
-    × IsVacant hall.client.client.display.sheet.terminal.screen.page
+  -- its client was opened 10 seconds ago, and sees no window
+  abbrev pub IsStuck : Duration → Hall S → Type 0
+  IsStuck now hall =
+      (as_nanos hall.opened + 10000000000 ≤ as_nanos now)
+      × IsVacant hall.client.client.display.sheet.terminal.screen.page
 
-abbrev pub IsStuckAt : Duration → Option Hall → Type 0
-IsStuckAt now None = ⊥
-IsStuckAt now (Some hall) = IsStuck now hall
+  abbrev pub IsStuckAt : Duration → Option (Hall S) → Type 0
+  IsStuckAt now None = ⊥
+  IsStuckAt now (Some hall) = IsStuck now hall
 
--- a hall that opens now, and was watched last at a time: its client attaches as the user as whom anybody may watch
-pub record IsOpened (watcher : Watcher) (size : ℕ × ℕ) (now watched : Duration) (hall : Hall) : Type 0 where
-  pub asks : hall.client.client.outgoing
-      ≡ spelling (Attach size.0 size.1 watcher.token (string_bytes watcher.name))
-  pub shows : IsBlank size.0 size.1 (string_bytes watcher.name) hall.client.client.display
-  pub rest : hall ≡ record hall {
-    size = size;
-    is_ready = false;
-    audience = 0;
-    is_lost = false;
-    opened = now;
-    watched = watched;
-    chosen = None;
-  }
+  -- a hall that opens now, and was watched last at a time: its client attaches as the user as whom anybody may watch
+  pub record IsOpened (watcher : Watcher) (size : ℕ × ℕ) (now watched : Duration) (hall : Hall S) : Type 0 where
+    pub asks : hall.client.client.outgoing
+        ≡ spelling (Attach size.0 size.1 watcher.token (string_bytes watcher.name))
+    pub shows : IsBlank size.0 size.1 (string_bytes watcher.name) hall.client.client.display
+    pub rest : hall ≡ record hall {
+      size = size;
+      is_ready = false;
+      audience = 0;
+      is_lost = false;
+      opened = now;
+      watched = watched;
+      chosen = None;
+    }
 
--- the same, if anybody may watch
-abbrev pub OpensBy : Option Watcher → ℕ × ℕ → Duration → Duration → Hall → Type 0
-OpensBy watcher size now watched hall = IsSomeAnd watcher (λ w. IsOpened w size now watched hall)
+  -- the same, if anybody may watch
+  abbrev pub OpensBy : Option Watcher → ℕ × ℕ → Duration → Duration → Hall S → Type 0
+  OpensBy watcher size now watched hall = IsSomeAnd watcher (λ w. IsOpened w size now watched hall)
 
--- A hall opens where none was, with a serial that none had before `next`. If none can be opened, nothing is there.
-pub record Opens (watcher : Option Watcher) (now : Duration) (size : ℕ × ℕ) (old : Halls) (opened : Option ℕ)
-    (new : Halls) : Type 0 where
-  pub none : opened ≡ None → SameValues old.list new.list
-  pub some : IfSome opened (λ place. (get old.list place ≡ None) × (hall : Hall)
-      × (hall.serial ≡ old.next) × OpensBy watcher size now now hall
-      × Updates old.list new.list place (Some hall))
-  pub next : old.next ≤ new.next
-  pub rest : new ≡ record old { list = new.list; next = new.next }
+  -- A hall opens where none was, with a serial that none had before `next`. If none can be opened, nothing is there.
+  pub record Opens (watcher : Option Watcher) (now : Duration) (size : ℕ × ℕ) (old : Halls S) (opened : Option ℕ)
+      (new : Halls S) : Type 0 where
+    pub none : opened ≡ None → SameValues old.list new.list
+    pub some : IfSome opened (λ place. (get old.list place ≡ None) × (hall : Hall S)
+        × (hall.serial ≡ old.next) × OpensBy watcher size now now hall
+        × Updates old.list new.list place (Some hall))
+    pub next : old.next ≤ new.next
+    pub rest : new ≡ record old { list = new.list; next = new.next }
 
--- The hall of a size: the one that is there; or a stand-in, if all places are taken by others; or one that opens now.
-pub record Enters (watcher : Option Watcher) (now : Duration) (size : ℕ × ℕ) (old : Halls)
-    (found : Option HallNumber) (new : Halls) : Type 0 where
-  pub known : (place : ℕ) → HasSize size (get old.list place) → (new ≡ old) × (there : ℕ)
-      × HasSize size (get old.list there) × (found ≡ number_at old.list there)
-  pub full : HasNone size old.list → 8 ≤ slab_len old.list → (new ≡ old) × (there : ℕ)
-      × IsStandIn size old.list there × (found ≡ number_at old.list there)
-  pub opens : HasNone size old.list → slab_len old.list < 8 → (opened : Option ℕ)
-      × Opens watcher now size old opened new × (found ≡ number_of new.list opened)
+  -- The hall of a size: the one that is there; or a stand-in, if all places are taken by others; or one that opens now.
+  pub record Enters (watcher : Option Watcher) (now : Duration) (size : ℕ × ℕ) (old : Halls S)
+      (found : Option HallNumber) (new : Halls S) : Type 0 where
+    pub known : (place : ℕ) → HasSize size (get old.list place) → (new ≡ old) × (there : ℕ)
+        × HasSize size (get old.list there) × (found ≡ number_at old.list there)
+    pub full : HasNone size old.list → 8 ≤ slab_len old.list → (new ≡ old) × (there : ℕ)
+        × IsStandIn size old.list there × (found ≡ number_at old.list there)
+    pub opens : HasNone size old.list → slab_len old.list < 8 → (opened : Option ℕ)
+        × Opens watcher now size old opened new × (found ≡ number_of new.list opened)
 
--- who watches it is noted
-abbrev pub noted : Duration → Hall → Hall
-noted now hall = record hall { watched = if nat_lt 0 hall.audience then now else hall.watched }
+  -- who watches it is noted
+  abbrev pub noted : Duration → Hall S → Hall S
+  noted now hall = record hall { watched = if nat_lt 0 hall.audience then now else hall.watched }
 
--- its connection ended, the server let its client go, or nobody has watched it for 30 seconds
-abbrev pub IsOver : Duration → Hall → Type 0
-IsOver now hall =
-    (hall.is_lost ≡ true) ⊎ IsSome hall.client.client.display.told.gone
-    ⊎ (as_nanos hall.watched + 30000000000 ≤ as_nanos now)
+  -- its connection ended, the server let its client go, or nobody has watched it for 30 seconds
+  abbrev pub IsOver : Duration → Hall S → Type 0
+  IsOver now hall =
+      (hall.is_lost ≡ true) ⊎ IsSome hall.client.client.display.told.gone
+      ⊎ (as_nanos hall.watched + 30000000000 ≤ as_nanos now)
 
--- A hall that is over closes, and every other one stays.
-abbrev pub Closes : Duration → Option Hall → Option Hall → Type 0
-Closes now None new = new ≡ None
-Closes now (Some hall) new =
-    (IsOver now (noted now hall) × (new ≡ None))
-    ⊎ ((IsOver now (noted now hall) → ⊥) × (new ≡ Some (noted now hall)))
+  -- A hall that is over closes, and every other one stays.
+  abbrev pub Closes : Duration → Option (Hall S) → Option (Hall S) → Type 0
+  Closes now None new = new ≡ None
+  Closes now (Some hall) new =
+      (IsOver now (noted now hall) × (new ≡ None))
+      ⊎ ((IsOver now (noted now hall) → ⊥) × (new ≡ Some (noted now hall)))
 
--- a hall of the same size, which opens now with a serial that none had before `next`
-abbrev pub IsNewer : Option Watcher → Duration → ℕ → Option Hall → Option Hall → Type 0
-IsNewer watcher now next None new = ⊥
-IsNewer watcher now next (Some old) None = IsStuck now old
-IsNewer watcher now next (Some old) (Some new) =
-    IsStuck now old × (next ≤ new.serial) × OpensBy watcher old.size now old.watched new
+  -- a hall of the same size, which opens now with a serial that none had before `next`
+  abbrev pub IsNewer : Option Watcher → Duration → ℕ → Option (Hall S) → Option (Hall S) → Type 0
+  IsNewer watcher now next None new = ⊥
+  IsNewer watcher now next (Some old) None = IsStuck now old
+  IsNewer watcher now next (Some old) (Some new) =
+      IsStuck now old × (next ≤ new.serial) × OpensBy watcher old.size now old.watched new
 
--- A hall that is stuck goes, and perhaps another one of its size comes for it. Every other one stays.
-abbrev pub Renews : Option Watcher → Duration → ℕ → Option Hall → Option Hall → Type 0
-Renews watcher now next old new =
-    ((IsStuckAt now old → ⊥) × (new ≡ old)) ⊎ IsNewer watcher now next old new
+  -- A hall that is stuck goes, and perhaps another one of its size comes for it. Every other one stays.
+  abbrev pub Renews : Option Watcher → Duration → ℕ → Option (Hall S) → Option (Hall S) → Type 0
+  Renews watcher now next old new =
+      ((IsStuckAt now old → ⊥) × (new ≡ old)) ⊎ IsNewer watcher now next old new
+
+-- ---- what is read and written, by what streams say of it
+
+module _ {S : Type 0} (streams : Streams S) where
+  -- one read of the server was made
+  abbrev pub HallHears : Hall S → Hall S → Type 0
+  HallHears old new =
+      (came : Arrival) × (left : S) × (c : SharedClient)
+      × HearsRead streams.reads old.stream old.client.client.display came left c.client.display
+      × (c.client.outgoing ≡ old.client.client.outgoing)
+      × HallHearsAs came (record old { client = c; stream = left }) new
+
+  -- what waits for the server was written; its connection ended if that is broken
+  pub record HallWrites (old new : Hall S) : Type 0 where
+    pub whole : Bool
+    pub written : WritesOut streams.writes old.stream old.client.client.outgoing whole new.stream
+        new.client.client.outgoing
+    pub shown : new.client.client.display ≡ old.client.client.display
+    pub lost : new.is_lost ≡ (old.is_lost || not whole)
+    pub rest : new ≡ record old { client = new.client; stream = new.stream; is_lost = new.is_lost }
+
+  -- What the server sent is heard, in up to 16 reads, and what waits for it written. Nobody counts as its audience yet.
+  abbrev pub HallTurns : Hall S → Hall S → Type 0
+  HallTurns old new =
+      (mid : Hall S) × Repeats IsHallToHear HallHears 16 (record old { audience = 0 }) mid
+      × HallWrites mid new

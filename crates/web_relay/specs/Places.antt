@@ -1,15 +1,15 @@
 -- Browsers at their places.
-use Rattle.std.specs.Prelude.{◌≡◌, ◌≢◌, ◌⊎◌, ◌&&◌, ◌==◌, ◌-◌, ◌/◌, ◌≤◌, ℕ, Bool, not, true, false}
-use Rattle.std.specs.Prelude.{List, [], Option, Some, None, bytes_eq, count_by, IsTrue, ◌↔◌}
+use Rattle.std.specs.Prelude.{◌≡◌, ◌≢◌, ◌⊎◌, ◌&&◌, ◌==◌, ◌-◌, ◌/◌, ◌≤◌, ℕ, zero, suc, Bool, not, true, false}
+use Rattle.std.specs.Prelude.{if◌then◌else◌}
+use Rattle.std.specs.Prelude.{List, [], Option, Some, None, bytes_eq, IsTrue, ◌↔◌}
 use Rattle.std.specs.Prelude.{IsSomeAnd, ◌<◌}
 use Rattle.std.specs.Duration.{as_nanos}
 use Rattle.std.specs.declared.time.Duration.{Duration}
-use Rattle.slab.specs.Slab.{Slab, SameValues, Updates, get, with_value, entries, slab_len}
+use Rattle.slab.specs.Slab.{Slab, SameValues, Updates, get, with_value, slab_len}
 use Rattle.web_client.specs.declared.wire.Phase.{Phase}
 use Rattle.web_client.specs.declared.wire.Phase.TheVariants.{Request, Socket, Last}
 use Rattle.web_client.specs.Frames.{page, begun}
 use Rattle.web_relay.specs.declared.relay.Relay.{Relay}
-use Rattle.web_relay.specs.declared.streams.Browser.{Browser}
 use Rattle.web_relay.specs.declared.relay.Upstream.TheVariants.{Unasked}
 use Rattle.web_relay.specs.Relaying.{IsRefused}
 
@@ -23,148 +23,163 @@ put_at s place change (Some old) = with_value s place (change old)
 abbrev pub changed_at : {T : Type 0} → Slab T → ℕ → (T → T) → Slab T
 changed_at s place change = put_at s place change (get s place)
 
-abbrev pub heeds_browser : Relay → Relay
-heeds_browser r = record r { browser_ready = true }
+module _ {S : Type 0} where
+  abbrev pub heeds_browser : Relay S → Relay S
+  heeds_browser r = record r { browser_ready = true }
 
-abbrev pub heeds_server : Relay → Relay
-heeds_server r = record r { server_ready = true }
+  abbrev pub heeds_server : Relay S → Relay S
+  heeds_server r = record r { server_ready = true }
 
 -- ---- who may be there
 
--- a browser that hasn't said who it is
-abbrev pub IsSilent : Option Relay → Type 0
-IsSilent None = ⊥
-IsSilent (Some relay) = relay.has_begun ≡ false
+module _ {S : Type 0} where
+  -- a browser that hasn't said who it is
+  abbrev pub IsSilent : Option (Relay S) → Type 0
+  IsSilent None = ⊥
+  IsSilent (Some relay) = relay.has_begun ≡ false
 
--- a browser that has said who it is
-abbrev pub HasBegun : Option Relay → Type 0
-HasBegun None = ⊥
-HasBegun (Some relay) = relay.has_begun ≡ true
+  -- a browser that has said who it is
+  abbrev pub HasBegun : Option (Relay S) → Type 0
+  HasBegun None = ⊥
+  HasBegun (Some relay) = relay.has_begun ≡ true
 
--- a browser that is let go
-abbrev pub IsOver : Option Relay → Type 0
-IsOver None = ⊥
-IsOver (Some relay) = relay.is_over ≡ true
+  -- a browser that is let go
+  abbrev pub IsOver : Option (Relay S) → Type 0
+  IsOver None = ⊥
+  IsOver (Some relay) = relay.is_over ≡ true
 
 abbrev pub is_socket : Phase → Bool
 is_socket Request = false
 is_socket Socket = true
 is_socket Last = false
 
--- a page that has said who it is, and is open
-abbrev pub has_page : Relay → Bool
-has_page r = r.has_begun && is_socket r.visitor.wire.phase
+module _ {S : Type 0} where
+  -- a page that has said who it is, and is open
+  abbrev pub has_page : Relay S → Bool
+  has_page r = r.has_begun && is_socket r.visitor.wire.phase
 
 -- ---- whether there is room
 
--- the open page of another browser
-abbrev pub is_other : ℕ → (ℕ × Relay) → Bool
-is_other place at = not (at.0 == place) && has_page at.1
+module _ {S : Type 0} where
+  -- the open page of another browser
+  abbrev pub is_other : ℕ → (ℕ × Relay S) → Bool
+  is_other place at = not (at.0 == place) && has_page at.1
 
--- the same of a page of this address
-abbrev pub shares : List ℕ → Relay → Bool
-shares address r = has_page r && bytes_eq r.visitor.address.items address
+  -- the same of a page of this address
+  abbrev pub shares : List ℕ → Relay S → Bool
+  shares address r = has_page r && bytes_eq r.visitor.address.items address
 
-abbrev pub is_neighbour : ℕ → List ℕ → (ℕ × Relay) → Bool
-is_neighbour place address at = not (at.0 == place) && shares address at.1
+  abbrev pub is_neighbour : ℕ → List ℕ → (ℕ × Relay S) → Bool
+  is_neighbour place address at = not (at.0 == place) && shares address at.1
 
--- As many open pages as there may be are others', or three quarters of them are others' of its address.
-abbrev pub IsTooMany : Slab Relay → ℕ → Relay → ℕ → Type 0
-IsTooMany relays place relay most =
-    (most ≤ count_by (is_other place) (entries relays))
-    ⊎ ((relay.visitor.address.items ≢ [])
-    × (most - most / 4 ≤ count_by (is_neighbour place relay.visitor.address.items) (entries relays)))
+  abbrev pub holds_at : (ℕ × Relay S → Bool) → ℕ → Option (Relay S) → Bool
+  holds_at P place None = false
+  holds_at P place (Some relay) = P (place, relay)
+
+  -- how many of the places before one have a browser of which this holds
+  abbrev pub count_below : (ℕ × Relay S → Bool) → Slab (Relay S) → ℕ → ℕ
+  count_below P relays zero = 0
+  count_below P relays (suc place) =
+      if holds_at P place (get relays place) then suc (count_below P relays place) else count_below P relays place
+
+  -- As many open pages as there may be are others', or three quarters of them are others' of its address.
+  abbrev pub IsTooMany : Slab (Relay S) → ℕ → Relay S → ℕ → Type 0
+  IsTooMany relays place relay most =
+      (most ≤ count_below (is_other place) relays relays.capacity)
+      ⊎ ((relay.visitor.address.items ≢ [])
+      × (most - most / 4 ≤ count_below (is_neighbour place relay.visitor.address.items) relays relays.capacity))
 
 -- ---- who comes and goes
 
--- who is there stays, or goes if such a one may
-abbrev pub MayGo : (Option Relay → Type 0) → Option Relay → Option Relay → Type 0
-MayGo P old new = (new ≡ old) ⊎ ((new ≡ None) × P old)
+module _ {S : Type 0} where
+  -- who is there stays, or goes if such a one may
+  abbrev pub MayGo : (Option (Relay S) → Type 0) → Option (Relay S) → Option (Relay S) → Type 0
+  MayGo P old new = (new ≡ old) ⊎ ((new ≡ None) × P old)
 
--- it is over, and this is said of it: whether it was logged, and whether it was refused
-abbrev pub LeavesAs : (Bool × Bool) → Option Relay → Type 0
-LeavesAs said None = ⊥
-LeavesAs said (Some relay) =
-    (relay.is_over ≡ true) × (said.0 ≡ relay.is_told) × (IsTrue said.1 ↔ IsRefused relay)
+  -- it is over, and this is said of it: whether it was logged, and whether it was refused
+  abbrev pub LeavesAs : (Bool × Bool) → Option (Relay S) → Type 0
+  LeavesAs said None = ⊥
+  LeavesAs said (Some relay) =
+      (relay.is_over ≡ true) × (said.0 ≡ relay.is_told) × (IsTrue said.1 ↔ IsRefused relay)
 
--- a browser that has just come: nothing was read of it, and it was sent nothing
-pub record IsNew (browser : Browser) (now : Duration) (relay : Relay) : Type 0 where
-  pub page : page relay.visitor ≡ begun
-  pub output : (relay.visitor.wire.output.items ≡ []) × (relay.visitor.wire.sent ≡ 0)
-  pub view : relay.visitor.view ≡ record { is_welcomed = false; since = 0 }
-  pub address : relay.visitor.address.items ≡ []
-  pub rest : relay ≡ record {
-    visitor = relay.visitor;
-    browser = browser;
-    server = Unasked;
-    hall = None;
-    browser_ready = true;
-    server_ready = false;
-    has_more = false;
-    has_begun = false;
-    is_told = false;
-    began = now;
-    heard = now;
-    asked = now;
-    is_over = false;
-  }
+  -- a browser that has just come: nothing was read of it, and it was sent nothing
+  pub record IsNew (browser : S) (now : Duration) (relay : Relay S) : Type 0 where
+    pub page : page relay.visitor ≡ begun
+    pub output : (relay.visitor.wire.output.items ≡ []) × (relay.visitor.wire.sent ≡ 0)
+    pub view : relay.visitor.view ≡ record { is_welcomed = false; since = 0 }
+    pub address : relay.visitor.address.items ≡ []
+    pub rest : relay ≡ record {
+      visitor = relay.visitor;
+      browser = browser;
+      server = Unasked;
+      hall = None;
+      browser_ready = true;
+      server_ready = false;
+      has_more = false;
+      has_begun = false;
+      is_told = false;
+      began = now;
+      heard = now;
+      asked = now;
+      is_over = false;
+    }
 
--- one who hasn't said who it is came no earlier than this
-abbrev pub IsNoOlder : Duration → Option Relay → Type 0
-IsNoOlder began None = Unit {0}
-IsNoOlder began (Some relay) = relay.has_begun ≡ false → as_nanos began ≤ as_nanos relay.began
+  -- one who hasn't said who it is came no earlier than this
+  abbrev pub IsNoOlder : Duration → Option (Relay S) → Type 0
+  IsNoOlder began None = Unit {0}
+  IsNoOlder began (Some relay) = relay.has_begun ≡ false → as_nanos began ≤ as_nanos relay.began
 
--- the oldest of those who haven't said who they are is at this place
-abbrev pub IsOldest : Slab Relay → ℕ → Type 0
-IsOldest relays place =
-    IsSomeAnd (get relays place) (λ oldest. (oldest.has_begun ≡ false)
-    × ((other : ℕ) → IsNoOlder oldest.began (get relays other)))
+  -- the oldest of those who haven't said who they are is at this place
+  abbrev pub IsOldest : Slab (Relay S) → ℕ → Type 0
+  IsOldest relays place =
+      IsSomeAnd (get relays place) (λ oldest. (oldest.has_begun ≡ false)
+      × ((other : ℕ) → IsNoOlder oldest.began (get relays other)))
 
--- of those that were looked at the oldest is this one, or now the one at this place
-abbrev pub IsOlderOf : ℕ → Relay → Option (ℕ × Duration) → Option (ℕ × Duration) → Type 0
-IsOlderOf place relay None new =
-    (relay.has_begun ≡ false → new ≡ Some (place, relay.began)) × (relay.has_begun ≡ true → new ≡ None)
-IsOlderOf place relay (Some old) new =
-    ((relay.has_begun ≡ false) × (as_nanos relay.began ≤ as_nanos old.1) × (new ≡ Some (place, relay.began)))
-    ⊎ ((relay.has_begun ≡ false → as_nanos old.1 ≤ as_nanos relay.began) × (new ≡ Some old))
+  -- of those that were looked at the oldest is this one, or now the one at this place
+  abbrev pub IsOlderOf : ℕ → Relay S → Option (ℕ × Duration) → Option (ℕ × Duration) → Type 0
+  IsOlderOf place relay None new =
+      (relay.has_begun ≡ false → new ≡ Some (place, relay.began)) × (relay.has_begun ≡ true → new ≡ None)
+  IsOlderOf place relay (Some old) new =
+      ((relay.has_begun ≡ false) × (as_nanos relay.began ≤ as_nanos old.1) × (new ≡ Some (place, relay.began)))
+      ⊎ ((relay.has_begun ≡ false → as_nanos old.1 ≤ as_nanos relay.began) × (new ≡ Some old))
 
--- the oldest of those goes, and no other one; nobody goes if all have said who they are
-abbrev pub OldestGoes : Slab Relay → Slab Relay → Type 0
-OldestGoes old new =
-    ((place : ℕ) × IsOldest old place × Updates old new place None)
-    ⊎ (((place : ℕ) → IsSilent (get old place) → ⊥) × (new ≡ old))
+  -- the oldest of those goes, and no other one; nobody goes if all have said who they are
+  abbrev pub OldestGoes : Slab (Relay S) → Slab (Relay S) → Type 0
+  OldestGoes old new =
+      ((place : ℕ) × IsOldest old place × Updates old new place None)
+      ⊎ (((place : ℕ) → IsSilent (get old place) → ⊥) × (new ≡ old))
 
--- nobody goes as long as fewer than `most` are there
-pub record MakesRoom (most : ℕ) (old new : Slab Relay) : Type 0 where
-  pub few : slab_len old < most → new ≡ old
-  pub many : most ≤ slab_len old → OldestGoes old new
+  -- nobody goes as long as fewer than `most` are there
+  pub record MakesRoom (most : ℕ) (old new : Slab (Relay S)) : Type 0 where
+    pub few : slab_len old < most → new ≡ old
+    pub many : most ≤ slab_len old → OldestGoes old new
 
--- one who comes gets a place that is free after room was made
-pub record LetsIn (most : ℕ) (browser : Browser) (now : Duration) (old new : Slab Relay) : Type 0 where
-  pub room : Slab Relay
-  pub makes : MakesRoom most old room
-  pub place : ℕ
-  pub vacant : get room place ≡ None
-  pub relay : Relay
-  pub comes : IsNew browser now relay
-  pub placed : Updates room new place (Some relay)
+  -- one who comes gets a place that is free after room was made
+  pub record LetsIn (most : ℕ) (browser : S) (now : Duration) (old new : Slab (Relay S)) : Type 0 where
+    pub room : Slab (Relay S)
+    pub makes : MakesRoom most old room
+    pub place : ℕ
+    pub vacant : get room place ≡ None
+    pub relay : Relay S
+    pub comes : IsNew browser now relay
+    pub placed : Updates room new place (Some relay)
 
--- one who comes is closed: there is no memory, or the system doesn't watch the connection
-abbrev pub IsClosed : ℕ → Slab Relay → Slab Relay → Type 0
-IsClosed most old new = (room : Slab Relay) × MakesRoom most old room × SameValues room new
+  -- one who comes is closed: there is no memory, or the system doesn't watch the connection
+  abbrev pub IsClosed : ℕ → Slab (Relay S) → Slab (Relay S) → Type 0
+  IsClosed most old new = (room : Slab (Relay S)) × MakesRoom most old room × SameValues room new
 
--- nobody, or a stranger: one who was told nothing and has said nothing
-abbrev pub IsStranger : Option Relay → Type 0
-IsStranger None = Unit {0}
-IsStranger (Some relay) =
-    (page relay.visitor ≡ begun) × (relay.has_begun ≡ false) × (relay.is_told ≡ false) × (relay.hall ≡ None)
-    × (relay.server ≡ Unasked)
+  -- nobody, or a stranger: one who was told nothing and has said nothing
+  abbrev pub IsStranger : Option (Relay S) → Type 0
+  IsStranger None = Unit {0}
+  IsStranger (Some relay) =
+      (page relay.visitor ≡ begun) × (relay.has_begun ≡ false) × (relay.is_told ≡ false) × (relay.hall ≡ None)
+      × (relay.server ≡ Unasked)
 
--- nobody, or one who hasn't said who it is
-abbrev pub MayBeReplaced : Option Relay → Type 0
-MayBeReplaced None = Unit {0}
-MayBeReplaced (Some relay) = relay.has_begun ≡ false
+  -- nobody, or one who hasn't said who it is
+  abbrev pub MayBeReplaced : Option (Relay S) → Type 0
+  MayBeReplaced None = Unit {0}
+  MayBeReplaced (Some relay) = relay.has_begun ≡ false
 
--- who is there stays, or a stranger or nobody comes for one who hasn't said who it is
-abbrev pub Comes : Option Relay → Option Relay → Type 0
-Comes old new = (new ≡ old) ⊎ (MayBeReplaced old × IsStranger new)
+  -- who is there stays, or a stranger or nobody comes for one who hasn't said who it is
+  abbrev pub Comes : Option (Relay S) → Option (Relay S) → Type 0
+  Comes old new = (new ≡ old) ⊎ (MayBeReplaced old × IsStranger new)

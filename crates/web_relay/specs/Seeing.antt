@@ -19,30 +19,32 @@ use Rattle.web_relay.specs.declared.upstream.TheConstants.{ENDED}
 
 -- ---- a seat
 
--- a browser that watches is told that there is no hall for it, if none was found
-abbrev pub MissesHall : Option HallNumber → Relay → Relay → Type 0
-MissesHall None old new = LosesPage NO_SERVER.now old new
-MissesHall (Some number) old new = new ≡ old
+module _ {S : Type 0} where
+  -- a browser that watches is told that there is no hall for it, if none was found
+  abbrev pub MissesHall : Option HallNumber → Relay S → Relay S → Type 0
+  MissesHall None old new = LosesPage NO_SERVER.now old new
+  MissesHall (Some number) old new = new ≡ old
 
--- a browser that was sent nothing of its hall's page
-abbrev pub seated_afresh : Option HallNumber → Relay → Relay
-seated_afresh found r =
-    record r { hall = found; visitor = record r.visitor { view = record { is_welcomed = false; since = 0 } } }
+  -- a browser that was sent nothing of its hall's page
+  abbrev pub seated_afresh : Option HallNumber → Relay S → Relay S
+  seated_afresh found r =
+      record r { hall = found; visitor = record r.visitor { view = record { is_welcomed = false; since = 0 } } }
 
--- It stays in the hall that it has, or sits in another one; and whether it had none before.
-abbrev pub SitsIn : Option HallNumber → Relay → Bool → Relay → Type 0
-SitsIn found old begins new =
-    (mid : Relay) × MissesHall found old mid
-    × (((found ≡ old.hall) × (new ≡ mid) × (begins ≡ false))
-    ⊎ ((found ≢ old.hall) × (new ≡ seated_afresh found mid) × (begins ≡ is_none old.hall)))
+  -- It stays in the hall that it has, or sits in another one; and whether it had none before.
+  abbrev pub SitsIn : Option HallNumber → Relay S → Bool → Relay S → Type 0
+  SitsIn found old begins new =
+      (mid : Relay S) × MissesHall found old mid
+      × (((found ≡ old.hall) × (new ≡ mid) × (begins ≡ false))
+      ⊎ ((found ≢ old.hall) × (new ≡ seated_afresh found mid) × (begins ≡ is_none old.hall)))
 
--- Only an open page that watches sits, in a hall for its size.
-pub record Seats (watcher : Option Watcher) (now : Duration) (halls : Halls) (old : Relay) (begins : Bool)
-    (after : Halls) (new : Relay) : Type 0 where
-  pub apart : (IsWatcher old.visitor.identity × IsOpen old.visitor → ⊥)
-      → (new ≡ old) × (after ≡ halls) × (begins ≡ false)
-  pub sits : (rows columns : ℕ) → old.visitor.identity ≡ Watching rows columns → IsOpen old.visitor
-      → (found : Option HallNumber) × Enters watcher now (rows, columns) halls found after × SitsIn found old begins new
+  -- Only an open page that watches sits, in a hall for its size.
+  pub record Seats (watcher : Option Watcher) (now : Duration) (halls : Halls S) (old : Relay S) (begins : Bool)
+      (after : Halls S) (new : Relay S) : Type 0 where
+    pub apart : (IsWatcher old.visitor.identity × IsOpen old.visitor → ⊥)
+        → (new ≡ old) × (after ≡ halls) × (begins ≡ false)
+    pub sits : (rows columns : ℕ) → old.visitor.identity ≡ Watching rows columns → IsOpen old.visitor
+        → (found : Option HallNumber) × Enters watcher now (rows, columns) halls found after
+        × SitsIn found old begins new
 
 -- ---- a page
 
@@ -60,44 +62,45 @@ pub record SeesOwn (old new : Visitor) : Type 0 where
   pub apart : (HasClient old.identity → ⊥) → new ≡ old
   pub rest : new ≡ record old { wire = new.wire; view = new.view; identity = new.identity }
 
--- the same; it is over if memory is refused, or too much waits
-pub record ShowsOwn (old new : Relay) : Type 0 where
-  pub sees : new.is_over ≡ false → SeesOwn old.visitor new.visitor
-  pub keeps : Keeps old.visitor.identity new.visitor.identity
-  pub over : old.is_over ≡ true → new.is_over ≡ true
-  pub rest : new ≡ record old { visitor = new.visitor; is_over = new.is_over }
+module _ {S : Type 0} where
+  -- the same; it is over if memory is refused, or too much waits
+  pub record ShowsOwn (old new : Relay S) : Type 0 where
+    pub sees : new.is_over ≡ false → SeesOwn old.visitor new.visitor
+    pub keeps : Keeps old.visitor.identity new.visitor.identity
+    pub over : old.is_over ≡ true → new.is_over ≡ true
+    pub rest : new ≡ record old { visitor = new.visitor; is_over = new.is_over }
 
--- A browser that watches is sent what its hall shows.
-pub record SeesHall (hall after : Hall) (old new : Visitor) : Type 0 where
-  pub shows : IsOpen old → IsDue hall.client.client.display old.wire
-      → Shows hall.client.client.display old.view.since old.wire after.client.client.display new.view.since new.wire
-  pub sends : IsOpen old → SendsAll hall.client.client.display.told old.view new.view old.wire new.wire
-  pub needed : after.client.client.display.sheet.moment ≤ old.view.since → new.wire.sent ≡ old.wire.sent
-  pub later : (IsDue hall.client.client.display old.wire → ⊥)
-      → (new.view.since ≡ old.view.since) × (after.client ≡ hall.client)
-  pub closed : (IsOpen old → ⊥) → (new ≡ old) × (after.client ≡ hall.client)
-  pub rest : new ≡ record old { wire = new.wire; view = new.view }
+  -- A browser that watches is sent what its hall shows.
+  pub record SeesHall (hall after : Hall S) (old new : Visitor) : Type 0 where
+    pub shows : IsOpen old → IsDue hall.client.client.display old.wire
+        → Shows hall.client.client.display old.view.since old.wire after.client.client.display new.view.since new.wire
+    pub sends : IsOpen old → SendsAll hall.client.client.display.told old.view new.view old.wire new.wire
+    pub needed : after.client.client.display.sheet.moment ≤ old.view.since → new.wire.sent ≡ old.wire.sent
+    pub later : (IsDue hall.client.client.display old.wire → ⊥)
+        → (new.view.since ≡ old.view.since) × (after.client ≡ hall.client)
+    pub closed : (IsOpen old → ⊥) → (new ≡ old) × (after.client ≡ hall.client)
+    pub rest : new ≡ record old { wire = new.wire; view = new.view }
 
--- the same, and it counts as the hall's audience
-pub record ShowsHall (hall after : Hall) (old new : Relay) : Type 0 where
-  pub sees : new.is_over ≡ false → SeesHall hall after old.visitor new.visitor
-  pub identity : new.visitor.identity ≡ old.visitor.identity
-  pub over : old.is_over ≡ true → new.is_over ≡ true
-  pub rest : new ≡ record old { visitor = new.visitor; is_over = new.is_over }
-  pub counted : after
-      ≡ record hall { client = after.client; audience = min (hall.audience + 1) (2 ^ 64 - 1) }
+  -- the same, and it counts as the hall's audience
+  pub record ShowsHall (hall after : Hall S) (old new : Relay S) : Type 0 where
+    pub sees : new.is_over ≡ false → SeesHall hall after old.visitor new.visitor
+    pub identity : new.visitor.identity ≡ old.visitor.identity
+    pub over : old.is_over ≡ true → new.is_over ≡ true
+    pub rest : new ≡ record old { visitor = new.visitor; is_over = new.is_over }
+    pub counted : after
+        ≡ record hall { client = after.client; audience = min (hall.audience + 1) (2 ^ 64 - 1) }
 
--- If its connection had ended, the browser is told that afterwards.
-abbrev pub Watches : (hall after : Hall) (old new : Relay) → Type 0
-Watches hall after old new =
-    (mid : Relay) × ShowsHall hall after old mid × MatchBool hall.is_lost (LosesPage ENDED.now mid new) (new ≡ mid)
+  -- If its connection had ended, the browser is told that afterwards.
+  abbrev pub Watches : (hall after : Hall S) (old new : Relay S) → Type 0
+  Watches hall after old new =
+      (mid : Relay S) × ShowsHall hall after old mid × MatchBool hall.is_lost (LosesPage ENDED.now mid new) (new ≡ mid)
 
--- A browser is shown the page of its hall if it watches, and else of its own client. No other page is shown to it.
-pub record ShowsPage (halls : Halls) (old : Relay) (after : Halls) (new : Relay) : Type 0 where
-  pub own : (IsWatcher old.visitor.identity → ⊥) → (after ≡ halls) × ShowsOwn old new
-  pub none : IsWatcher old.visitor.identity → old.hall ≡ None → (after ≡ halls) × LosesPage ENDED.now old new
-  pub gone : IsWatcher old.visitor.identity → (number : HallNumber) → old.hall ≡ Some number
-      → hall_of halls.list number ≡ None → (after ≡ halls) × LosesPage ENDED.now old new
-  pub hall : IsWatcher old.visitor.identity → (number : HallNumber) (hall : Hall) → old.hall ≡ Some number
-      → hall_of halls.list number ≡ Some hall → (then : Hall)
-      × (after ≡ record halls { list = with_value halls.list number.place then }) × Watches hall then old new
+  -- A browser is shown the page of its hall if it watches, and else of its own client. No other page is shown to it.
+  pub record ShowsPage (halls : Halls S) (old : Relay S) (after : Halls S) (new : Relay S) : Type 0 where
+    pub own : (IsWatcher old.visitor.identity → ⊥) → (after ≡ halls) × ShowsOwn old new
+    pub none : IsWatcher old.visitor.identity → old.hall ≡ None → (after ≡ halls) × LosesPage ENDED.now old new
+    pub gone : IsWatcher old.visitor.identity → (number : HallNumber) → old.hall ≡ Some number
+        → hall_of halls.list number ≡ None → (after ≡ halls) × LosesPage ENDED.now old new
+    pub hall : IsWatcher old.visitor.identity → (number : HallNumber) (hall : Hall S) → old.hall ≡ Some number
+        → hall_of halls.list number ≡ Some hall → (then : Hall S)
+        × (after ≡ record halls { list = with_value halls.list number.place then }) × Watches hall then old new

@@ -1,13 +1,12 @@
--- What an event is for, and what a read came to.
-use Rattle.std.specs.Prelude.{ℕ, zero, suc, ◌/◌, ◌%◌, ◌==◌, if◌then◌else◌, Result, Ok, Err}
-use Rattle.std.specs.declared.io.Error.{Error}
-use Rattle.std.specs.declared.io.ErrorKind.{ErrorKind}
-use Rattle.std.specs.declared.io.ErrorKind.TheVariants.{WouldBlock, Interrupted}
+-- What an event is for, and what came of asking a listener.
+use Rattle.std.specs.Prelude.{◌≡◌, ◌≢◌, ℕ, ◌/◌, ◌%◌, ◌==◌, if◌then◌else◌, Result, Ok, Err}
 use Rattle.std.specs.IoError.{error_kind}
+use Rattle.std.specs.declared.io.Error.{Error}
+use Rattle.std.specs.declared.io.ErrorKind.TheVariants.{WouldBlock}
+use Rattle.web_relay.specs.declared.streams.Accepted.{Accepted}
+use Rattle.web_relay.specs.declared.streams.Accepted.TheVariants.{Came, Nothing, Refused}
 use Rattle.web_relay.specs.declared.streams.Woken.{Woken}
 use Rattle.web_relay.specs.declared.streams.Woken.TheVariants.{Listener, Browser, Server, Hall}
-use Rattle.web_relay.specs.declared.streams.ReadOutcome.{ReadOutcome}
-use Rattle.web_relay.specs.declared.streams.ReadOutcome.TheVariants.{More, Nothing, End}
 
 -- four kinds take turns, from place to place
 abbrev pub of_kind : ℕ → ℕ → Woken
@@ -19,13 +18,9 @@ of_kind kind place =
 abbrev pub woken : ℕ → Woken
 woken token = of_kind (token % 4) (token / 4)
 
--- a stream that fails ends, unless it only has to be asked again
-abbrev pub failed : ErrorKind → ReadOutcome
-failed WouldBlock = Nothing
-failed Interrupted = More
-failed _ = End
-
-abbrev pub outcome : Result ℕ Error → ReadOutcome
-outcome (Ok zero) = End
-outcome (Ok (suc n)) = More
-outcome (Err error) = failed (error_kind error)
+-- one who waits comes; nobody waits; or the system is to be asked again
+abbrev pub IsAccepted : {S : Type 0} → Result S Error → Accepted S → Type 0
+IsAccepted (Ok stream) came = came ≡ Came stream
+IsAccepted (Err error) (Came stream) = ⊥
+IsAccepted (Err error) Nothing = error_kind error ≡ WouldBlock
+IsAccepted (Err error) Refused = error_kind error ≢ WouldBlock

@@ -5,10 +5,8 @@ ghost use Rattle.web_relay.specs.Halls.{Chooses, HallHears, IsOver, IsStuck, IsT
 ghost use Rattle.web_relay.specs.Halls.{noted};
 ghost use Rattle.web_relay.specs.Walking.{Repeats};
 
-use crate::streams::{ReadOutcome, outcome_of};
-use mio::net::UnixStream;
 use std::time::Duration;
-use web_client::SharedClient;
+use web_client::{Arrival, SharedClient, WebStream};
 
 /// How often a connection is read in one turn.
 const READS: usize = 16;
@@ -22,11 +20,11 @@ const STAY: u64 = 30;
 
 /// A page that watchers share.
 #[derive(Drop)]
-pub struct Hall {
+pub struct Hall<S> {
     pub(crate) serial: u64,
     pub(crate) size: (u16, u16),
     pub(crate) client: SharedClient,
-    pub(crate) stream: UnixStream,
+    pub(crate) stream: S,
     pub(crate) is_ready: bool,
     // How many watch it.
     pub(crate) audience: usize,
@@ -38,28 +36,21 @@ pub struct Hall {
     pub(crate) chosen: Option<Duration>,
 }
 
-impl Hall {
+impl<S: WebStream + Drop> Hall<S> {
     // Reads the server once.
     fn hear(&mut self, buffer: &mut [u8])
-        ensures { HallHears self.old self.new }
+        ensures { HallHears S.WebStream self.old self.new }
     {
-        match outcome_of(self.client.receive(&mut self.stream, buffer)) {
-            ReadOutcome::Nothing => self.is_ready = false,
-            ReadOutcome::End => self.is_lost = true,
-            ReadOutcome::More => {}
+        match self.client.receive(&mut self.stream, buffer) {
+            Arrival::Nothing => self.is_ready = false,
+            Arrival::End => self.is_lost = true,
+            Arrival::More => {}
         }
-    }
-
-    // Whether the server may have sent something.
-    pub(crate) fn is_to_hear(&self) -> bool
-        ensures { IsTrue result ↔ IsHallToHear self.now }
-    {
-        self.is_ready && !self.is_lost
     }
 
     // Reads what the server has sent.
     fn hear_all(&mut self, buffer: &mut [u8])
-        ensures { Repeats IsHallToHear HallHears READS self.old self.new }
+        ensures { Repeats IsHallToHear (HallHears S.WebStream) READS self.old self.new }
     {
         'reads: for _ in 0..READS {
             if !self.is_to_hear() {
@@ -71,13 +62,21 @@ impl Hall {
 
     // Reads what the server has sent, and writes what waits for it. Nobody counts as its audience yet.
     pub(crate) fn turn(&mut self, buffer: &mut [u8])
-        ensures { HallTurns self.old self.new }
+        ensures { HallTurns S.WebStream self.old self.new }
     {
         self.audience = 0;
         self.hear_all(buffer);
-        if self.client.send_all(&mut self.stream).is_err() {
-            self.is_lost = true;
-        }
+        let is_whole = self.client.send_all(&mut self.stream);
+        self.is_lost |= !is_whole;
+    }
+}
+
+impl<S: Drop> Hall<S> {
+    // Whether the server may have sent something.
+    pub(crate) fn is_to_hear(&self) -> bool
+        ensures { IsTrue result ↔ IsHallToHear self.now }
+    {
+        self.is_ready && !self.is_lost
     }
 
     // Notes whether somebody watches it.

@@ -2,19 +2,19 @@
 
 ghost use Rattle.std.specs.Prelude.{◌≡◌, ◌≢◌, ◌⊎◌, ◌<◌, ◌≤◌, ℕ, [], Some, None, IfSome, IsSomeAnd};
 ghost use Rattle.std.specs.String.{string_bytes};
-ghost use Rattle.slab.specs.Slab.{get, slab_len};
+ghost use Rattle.slab.specs.Slab.{SameValues, Updates, get, slab_len};
 ghost use Rattle.web_relay.specs.Halls.{AtBoth, AtEach, Chooses, Closes, Enters, HallTurns, HasNone, HasSize};
 ghost use Rattle.web_relay.specs.Halls.{IsBetterOf, IsBusyHall, IsStandIn, IsStuck, IsStuckAt, Opens, OpensBy, Renews};
 ghost use Rattle.web_relay.specs.Halls.{heeds, number_at};
 ghost use Rattle.web_relay.specs.Places.{changed_at};
 
 use crate::hall::Hall;
-use crate::streams::{Around, hall_token};
+use crate::streams::{Around, BridgeStream, hall_token};
 use slab::Slab;
 use std::alloc::Global;
 use std::net::Net;
 use std::time::Duration;
-use web_client::SharedClient;
+use web_client::{SharedClient, WebStream};
 
 /// How many pages are shared at most.
 const MOST: usize = 8;
@@ -27,7 +27,7 @@ pub struct HallNumber {
 }
 
 // Sends the client of the hall at this place to the chosen window.
-fn choose_at(halls: &mut Slab<Hall>, place: usize, choice: &str, now: Duration)
+fn choose_at<S: Drop>(halls: &mut Slab<Hall<S>>, place: usize, choice: &str, now: Duration)
     ensures at { AtBoth (Chooses choice.now now) (get halls.old place) (get halls.new place) }
     ensures others { (other : ℕ) → other ≢ place → get halls.new other ≡ get halls.old other }
 {
@@ -37,7 +37,7 @@ fn choose_at(halls: &mut Slab<Hall>, place: usize, choice: &str, now: Duration)
 }
 
 // Sends the clients of all halls to the chosen window.
-fn choose_all(halls: &mut Slab<Hall>, choice: &str, now: Duration)
+fn choose_all<S: Drop>(halls: &mut Slab<Hall<S>>, choice: &str, now: Duration)
     ensures { AtEach (Chooses choice.now now) halls.old halls.new }
 {
     'places: for place in 0..halls.capacity() {
@@ -46,8 +46,8 @@ fn choose_all(halls: &mut Slab<Hall>, choice: &str, now: Duration)
 }
 
 // Reads and writes for the hall at this place.
-fn turn_at(halls: &mut Slab<Hall>, place: usize, buffer: &mut [u8])
-    ensures at { AtBoth HallTurns (get halls.old place) (get halls.new place) }
+fn turn_at<S: WebStream + Drop>(halls: &mut Slab<Hall<S>>, place: usize, buffer: &mut [u8])
+    ensures at { AtBoth (HallTurns S.WebStream) (get halls.old place) (get halls.new place) }
     ensures others { (other : ℕ) → other ≢ place → get halls.new other ≡ get halls.old other }
 {
     if let Some(hall) = halls.get_mut(place) {
@@ -55,8 +55,25 @@ fn turn_at(halls: &mut Slab<Hall>, place: usize, buffer: &mut [u8])
     }
 }
 
+// Puts a hall at a free place, if there is memory.
+fn put<S: Drop>(halls: &mut Slab<Hall<S>>, hall: Hall<S>) -> Option<usize>
+    ensures none { result ≡ None → SameValues halls.old halls.new }
+    ensures some { IfSome result (λ place. (get halls.old place ≡ None)
+        × Updates halls.old halls.new place (Some hall)) }
+{
+    match halls.insert(hall) {
+        Ok(place) => Some(place),
+        Err(_) => None,
+    }
+}
+
 // The better place for a page of this size: this one, or the best of those that were looked at.
-fn better(best: Option<usize>, place: usize, hall: &Hall, size: (u16, u16)) -> Option<usize>
+fn better<S: Drop>(
+    best: Option<usize>,
+    place: usize,
+    hall: &Hall<S>,
+    size: (u16, u16),
+) -> Option<usize>
     ensures { IsBetterOf size place hall.now best result }
 {
     let fits = hall.size.0 <= size.0 && hall.size.1 <= size.1;
@@ -69,18 +86,18 @@ fn better(best: Option<usize>, place: usize, hall: &Hall, size: (u16, u16)) -> O
 
 /// The pages that watchers share.
 #[derive(Drop)]
-pub struct Halls {
+pub struct Halls<S> {
     alloc: Global,
     /// The keys that choose the window to show, if one is chosen.
     choice: Option<String>,
-    pub(crate) list: Slab<Hall>,
+    pub(crate) list: Slab<Hall<S>>,
     /// The serial of the next hall.
     next: u64,
 }
 
-impl Halls {
+impl<S: Drop> Halls<S> {
     /// No page yet.
-    pub fn new(alloc: Global, choice: Option<String>) -> Halls
+    pub fn new(alloc: Global, choice: Option<String>) -> Halls<S>
         ensures list { result.list.slots ≡ [] }
         ensures choice { result.choice ≡ choice }
     {
@@ -157,7 +174,9 @@ impl Halls {
         }
         self.stand_in(size)
     }
+}
 
+impl<S: BridgeStream + Drop> Halls<S> {
     // A new hall of this size for this place.
     fn made<R: Net>(
         &mut self,
@@ -165,7 +184,7 @@ impl Halls {
         around: Around<'_>,
         size: (u16, u16),
         place: usize,
-    ) -> Option<Hall>
+    ) -> Option<Hall<S>>
         ensures same { self.new ≡ record self.old { next = self.new.next } }
         ensures next { self.old.next ≤ self.new.next }
         ensures serial { IfSome result (λ hall. hall.serial ≡ self.old.next) }
@@ -173,7 +192,7 @@ impl Halls {
     {
         let watcher = around.site.watcher.as_ref()?;
         let client = SharedClient::attach(self.alloc, size.0, size.1, watcher).ok()?;
-        let stream = around.connect(rt, hall_token(place)).ok()?;
+        let stream = S::reach(rt, around, hall_token(place))?;
         let serial = self.next;
         self.next = serial.saturating_add(1);
         Some(Hall {
@@ -196,10 +215,7 @@ impl Halls {
     {
         let place = self.list.vacant_key();
         let hall = self.made(rt, around, size, place)?;
-        match self.list.insert(hall) {
-            Ok(place) => Some(place),
-            Err(_) => None,
-        }
+        put(&mut self.list, hall)
     }
 
     /// The number of a hall for a page of this size, which is opened if there is none.
@@ -262,7 +278,9 @@ impl Halls {
             self.renew_at(rt, around, place);
         }
     }
+}
 
+impl<S: Drop> Halls<S> {
     /// Sends their clients to the chosen window.
     pub fn choose(&mut self, now: Duration)
         ensures none { self.old.choice ≡ None → self.new ≡ self.old }
@@ -274,16 +292,6 @@ impl Halls {
             return;
         };
         choose_all(&mut self.list, choice.as_str(), now);
-    }
-
-    /// Reads and writes for all halls. Nobody counts as their audience yet.
-    pub fn turn(&mut self, buffer: &mut [u8])
-        ensures each { AtEach HallTurns self.old.list self.new.list }
-        ensures same { self.new ≡ record self.old { list = self.new.list } }
-    {
-        'places: for place in 0..self.list.capacity() {
-            turn_at(&mut self.list, place, buffer);
-        }
     }
 
     /// The place of a hall that may have more to hear.
@@ -326,6 +334,18 @@ impl Halls {
     {
         'places: for place in 0..self.list.capacity() {
             self.close_at(place, now);
+        }
+    }
+}
+
+impl<S: WebStream + Drop> Halls<S> {
+    /// Reads and writes for all halls. Nobody counts as their audience yet.
+    pub fn turn(&mut self, buffer: &mut [u8])
+        ensures each { AtEach (HallTurns S.WebStream) self.old.list self.new.list }
+        ensures same { self.new ≡ record self.old { list = self.new.list } }
+    {
+        'places: for place in 0..self.list.capacity() {
+            turn_at(&mut self.list, place, buffer);
         }
     }
 }

@@ -14,5 +14,6 @@ pub use halls::{HallNumber, Halls};
 pub use places::{is_full, let_go, make_room, mark, oldest_silent};
 pub use relay::Relay;
 pub use streams::{
-    Around, Browser, WebListener, Woken, browser_token, listener_token, server_token, woken_by,
+    Accepted, Around, BridgeStream, Stream, WebListener, Woken, browser_token, listener_token,
+    server_token, woken_by,
 };

@@ -1,9 +1,11 @@
 //! The places of browsers: who is woken, who goes for another, and whether there is room.
 
-ghost use Rattle.std.specs.Prelude.{◌≡◌, ◌↔◌, ℕ, Some, None, count_by, IfSome, IsSome, IsTrue};
-ghost use Rattle.slab.specs.Slab.{get, entries, Updates};
+ghost use Rattle.std.specs.Prelude.{◌≡◌, ◌↔◌, ℕ, ◌+◌, ◌<◌, ◌≤◌, ◌^◌, suc, if◌then◌else◌, Some, None, IfSome};
+ghost use Rattle.std.specs.Prelude.{IsSome, IsTrue};
+ghost use Rattle.slab.specs.Slab.{get, Updates};
 ghost use Rattle.web_relay.specs.Places.{changed_at, heeds_browser, heeds_server, IsSilent, IsOver, IsTooMany};
-ghost use Rattle.web_relay.specs.Places.{MayGo, LeavesAs, is_other, is_neighbour, IsOlderOf, IsOldest, MakesRoom};
+ghost use Rattle.web_relay.specs.Places.{MayGo, LeavesAs, count_below, holds_at, is_other, is_neighbour, IsOlderOf};
+ghost use Rattle.web_relay.specs.Places.{IsOldest, MakesRoom};
 ghost use Rattle.web_relay.specs.Halls.{heeds};
 
 use crate::halls::Halls;
@@ -13,7 +15,7 @@ use slab::Slab;
 use std::time::Duration;
 
 /// Notes that a connection has something to read, or has room.
-pub fn mark(woken: Woken, relays: &mut Slab<Relay>, halls: &mut Halls)
+pub fn mark<S: Drop>(woken: Woken, relays: &mut Slab<Relay<S>>, halls: &mut Halls<S>)
     ensures browser { (place : ℕ) → woken ≡ Woken.Browser place
         → (relays.new ≡ changed_at relays.old place heeds_browser) × (halls.new ≡ halls.old) }
     ensures server { (place : ℕ) → woken ≡ Woken.Server place
@@ -40,10 +42,10 @@ pub fn mark(woken: Woken, relays: &mut Slab<Relay>, halls: &mut Halls)
 }
 
 // The oldest of those that were looked at, and of this one if it hasn't said who it is.
-fn older(
+fn older<S: Drop>(
     oldest: Option<(usize, Duration)>,
     place: usize,
-    relay: &Relay,
+    relay: &Relay<S>,
 ) -> Option<(usize, Duration)>
     ensures { IsOlderOf place relay.now oldest result }
 {
@@ -59,7 +61,7 @@ fn older(
 }
 
 /// The place of the oldest browser that hasn't said who it is.
-pub fn oldest_silent(relays: &Slab<Relay>) -> Option<usize>
+pub fn oldest_silent<S: Drop>(relays: &Slab<Relay<S>>) -> Option<usize>
     ensures some { IfSome result (IsOldest relays.now) }
     ensures none { result ≡ None → (place : ℕ) → IsSilent (get relays.now place) → ⊥ }
 {
@@ -76,7 +78,7 @@ pub fn oldest_silent(relays: &Slab<Relay>) -> Option<usize>
 }
 
 /// Makes room for one who comes: if that many are there, the oldest goes that hasn't said who it is.
-pub fn make_room(relays: &mut Slab<Relay>, most: usize)
+pub fn make_room<S: Drop>(relays: &mut Slab<Relay<S>>, most: usize)
     ensures goes { (place : ℕ) → MayGo IsSilent (get relays.old place) (get relays.new place) }
     ensures room { MakesRoom most relays.old relays.new }
 {
@@ -89,7 +91,7 @@ pub fn make_room(relays: &mut Slab<Relay>, most: usize)
 
 /// Lets the browser at this place go if it is over, with its own client. Returns whether it was logged that it was
 /// there, and whether it was refused.
-pub fn let_go(relays: &mut Slab<Relay>, place: usize) -> Option<(bool, bool)>
+pub fn let_go<S: Drop>(relays: &mut Slab<Relay<S>>, place: usize) -> Option<(bool, bool)>
     ensures gone { IfSome result (λ said. LeavesAs said (get relays.old place)) }
     ensures goes { IsOver (get relays.old place) → IsSome result }
     ensures updates { IsSome result → Updates relays.old relays.new place None }
@@ -103,29 +105,65 @@ pub fn let_go(relays: &mut Slab<Relay>, place: usize) -> Option<(bool, bool)>
     Some(said)
 }
 
-// How many open pages others have.
-fn others(relays: &Slab<Relay>, place: usize) -> usize
-    ensures { result ≡ count_by (is_other place) (entries relays.now) }
+// Whether the open page of another browser than the one at a place has this number.
+fn is_other<S: Drop>(relays: &Slab<Relay<S>>, place: usize, number: usize) -> bool
+    ensures { result ≡ holds_at (is_other place) number (get relays.now number) }
 {
-    relays
-        .iter()
-        .filter(|(number, other)| *number != place && other.has_page())
-        .count()
+    match relays.get(number) {
+        Some(other) => number != place && other.has_page(),
+        None => false,
+    }
+}
+
+// The same of a page of this address.
+fn is_neighbour<S: Drop>(
+    relays: &Slab<Relay<S>>,
+    place: usize,
+    address: &[u8],
+    number: usize,
+) -> bool
+    ensures { result ≡ holds_at (is_neighbour place address.now) number (get relays.now number) }
+{
+    match relays.get(number) {
+        Some(other) => number != place && other.shares(address),
+        None => false,
+    }
+}
+
+// One more, if so.
+fn one_more(count: usize, is_so: bool) -> usize
+    requires { count + 1 < 2 ^ 64 }
+    ensures value { result ≡ (if is_so then suc count else count) }
+    ensures most { result ≤ count + 1 }
+{
+    if is_so { count + 1 } else { count }
+}
+
+// How many open pages others have.
+fn others<S: Drop>(relays: &Slab<Relay<S>>, place: usize) -> usize
+    ensures { result ≡ count_below (is_other place) relays.now relays.now.capacity }
+{
+    let mut count = 0;
+    'numbers: for number in 0..relays.capacity() {
+        count = one_more(count, is_other(relays, place, number));
+    }
+    count
 }
 
 // How many open pages others have of this address.
-fn neighbours(relays: &Slab<Relay>, place: usize, address: &[u8]) -> usize
-    ensures { result ≡ count_by (is_neighbour place address.now) (entries relays.now) }
+fn neighbours<S: Drop>(relays: &Slab<Relay<S>>, place: usize, address: &[u8]) -> usize
+    ensures { result ≡ count_below (is_neighbour place address.now) relays.now relays.now.capacity }
 {
-    relays
-        .iter()
-        .filter(|(number, other)| *number != place && other.shares(address))
-        .count()
+    let mut count = 0;
+    'numbers: for number in 0..relays.capacity() {
+        count = one_more(count, is_neighbour(relays, place, address, number));
+    }
+    count
 }
 
 /// Whether the page at this place is one too many: of all, or of its address.
-pub fn is_full(relays: &Slab<Relay>, place: usize, most: usize) -> bool
-    ensures { (relay : Relay) → get relays.now place ≡ Some relay
+pub fn is_full<S: Drop>(relays: &Slab<Relay<S>>, place: usize, most: usize) -> bool
+    ensures { (relay : Relay S) → get relays.now place ≡ Some relay
         → IsTrue result ↔ IsTooMany relays.now place relay most }
 {
     let Some(relay) = relays.get(place) else {

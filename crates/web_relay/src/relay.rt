@@ -10,13 +10,12 @@ ghost use Rattle.web_relay.specs.Relaying.{WantsServer};
 ghost use Rattle.web_relay.specs.Walking.{Repeats};
 
 use crate::halls::HallNumber;
-use crate::streams::{Around, Browser, ReadOutcome, outcome_of};
+use crate::streams::{Around, BridgeStream};
 use attach_proto::Token;
-use mio::net::UnixStream;
 use std::alloc::Global;
 use std::net::Net;
 use std::time::Duration;
-use web_client::{Identity, Visitor};
+use web_client::{Arrival, Identity, Visitor, WebStream};
 
 /// How often a connection is read in one turn.
 const READS: usize = 16;
@@ -26,20 +25,20 @@ pub const NO_SERVER: &str = "The session hasn't begun, or it has ended";
 
 /// The own client's connection to the server.
 #[derive(Drop)]
-pub(crate) enum Upstream {
+pub(crate) enum Upstream<S> {
     /// There was none yet.
     Unasked,
-    Connected(UnixStream),
+    Connected(S),
     /// It ended.
     Lost,
 }
 
 /// A browser, and its own client's connection.
 #[derive(Drop)]
-pub struct Relay {
+pub struct Relay<S> {
     pub(crate) visitor: Visitor,
-    pub(crate) browser: Browser,
-    pub(crate) server: Upstream,
+    pub(crate) browser: S,
+    pub(crate) server: Upstream<S>,
     /// The hall whose page it watches.
     pub(crate) hall: Option<HallNumber>,
     pub(crate) browser_ready: bool,
@@ -55,9 +54,9 @@ pub struct Relay {
     pub(crate) is_over: bool,
 }
 
-impl Relay {
+impl<S: Drop> Relay<S> {
     /// A browser that has just come.
-    pub fn new(alloc: Global, browser: Browser, now: Duration) -> Relay
+    pub fn new(alloc: Global, browser: S, now: Duration) -> Relay<S>
         ensures { IsNew browser now result }
     {
         Relay {
@@ -89,64 +88,6 @@ impl Relay {
         ensures { result ≡ self.now.is_over }
     {
         self.is_over
-    }
-
-    /// Reads what the browser has sent, up to 64 frames in a turn if they are short. Returns whether its page opened.
-    /// Its own client is asked for what these frames say, and for nothing else.
-    pub fn read_browser(&mut self, around: Around<'_>, buffer: &mut [u8]) -> bool
-        ensures asks { Asks self.old.visitor.identity self.new.visitor.identity }
-        ensures opens { IsTrue result ↔ ((IsOpen self.old.visitor → ⊥) × IsOpen self.new.visitor) }
-        ensures reads { ReadsBrowser around.entry.site.now around.entry.now self.old self.new }
-    {
-        let was_open = self.visitor.is_open();
-        self.take_rest(around);
-        self.read_some(around, buffer);
-        !was_open && self.visitor.is_open()
-    }
-
-    // Takes what was left of frames that came.
-    fn take_rest(&mut self, around: Around<'_>)
-        ensures asks { Asks self.old.visitor.identity self.new.visitor.identity }
-        ensures takes { TakesRest around.entry.site.now around.entry.now self.old self.new }
-    {
-        if self.has_more && self.visitor.can_read() {
-            self.take(around);
-        }
-    }
-
-    // Whether all that came of the browser is taken, and more may have come.
-    fn is_to_read(&self) -> bool
-        ensures { IsTrue result ↔ IsToRead self.now }
-    {
-        !self.has_more && self.browser_ready && self.visitor.can_read()
-    }
-
-    // Reads the browser while it has sent something.
-    fn read_some(&mut self, around: Around<'_>, buffer: &mut [u8])
-        ensures asks { Asks self.old.visitor.identity self.new.visitor.identity }
-        ensures reads { Repeats IsToRead (ReadsOnce around.entry.site.now around.entry.now) READS self.old self.new }
-    {
-        'reads: for _ in 0..READS {
-            if !self.is_to_read() {
-                return;
-            }
-            self.read_once(around, buffer);
-        }
-    }
-
-    // Reads the browser once.
-    fn read_once(&mut self, around: Around<'_>, buffer: &mut [u8])
-        ensures asks { Asks self.old.visitor.identity self.new.visitor.identity }
-        ensures reads { ReadsOnce around.entry.site.now around.entry.now self.old self.new }
-    {
-        match outcome_of(self.visitor.receive(&mut self.browser, buffer)) {
-            ReadOutcome::Nothing => self.browser_ready = false,
-            ReadOutcome::End => {
-                self.is_over = true;
-                self.browser_ready = false;
-            }
-            ReadOutcome::More => self.take(around),
-        }
     }
 
     // Takes what came of the browser.
@@ -292,16 +233,6 @@ impl Relay {
         }
     }
 
-    /// Connects its own client.
-    pub fn connect<R: Net>(&mut self, rt: &R, around: Around<'_>, token: mio::Token)
-        ensures { Connects self.old self.new }
-    {
-        match around.connect(rt, token) {
-            Ok(stream) => self.server = Upstream::Connected(stream),
-            Err(_) => self.lose(NO_SERVER),
-        }
-    }
-
     /// The secret of the link that its open page shows.
     pub fn secret(&self) -> Option<Token>
         ensures some { IfSome result (λ secret. IsOpen self.now.visitor
@@ -342,6 +273,79 @@ impl Relay {
         match self.visitor.lose(reason) {
             Ok(()) => {}
             Err(_) => self.is_over = true,
+        }
+    }
+}
+
+impl<S: WebStream + Drop> Relay<S> {
+    /// Reads what the browser has sent, up to 64 frames in a turn if they are short. Returns whether its page opened.
+    /// Its own client is asked for what these frames say, and for nothing else.
+    pub fn read_browser(&mut self, around: Around<'_>, buffer: &mut [u8]) -> bool
+        ensures asks { Asks self.old.visitor.identity self.new.visitor.identity }
+        ensures opens { IsTrue result ↔ ((IsOpen self.old.visitor → ⊥) × IsOpen self.new.visitor) }
+        ensures reads { ReadsBrowser S.WebStream around.entry.site.now around.entry.now self.old self.new }
+    {
+        let was_open = self.visitor.is_open();
+        self.take_rest(around);
+        self.read_some(around, buffer);
+        !was_open && self.visitor.is_open()
+    }
+
+    // Takes what was left of frames that came.
+    fn take_rest(&mut self, around: Around<'_>)
+        ensures asks { Asks self.old.visitor.identity self.new.visitor.identity }
+        ensures takes { TakesRest around.entry.site.now around.entry.now self.old self.new }
+    {
+        if self.has_more && self.visitor.can_read() {
+            self.take(around);
+        }
+    }
+
+    // Whether all that came of the browser is taken, and more may have come.
+    fn is_to_read(&self) -> bool
+        ensures { IsTrue result ↔ IsToRead self.now }
+    {
+        !self.has_more && self.browser_ready && self.visitor.can_read()
+    }
+
+    // Reads the browser while it has sent something.
+    fn read_some(&mut self, around: Around<'_>, buffer: &mut [u8])
+        ensures asks { Asks self.old.visitor.identity self.new.visitor.identity }
+        ensures reads { Repeats IsToRead (ReadsOnce S.WebStream around.entry.site.now around.entry.now) READS self.old
+            self.new }
+    {
+        'reads: for _ in 0..READS {
+            if !self.is_to_read() {
+                return;
+            }
+            self.read_once(around, buffer);
+        }
+    }
+
+    // Reads the browser once.
+    fn read_once(&mut self, around: Around<'_>, buffer: &mut [u8])
+        ensures asks { Asks self.old.visitor.identity self.new.visitor.identity }
+        ensures reads { ReadsOnce S.WebStream around.entry.site.now around.entry.now self.old self.new }
+    {
+        match self.visitor.receive(&mut self.browser, buffer) {
+            Arrival::Nothing => self.browser_ready = false,
+            Arrival::End => {
+                self.is_over = true;
+                self.browser_ready = false;
+            }
+            Arrival::More => self.take(around),
+        }
+    }
+}
+
+impl<S: BridgeStream + Drop> Relay<S> {
+    /// Connects its own client.
+    pub fn connect<R: Net>(&mut self, rt: &R, around: Around<'_>, token: mio::Token)
+        ensures { Connects S.reaches around.entry.socket.now self.old self.new }
+    {
+        match S::reach(rt, around, token) {
+            Some(stream) => self.server = Upstream::Connected(stream),
+            None => self.lose(NO_SERVER),
         }
     }
 }

@@ -10,14 +10,14 @@ ghost use Rattle.web_relay.specs.Seeing.{MissesHall, Seats, ShowsHall, ShowsPage
 use crate::hall::Hall;
 use crate::halls::{HallNumber, Halls};
 use crate::relay::{NO_SERVER, Relay};
-use crate::streams::Around;
+use crate::streams::{Around, BridgeStream};
 use crate::upstream::ENDED;
 use std::net::Net;
 use web_client::Identity;
 
-impl Hall {
+impl<S: Drop> Hall<S> {
     // Shows its page to a browser that watches.
-    fn show(&mut self, relay: &mut Relay)
+    fn show(&mut self, relay: &mut Relay<S>)
         requires { IsWatcher relay.old.visitor.identity }
         ensures { ShowsHall self.old self.new relay.old relay.new }
     {
@@ -30,7 +30,7 @@ impl Hall {
 }
 
 // Tells a browser that there is no hall for it, if none was found.
-fn miss(found: Option<HallNumber>, relay: &mut Relay)
+fn miss<S: Drop>(found: Option<HallNumber>, relay: &mut Relay<S>)
     ensures { MissesHall found relay.old relay.new }
 {
     if found.is_none() {
@@ -39,7 +39,7 @@ fn miss(found: Option<HallNumber>, relay: &mut Relay)
 }
 
 // Seats a browser in the hall that was found for it. Returns whether it has just begun to watch.
-fn sit(found: Option<HallNumber>, relay: &mut Relay) -> bool
+fn sit<S: Drop>(found: Option<HallNumber>, relay: &mut Relay<S>) -> bool
     ensures { SitsIn found relay.old result relay.new }
 {
     miss(found, relay);
@@ -52,10 +52,10 @@ fn sit(found: Option<HallNumber>, relay: &mut Relay) -> bool
     had.is_none()
 }
 
-impl Halls {
-    /// Seats an open page that watches in the hall of its size. Of the page of another hall it was sent nothing. Returns
-    /// whether it has just begun to watch.
-    pub fn seat<R: Net>(&mut self, rt: &R, around: Around<'_>, relay: &mut Relay) -> bool
+impl<S: BridgeStream + Drop> Halls<S> {
+    /// Seats an open page that watches in the hall of its size. Of the page of another hall it was sent nothing.
+    /// Returns whether it has just begun to watch.
+    pub fn seat<R: Net>(&mut self, rt: &R, around: Around<'_>, relay: &mut Relay<S>) -> bool
         ensures { Seats around.entry.site.now.watcher around.entry.now self.old relay.old result self.new relay.new }
     {
         let Identity::Watching(rows, columns) = *relay.visitor.identity() else {
@@ -67,13 +67,15 @@ impl Halls {
         let found = self.enter(rt, around, (rows, columns));
         sit(found, relay)
     }
+}
 
+impl<S: Drop> Halls<S> {
     // Shows a browser that watches the page of its hall.
-    fn show_hall(&mut self, number: HallNumber, relay: &mut Relay)
+    fn show_hall(&mut self, number: HallNumber, relay: &mut Relay<S>)
         requires { IsWatcher relay.old.visitor.identity }
         ensures none { hall_of self.old.list number ≡ None
             → (self.new ≡ self.old) × LosesPage ENDED.now relay.old relay.new }
-        ensures hall { (hall : Hall) → hall_of self.old.list number ≡ Some hall → (after : Hall)
+        ensures hall { (hall : Hall S) → hall_of self.old.list number ≡ Some hall → (after : Hall S)
             × (self.new ≡ record self.old { list = with_value self.old.list number.place after })
             × Watches hall after relay.old relay.new }
     {
@@ -89,7 +91,7 @@ impl Halls {
     }
 
     /// Shows a browser its page: of its hall if it watches, and else of its own client. No other page is shown to it.
-    pub fn show(&mut self, relay: &mut Relay)
+    pub fn show(&mut self, relay: &mut Relay<S>)
         ensures { ShowsPage self.old relay.old self.new relay.new }
     {
         if !relay.visitor.is_watcher() {

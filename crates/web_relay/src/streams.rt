@@ -1,8 +1,8 @@
-//! Connections of browsers: over an address of this machine, or over a socket that a web server
-//! connects to.
+//! Connections: of browsers, over an address of this machine or a socket that a web server connects to, and of clients
+//! to the server.
 
 ghost use Rattle.std.specs.Prelude.{◌≡◌, ◌<◌, ◌^◌};
-ghost use Rattle.web_relay.specs.Tokens.{woken, outcome};
+ghost use Rattle.web_relay.specs.Tokens.{IsAccepted, woken};
 ghost use Rattle.web_relay.specs.declared.streams.Woken.{Woken};
 
 use mio::net::{TcpListener, TcpStream, UnixListener, UnixStream};
@@ -74,16 +74,6 @@ pub struct Around<'a> {
     pub now: Duration,
 }
 
-impl Around<'_> {
-    /// A new connection to the server.
-    pub fn connect<R: Net>(&self, rt: &R, token: Token) -> io::Result<UnixStream> {
-        let mut stream = UnixStream::connect(rt, self.socket)?;
-        let both = Interest::READABLE | Interest::WRITABLE;
-        self.registry.register(&mut stream, token, both)?;
-        Ok(stream)
-    }
-}
-
 /// Where browsers come in.
 #[derive(Drop)]
 pub enum WebListener {
@@ -91,9 +81,9 @@ pub enum WebListener {
     Unix(UnixListener),
 }
 
-/// A browser's connection.
+/// A connection.
 #[derive(Drop)]
-pub enum Browser {
+pub enum Stream {
     Tcp(TcpStream),
     Unix(UnixStream),
 }
@@ -111,77 +101,116 @@ impl WebListener {
             WebListener::Unix(it) => registry.register(it, token, Interest::READABLE),
         }
     }
+}
 
-    /// Takes the next connection.
-    pub fn accept(&self) -> io::Result<Browser> {
-        match self {
-            WebListener::Tcp(it) => {
-                let (stream, _) = it.accept()?;
-                stream.set_nodelay(true)?;
-                Ok(Browser::Tcp(stream))
-            }
-            WebListener::Unix(it) => {
-                let (stream, _) = it.accept()?;
-                Ok(Browser::Unix(stream))
-            }
+/// What came of asking a listener.
+#[derive(Drop)]
+pub enum Accepted<S> {
+    Came(S),
+    /// Nobody waits.
+    Nothing,
+    /// The system didn't hand over one who waits: it is to be asked again.
+    Refused,
+}
+
+/// A connection that a bridge makes or takes. Each relation is shown by a call of its function alone.
+pub trait BridgeStream {
+    ghost use Rattle.std.specs.Prelude.{◌≡◌, ℕ, List, Option};
+    ghost use Rattle.web_relay.specs.declared.streams.Accepted.{Accepted as Came};
+    ghost use Rattle.web_relay.specs.declared.streams.WebListener.{WebListener as Door};
+
+    // A socket's path, and the connection to it, if one was made.
+    ghost reaches: { List ℕ → Option Self → Type 0 };
+
+    // A listener, and what came of asking it.
+    ghost comes: { Door → Came Self → Type 0 };
+
+    /// A new connection to the server, if one can be made.
+    fn reach<R: Net>(rt: &R, around: Around<'_>, token: Token) -> Option<Self>
+        ensures { reaches around.entry.socket.now result };
+
+    /// Takes the next connection of a listener.
+    fn come(listener: &WebListener) -> Accepted<Self>
+        ensures { comes listener.now result };
+
+    /// Waits for bytes, and for room.
+    fn register(&mut self, registry: &Registry, token: Token) -> io::Result<()>
+        ensures { self.new ≡ self.old };
+}
+
+// A new connection to the socket at this path.
+fn connect_at<R: Net>(rt: &R, around: Around<'_>, token: Token) -> io::Result<Stream> {
+    let mut stream = Stream::Unix(UnixStream::connect(rt, around.socket)?);
+    stream.register(around.registry, token)?;
+    Ok(stream)
+}
+
+// The next connection of a listener.
+fn take_next(listener: &WebListener) -> io::Result<Stream> {
+    match listener {
+        WebListener::Tcp(it) => {
+            let (stream, _) = it.accept()?;
+            stream.set_nodelay(true)?;
+            Ok(Stream::Tcp(stream))
+        }
+        WebListener::Unix(it) => {
+            let (stream, _) = it.accept()?;
+            Ok(Stream::Unix(stream))
         }
     }
 }
 
-impl Browser {
-    /// Waits for bytes, and for room.
-    pub fn register(&mut self, registry: &Registry, token: Token) -> io::Result<()>
-        ensures { self.new ≡ self.old }
-    {
+// What an answer of a listener means.
+fn came_of(answer: io::Result<Stream>) -> Accepted<Stream>
+    ensures { IsAccepted answer result }
+{
+    match answer {
+        Ok(stream) => Accepted::Came(stream),
+        Err(error) if error.kind() == ErrorKind::WouldBlock => Accepted::Nothing,
+        Err(_) => Accepted::Refused,
+    }
+}
+
+impl BridgeStream for Stream {
+    ghost reaches = { λ path stream. Unit {0} };
+
+    ghost comes = { λ listener came. Unit {0} };
+
+    fn reach<R: Net>(rt: &R, around: Around<'_>, token: Token) -> Option<Stream> {
+        connect_at(rt, around, token).ok()
+    }
+
+    fn come(listener: &WebListener) -> Accepted<Stream> {
+        came_of(take_next(listener))
+    }
+
+    fn register(&mut self, registry: &Registry, token: Token) -> io::Result<()> {
         let both = Interest::READABLE | Interest::WRITABLE;
         match self {
-            Browser::Tcp(it) => registry.register(it, token, both),
-            Browser::Unix(it) => registry.register(it, token, both),
+            Stream::Tcp(it) => registry.register(it, token, both),
+            Stream::Unix(it) => registry.register(it, token, both),
         }
     }
 }
 
-impl Read for Browser {
+impl Read for Stream {
     fn read(&mut self, buffer: &mut [u8]) -> io::Result<usize> {
         match self {
-            Browser::Tcp(it) => it.read(buffer),
-            Browser::Unix(it) => it.read(buffer),
+            Stream::Tcp(it) => it.read(buffer),
+            Stream::Unix(it) => it.read(buffer),
         }
     }
 }
 
-impl Write for Browser {
+impl Write for Stream {
     fn write(&mut self, bytes: &[u8]) -> io::Result<usize> {
         match self {
-            Browser::Tcp(it) => it.write(bytes),
-            Browser::Unix(it) => it.write(bytes),
+            Stream::Tcp(it) => it.write(bytes),
+            Stream::Unix(it) => it.write(bytes),
         }
     }
 
     fn flush(&mut self) -> io::Result<()> {
         Ok(())
-    }
-}
-
-/// What a read came to. One that was interrupted gave no bytes, and more may be there.
-#[derive(Clone, Copy)]
-pub enum ReadOutcome {
-    More,
-    Nothing,
-    End,
-}
-
-/// What a read of this answer came to.
-pub fn outcome_of(read: io::Result<usize>) -> ReadOutcome
-    ensures { result ≡ outcome read }
-{
-    match read {
-        Ok(0) => ReadOutcome::End,
-        Ok(_) => ReadOutcome::More,
-        Err(error) => match error.kind() {
-            ErrorKind::WouldBlock => ReadOutcome::Nothing,
-            ErrorKind::Interrupted => ReadOutcome::More,
-            _ => ReadOutcome::End,
-        },
     }
 }

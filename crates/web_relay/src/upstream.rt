@@ -1,15 +1,14 @@
 //! What a relay does with the server's connection, and when its browser is shown something or ends.
 
-ghost use Rattle.std.specs.Prelude.{◌≡◌, ◌↔◌, IsTrue};
-ghost use Rattle.web_relay.specs.Relaying.{AsksWhetherThere, HasTakenAll, HearsOnce, IsBusy, IsLate};
+ghost use Rattle.std.specs.Prelude.{◌≡◌, ◌↔◌, IsTrue, MatchBool};
+ghost use Rattle.web_relay.specs.Relaying.{AsksWhetherThere, HasTakenAll, HearsAs, HearsOnce, IsBusy, IsLate};
 ghost use Rattle.web_relay.specs.Relaying.{IsToAsk, IsToHear, Looks, LosesServer, WritesAll, WritesServer};
 ghost use Rattle.web_relay.specs.Seeing.{ShowsOwn};
 ghost use Rattle.web_relay.specs.Walking.{Repeats};
 
 use crate::relay::{Relay, Upstream};
-use crate::streams::{ReadOutcome, outcome_of};
 use std::time::Duration;
-use web_client::Identity;
+use web_client::{Arrival, Identity, WebStream};
 
 /// A browser has this number of seconds for its request and its first message.
 const PATIENCE: u64 = 20;
@@ -29,7 +28,7 @@ pub const ENDED: &str = "The connection to the session ended";
 /// How often a connection is read in one turn.
 const READS: usize = 16;
 
-impl Relay {
+impl<S: Drop> Relay<S> {
     // Its own client's connection ended. If the server said why, the page is still to be told that.
     fn lose_server(&mut self)
         ensures { LosesServer self.old self.new }
@@ -41,52 +40,23 @@ impl Relay {
         self.server_ready = false;
     }
 
-    // Reads the server once.
-    fn hear(&mut self, buffer: &mut [u8])
-        ensures { HearsOnce self.old self.new }
+    // Notes what a read of the server came to.
+    fn note_heard(&mut self, came: Arrival)
+        ensures { HearsAs came self.old self.new }
     {
-        let Upstream::Connected(server) = &mut self.server else {
-            self.server_ready = false;
-            return;
-        };
-        match outcome_of(self.visitor.hear(server, buffer)) {
-            ReadOutcome::Nothing => self.server_ready = false,
-            ReadOutcome::End => self.lose_server(),
-            ReadOutcome::More => {}
+        match came {
+            Arrival::Nothing => self.server_ready = false,
+            Arrival::End => self.lose_server(),
+            Arrival::More => {}
         }
     }
 
-    /// Reads what the server has sent to its own client. Nobody else hears it.
-    pub fn read_server(&mut self, buffer: &mut [u8])
-        ensures { Repeats IsToHear HearsOnce READS self.old self.new }
+    // Notes whether the server's connection is broken.
+    fn note_asked(&mut self, is_whole: bool)
+        ensures { MatchBool is_whole (self.new ≡ self.old) (LosesServer self.old self.new) }
     {
-        'reads: for _ in 0..READS {
-            if !self.server_ready {
-                return;
-            }
-            self.hear(buffer);
-        }
-    }
-
-    // Writes what its own client has for the server.
-    fn write_server(&mut self)
-        ensures { WritesServer self.old self.new }
-    {
-        let Upstream::Connected(server) = &mut self.server else {
-            return;
-        };
-        if self.visitor.ask(server).is_err() {
+        if !is_whole {
             self.lose_server();
-        }
-    }
-
-    /// Writes what waits for either side.
-    pub fn write_all(&mut self)
-        ensures { WritesAll self.old self.new }
-    {
-        self.write_server();
-        if self.visitor.send_all(&mut self.browser).is_err() {
-            self.is_over = true;
         }
     }
 
@@ -135,10 +105,56 @@ impl Relay {
     {
         self.has_begun && now.saturating_sub(self.asked) >= Duration::from_secs(ASK)
     }
+}
+
+impl<S: WebStream + Drop> Relay<S> {
+    // Reads the server once.
+    fn hear(&mut self, buffer: &mut [u8])
+        ensures { HearsOnce S.WebStream self.old self.new }
+    {
+        let Upstream::Connected(server) = &mut self.server else {
+            self.server_ready = false;
+            return;
+        };
+        let came = self.visitor.hear(server, buffer);
+        self.note_heard(came);
+    }
+
+    /// Reads what the server has sent to its own client. Nobody else hears it.
+    pub fn read_server(&mut self, buffer: &mut [u8])
+        ensures { Repeats IsToHear (HearsOnce S.WebStream) READS self.old self.new }
+    {
+        'reads: for _ in 0..READS {
+            if !self.server_ready {
+                return;
+            }
+            self.hear(buffer);
+        }
+    }
+
+    // Writes what its own client has for the server.
+    fn write_server(&mut self)
+        ensures { WritesServer S.WebStream self.old self.new }
+    {
+        let Upstream::Connected(server) = &mut self.server else {
+            return;
+        };
+        let is_whole = self.visitor.ask(server);
+        self.note_asked(is_whole);
+    }
+
+    /// Writes what waits for either side.
+    pub fn write_all(&mut self)
+        ensures { WritesAll S.WebStream self.old self.new }
+    {
+        self.write_server();
+        let is_whole = self.visitor.send_all(&mut self.browser);
+        self.is_over |= !is_whole;
+    }
 
     // Asks it whether it is there.
     fn ask(&mut self, now: Duration)
-        ensures { AsksWhetherThere now self.old self.new }
+        ensures { AsksWhetherThere S.WebStream now self.old self.new }
     {
         self.asked = now;
         self.is_over |= self.visitor.ping().is_err();
@@ -147,7 +163,7 @@ impl Relay {
 
     /// Ends it if it is done or was silent for too long, and asks it now and then whether it is there.
     pub fn look(&mut self, now: Duration)
-        ensures { Looks now self.old self.new }
+        ensures { Looks S.WebStream now self.old self.new }
     {
         if self.is_late(now) || (self.visitor.is_last() && self.visitor.is_idle()) {
             self.is_over = true;

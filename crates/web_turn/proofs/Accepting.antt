@@ -1,36 +1,50 @@
--- One browser more that came.
-use Rattle.std.proofs.Common.{◌≡◌, ◌⊎◌, ◌||◌, ℕ, ◌+◌, Bool, true, false, List, [], ◌∷◌, ◌++◌, refl, ap, subst, ◌∙◌}
-use Rattle.std.proofs.Common.{Result, Ok, Err, OnErr, inl, inr, length, length-append}
-use Rattle.std.specs.Prelude.{OnOk}
+-- Who came through one listener more, and when the next round comes at once.
+use Rattle.std.proofs.Common.{◌≡◌, ◌⊎◌, ◌↔◌, ◌||◌, Bool, true, false, IsTrue, List, [], ◌∷◌, length, refl, inl, inr}
+use Rattle.std.proofs.Common.{◌+◌, ◌<◌, ◌≤◌, ℕ, zero, suc, arith, drop, get_or, subst, sym}
 use Rattle.std.specs.declared.time.Duration.{Duration}
-use Rattle.slab.specs.Slab.{Slab}
-use Rattle.web_relay.specs.declared.relay.Relay.{Relay}
-use Rattle.web_relay.specs.declared.streams.Browser.{Browser}
-use Rattle.web_relay.specs.Places.{IsClosed, LetsIn}
-use Rattle.web_turn.specs.Accepting.{Accepts, AcceptsAll, AcceptsEach}
+use Rattle.web_relay.specs.declared.streams.Accepted.{Accepted}
+use Rattle.web_relay.specs.declared.streams.WebListener.{WebListener}
+use Rattle.web_turn.specs.declared.bridge.Bridge.{Bridge}
+use Rattle.web_turn.specs.Accepting.{AcceptsAll, AcceptsAt}
 
-pub came : {T E : Type 0} (r : Result T E) (most : ℕ) (browser : Browser) (now : Duration) (old new : Slab Relay)
-    → OnOk r (LetsIn most browser now old new) → OnErr r (IsClosed most old new) → Accepts most now old new
-came (Ok x) most browser now old new lets closes = inl (browser, lets)
-came (Err e) most browser now old new lets closes = inr closes
+pub one_of : (a b c : Bool) → (a || (b || c)) ≡ ((a || b) || c)
+one_of true b c = refl
+one_of false b c = refl
 
-all-append : (most : ℕ) (now : Duration) (ss ts : List (Slab Relay)) (a b c : Slab Relay)
-    → AcceptsAll most now ss a b → AcceptsAll most now ts b c → AcceptsAll most now (ss ++ ts) a c
-all-append most now [] ts a b c e h = subst (λ (s : Slab Relay). AcceptsAll most now ts s c) e h
-all-append most now (s ∷ ss) ts a b c all h = (all.0, all-append most now ss ts s b c all.1 h)
+pub none_more : (a : Bool) → (a || false) ≡ a
+none_more true = refl
+none_more false = refl
 
-pub more_came : (most : ℕ) (now : Duration) (m n : ℕ) (a b c : Slab Relay) → AcceptsEach most now m a b
-    → AcceptsEach most now n b c → AcceptsEach most now (m + n) a c
-more_came most now m n a b c p q = (
-  p.0 ++ q.0,
-  length-append p.0 q.0 ∙ ap (λ k. k + length q.0) p.1 ∙ ap (λ k. m + k) q.1,
-  all-append most now p.0 q.0 a b c p.2 q.2,
-)
+drop_at : (ls : List WebListener) (i : ℕ) (d : WebListener) → i < length ls
+    → drop i ls ≡ get_or ls i d ∷ drop (suc i) ls
+drop_at [] i d l = absurd (omega (arith, l))
+drop_at (x ∷ xs) zero d l = refl
+drop_at (x ∷ xs) (suc i) d l = drop_at xs i d (omega (arith, l))
 
-pub one_came : (most : ℕ) (now : Duration) (n : ℕ) (a b c : Slab Relay) → AcceptsEach most now n a b
-    → Accepts most now b c → AcceptsEach most now (n + 1) a c
-one_came most now n a b c p h = more_came most now n 1 a b c p (c ∷ [], refl, (h, refl))
+drop_all : (ls : List WebListener) (i : ℕ) → length ls ≤ i → drop i ls ≡ []
+drop_all [] zero l = refl
+drop_all [] (suc i) l = refl
+drop_all (x ∷ xs) zero l = absurd (omega (arith, l))
+drop_all (x ∷ xs) (suc i) l = drop_all xs i (omega (arith, l))
 
-pub one_is : (a b : Bool) → (a || b) ≡ true → (a ≡ true) ⊎ (b ≡ true)
-one_is true b e = inl refl
-one_is false b e = inr e
+module _ {S : Type 0} (comes : WebListener → Accepted S → Type 0) (now : Duration) (ls : List WebListener) (i : ℕ) where
+  -- those who come through one listener, and through the later ones
+  pub one_listener : (d : WebListener) (a m n : Bridge S) (first rest : Bool) → i < length ls
+      → AcceptsAt comes (get_or ls i d) now a first m → AcceptsAll comes (drop (i + 1) ls) now m rest n
+      → AcceptsAll comes (drop i ls) now a (first || rest) n
+  one_listener d a m n first rest l one all =
+      let next : suc i ≡ i + 1 = omega arith in
+      let later : AcceptsAll comes (drop (suc i) ls) now m rest n =
+      subst (λ (k : ℕ). AcceptsAll comes (drop k ls) now m rest n) (sym next) all in
+      subst (λ (l : List WebListener). AcceptsAll comes l now a (first || rest) n) (sym (drop_at ls i d l))
+      (m, first, rest, one, later, refl)
+
+  pub all_came : (a : Bridge S) → length ls ≤ i → AcceptsAll comes (drop i ls) now a false a
+  all_came a l =
+      subst (λ (l : List WebListener). AcceptsAll comes l now a false a) (sym (drop_all ls i l)) (refl, refl)
+
+pub busy_if : (more has_work : Bool) (HasWork : Type 0) → (IsTrue has_work ↔ HasWork)
+    → (IsTrue (more || has_work) ↔ (HasWork ⊎ (more ≡ true)))
+busy_if true has_work HasWork is = (λ _. inr refl, λ _. refl)
+busy_if false has_work HasWork is =
+    (λ e. inl (is.0 e), λ h. elim h [ inl work ↦ is.1 work | inr e ↦ absurd (let wrong : false ≡ true = e in cc) ])

@@ -11,13 +11,15 @@ use Rattle.web_relay.specs.Places.{changed_at, heeds_browser, heeds_server}
 use Rattle.web_turn.specs.declared.bridge.Bridge.{Bridge}
 use Rattle.web_turn.specs.Waking.{wakes}
 
-both-are : (b : Bridge) (relays relays' : Slab Relay) (halls halls' : Halls) → (relays ≡ relays') × (halls ≡ halls')
-    → record b { relays = relays; halls = halls } ≡ record b { relays = relays'; halls = halls' }
-both-are b relays relays' halls halls' is =
-    ap (λ (s : Slab Relay). record b { relays = s; halls = halls }) is.0
-    ∙ ap (λ (h : Halls). record b { relays = relays'; halls = h }) is.1
+module _ {S : Type 0} where
+  both-are : (b : Bridge S) (relays relays' : Slab (Relay S)) (halls halls' : Halls S) → (relays ≡ relays') ×
+      (halls ≡ halls')
+      → record b { relays = relays; halls = halls } ≡ record b { relays = relays'; halls = halls' }
+  both-are b relays relays' halls halls' is =
+      ap (λ (s : Slab (Relay S)). record b { relays = s; halls = halls }) is.0
+      ∙ ap (λ (h : Halls S). record b { relays = relays'; halls = h }) is.1
 
-pub marks : (woken : Woken) (b : Bridge) (relays : Slab Relay) (halls : Halls)
+pub marks : {S : Type 0} (woken : Woken) (b : Bridge S) (relays : Slab (Relay S)) (halls : Halls S)
     → ((number : ℕ) → woken ≡ Listener number → ⊥)
     → ((place : ℕ) → woken ≡ Browser place
     → (relays ≡ changed_at b.relays place heeds_browser) × (halls ≡ b.halls))

@@ -11,10 +11,12 @@ use Rattle.web_client.specs.declared.identity.Identity.{Identity}
 use Rattle.web_client.specs.declared.identity.Identity.TheVariants.{Link}
 use Rattle.web_client.specs.Asking.{IsOwn}
 use Rattle.web_client.specs.Rows.{Refuses, TellsLast, handed}
+use Rattle.web_client.specs.declared.stream.WebStream.{Ghosts as Streams}
 use Rattle.web_requests.specs.declared.site.Site.{Site}
 use Rattle.web_requests.specs.declared.site.Watcher.{Watcher}
 use Rattle.web_relay.specs.declared.halls.Halls.{Halls}
 use Rattle.web_relay.specs.declared.relay.Relay.{Relay}
+use Rattle.web_relay.specs.declared.streams.BridgeStream.{Ghosts as Makes}
 use Rattle.web_relay.specs.Halls.{AtEach, Chooses, Closes, HallTurns, IsBusyHall, Renews}
 use Rattle.web_relay.specs.Places.{IsTooMany}
 use Rattle.web_relay.specs.Relaying.{Connects, EndsBy, HasPage, HearsServer, IsBusy, IsOpen, IsRefused, Looks}
@@ -26,214 +28,225 @@ use Rattle.web_turn.specs.declared.links.TheConstants.{USED}
 use Rattle.web_turn.specs.declared.turning.Arrival.{Arrival}
 use Rattle.web_turn.specs.declared.turning.TheConstants.{FULL}
 
--- ---- what a browser sent
-
--- its page says now who it is: a user, or one who watches
-abbrev pub IsToBegin : Relay → Type 0
-IsToBegin r = HasPage r.visitor.identity × (r.has_begun ≡ false) × IsOpen r.visitor
-
--- What a browser sent is taken. It is noted whether its page opened by that, and whether it says who it is.
-pub record Hears (site : Site) (now : Duration) (old : Relay) (arrival : Arrival) (new : Relay) : Type 0 where
-  pub mid : Relay
-  pub reads : ReadsBrowser site now old mid
-  pub opens : IsTrue arrival.opens ↔ ((IsOpen old.visitor → ⊥) × IsOpen mid.visitor)
-  pub begins : IsTrue arrival.begins ↔ IsToBegin mid
-  pub begun : arrival.begins ≡ true → new ≡ record mid { has_begun = true }
-  pub same : arrival.begins ≡ false → new ≡ mid
-
 -- a page that opens, or says who it is
 abbrev pub IsComing : Arrival → Type 0
 IsComing arrival = (arrival.opens ≡ true) ⊎ (arrival.begins ≡ true)
-
--- A page that comes is turned away if it is one too many. No other page is.
-pub record Admits (relays : Slab Relay) (place most : ℕ) (arrival : Arrival) (old new : Relay) : Type 0 where
-  pub full : IsComing arrival × IsTooMany relays place old most → TurnsAway arrival.opens FULL.now old new
-  pub room : (IsComing arrival × IsTooMany relays place old most → ⊥) → new ≡ old
-
--- what the browser at a place sent is taken, and its page is admitted
-pub record Reads (site : Site) (now : Duration) (most : ℕ) (relays : Slab Relay) (place : ℕ) (old new : Relay)
-    : Type 0 where
-  pub arrival : Arrival
-  pub heard : Relay
-  pub hears : Hears site now old arrival heard
-  pub admits : Admits (with_value relays place heard) place most arrival heard new
-
--- ---- who it is
-
--- Its own client is connected if its page has said who it is, and only once.
-pub record MayConnect (old new : Relay) : Type 0 where
-  pub wants : WantsServer old → Connects old new
-  pub other : (WantsServer old → ⊥) → new ≡ old
 
 -- a page that shows the secret of a link
 abbrev pub IsLink : Identity → Type 0
 IsLink (Link secret) = Unit {0}
 IsLink _ = ⊥
 
--- A page is told the user and the token that the file of its link stands for, and ends; or that it stands for nothing.
-abbrev pub Gives : (text : List ℕ) (seconds : ℕ) (old new : Relay) → Type 0
-Gives text seconds old new =
-    ((name token : List ℕ) × StandsAt text seconds name token × EndsBy (TellsLast (handed name token)) old new)
-    ⊎ (((name token : List ℕ) → StandsAt text seconds name token → ⊥) × EndsBy (Refuses USED.now) old new)
+module _ {S : Type 0} where
+  -- ---- what a browser sent
 
--- An open page that shows a link is given what its file stands for; or told that it stands for nothing, if no file was
--- found. Nobody else is given a user, and without a folder of links nobody is.
-pub record Redeems (links : Option (Bor (List ℕ))) (old new : Relay) : Type 0 where
-  pub link : IsOpen old.visitor → IsLink old.visitor.identity
-      → (IsSome links × (text : List ℕ) × (seconds : ℕ) × Gives text seconds old new)
-      ⊎ EndsBy (Refuses USED.now) old new
-  pub other : (IsOpen old.visitor × IsLink old.visitor.identity → ⊥) → new ≡ old
+  -- its page says now who it is: a user, or one who watches
+  abbrev pub IsToBegin : Relay S → Type 0
+  IsToBegin r = HasPage r.visitor.identity × (r.has_begun ≡ false) × IsOpen r.visitor
 
--- it is logged that it is there
-abbrev pub as_told : Relay → Relay
-as_told r = record r { is_told = true }
+  -- A page that comes is turned away if it is one too many. No other page is.
+  pub record Admits (relays : Slab (Relay S)) (place most : ℕ) (arrival : Arrival) (old new : Relay S) : Type 0 where
+    pub full : IsComing arrival × IsTooMany relays place old most → TurnsAway arrival.opens FULL.now old new
+    pub room : (IsComing arrival × IsTooMany relays place old most → ⊥) → new ≡ old
 
--- that one who watches is there is logged if it has just begun to
-pub record TellsWatching (begins : Bool) (old new : Relay) : Type 0 where
-  pub told : begins ≡ true → new ≡ as_told old
-  pub same : begins ≡ false → new ≡ old
+  -- ---- who it is
 
--- Its client is connected, its link redeemed, and it sits in a hall if it watches.
-pub record Joins (watcher : Option Watcher) (links : Option (Bor (List ℕ))) (now : Duration) (halls : Halls)
-    (old : Relay) (after : Halls) (new : Relay) : Type 0 where
-  pub connected : Relay
-  pub connects : MayConnect old connected
-  pub redeemed : Relay
-  pub redeems : Redeems links connected redeemed
-  pub begins : Bool
-  pub seated : Relay
-  pub seats : Seats watcher now halls redeemed begins after seated
-  pub tells : TellsWatching begins seated new
+  -- A page is told the user and the token that the file of its link stands for, and ends; or that it stands for
+  -- nothing.
+  abbrev pub Gives : (text : List ℕ) (seconds : ℕ) (old new : Relay S) → Type 0
+  Gives text seconds old new =
+      ((name token : List ℕ) × StandsAt text seconds name token × EndsBy (TellsLast (handed name token)) old new)
+      ⊎ (((name token : List ℕ) → StandsAt text seconds name token → ⊥) × EndsBy (Refuses USED.now) old new)
 
--- ---- what goes to whom
+  -- the same of a file that was taken; one that wasn't stands for nothing
+  abbrev pub GivesTaken : Option (List ℕ × ℕ) → Relay S → Relay S → Type 0
+  GivesTaken None old new = EndsBy (Refuses USED.now) old new
+  GivesTaken (Some taken) old new = Gives taken.0 taken.1 old new
 
--- the server has let its own client in
-abbrev pub IsLetIn : Relay → Type 0
-IsLetIn r = IsOwn r.visitor.identity (λ c. c.display.told.is_welcome ≡ true)
+  -- it is logged that it is there
+  abbrev pub as_told : Relay S → Relay S
+  as_told r = record r { is_told = true }
 
--- that a user is there is logged once, when the server has let it in
-pub record Tells (old new : Relay) : Type 0 where
-  pub told : old.is_told ≡ false → IsLetIn old → new ≡ as_told old
-  pub same : (old.is_told ≡ true) ⊎ (IsLetIn old → ⊥) → new ≡ old
+  -- that one who watches is there is logged if it has just begun to
+  pub record TellsWatching (begins : Bool) (old new : Relay S) : Type 0 where
+    pub told : begins ≡ true → new ≡ as_told old
+    pub same : begins ≡ false → new ≡ old
 
--- Its own client hears the server, and what the browser asked is written to that client's connection.
-pub record PassesOn (old new : Relay) : Type 0 where
-  pub heard : Relay
-  pub hears : HearsServer old heard
-  pub told : Relay
-  pub tells : Tells heard told
-  pub writes : WritesAll told new
+  -- ---- what goes to whom
 
--- It is shown its page, and what it was sent is written.
-pub record IsShown (halls : Halls) (old : Relay) (after : Halls) (new : Relay) : Type 0 where
-  pub shown : Relay
-  pub shows : ShowsPage halls old after shown
-  pub writes : WritesAll shown new
+  -- the server has let its own client in
+  abbrev pub IsLetIn : Relay S → Type 0
+  IsLetIn r = IsOwn r.visitor.identity (λ c. c.display.told.is_welcome ≡ true)
 
--- one turn of a browser
-pub record TurnsRelay (watcher : Option Watcher) (links : Option (Bor (List ℕ))) (now : Duration) (halls : Halls)
-    (old : Relay) (after : Halls) (new : Relay) : Type 0 where
-  pub entered : Halls
-  pub joined : Relay
-  pub joins : Joins watcher links now halls old entered joined
-  pub passed : Relay
-  pub passes : PassesOn joined passed
-  pub shown : Relay
-  pub shows : IsShown entered passed after shown
-  pub looks : Looks now shown new
+  -- that a user is there is logged once, when the server has let it in
+  pub record Tells (old new : Relay S) : Type 0 where
+    pub told : old.is_told ≡ false → IsLetIn old → new ≡ as_told old
+    pub same : (old.is_told ≡ true) ⊎ (IsLetIn old → ⊥) → new ≡ old
 
--- ---- place by place
+  -- ---- place by place
 
--- nobody is there before and after, or a browser of which this holds
-abbrev pub Both : (Relay → Relay → Type 0) → Option Relay → Option Relay → Type 0
-Both P None new = new ≡ None
-Both P (Some old) None = ⊥
-Both P (Some old) (Some new) = P old new
+  -- nobody is there before and after, or a browser of which this holds
+  abbrev pub Both : (Relay S → Relay S → Type 0) → Option (Relay S) → Option (Relay S) → Type 0
+  Both P None new = new ≡ None
+  Both P (Some old) None = ⊥
+  Both P (Some old) (Some new) = P old new
 
--- the browser at this place changes so, and nobody else does
-pub record ChangesAt (place : ℕ) (P : Relay → Relay → Type 0) (old new : Slab Relay) : Type 0 where
-  pub at : Both P (get old place) (get new place)
-  pub others : (other : ℕ) → other ≢ place → get new other ≡ get old other
+  -- the browser at this place changes so, and nobody else does
+  pub record ChangesAt (place : ℕ) (P : Relay S → Relay S → Type 0) (old new : Slab (Relay S)) : Type 0 where
+    pub at : Both P (get old place) (get new place)
+    pub others : (other : ℕ) → other ≢ place → get new other ≡ get old other
 
--- the browser at a place is read
-pub record ReadsAt (now : Duration) (place : ℕ) (old new : Bridge) : Type 0 where
-  pub reads : ChangesAt place (Reads old.site now old.most old.relays place) old.relays new.relays
-  pub rest : new ≡ record old { relays = new.relays; buffer = new.buffer }
+  -- how many logins were refused, with this one if it was
+  abbrev pub Counts : Relay S → ℕ → ℕ → Type 0
+  Counts r old new =
+      (IsRefused r → new ≡ min (old + 1) (2 ^ 64 - 1)) × ((IsRefused r → ⊥) → new ≡ old)
 
--- the browser at a place has its turn
-pub record TurnsAt (now : Duration) (place : ℕ) (old new : Bridge) : Type 0 where
-  pub turns : ChangesAt place
-      (λ before after. TurnsRelay old.site.watcher old.links now old.halls before new.halls after) old.relays new.relays
-  pub nobody : get old.relays place ≡ None → new.halls ≡ old.halls
-  pub rest : new ≡ record old { relays = new.relays; halls = new.halls; buffer = new.buffer }
+  -- A browser is let go exactly if it is over, and counted if it was refused.
+  pub record LetsGo (place : ℕ) (old new : Bridge S) : Type 0 where
+    pub goes : (relay : Relay S) → get old.relays place ≡ Some relay → relay.is_over ≡ true
+        → Updates old.relays new.relays place None × Counts relay old.refused new.refused
+    pub stays : IfSome (get old.relays place) (λ relay. relay.is_over ≡ false) → new ≡ old
+    pub rest : new ≡ record old { relays = new.relays; refused = new.refused }
 
--- how many logins were refused, with this one if it was
-abbrev pub Counts : Relay → ℕ → ℕ → Type 0
-Counts r old new =
-    (IsRefused r → new ≡ min (old + 1) (2 ^ 64 - 1)) × ((IsRefused r → ⊥) → new ≡ old)
+  -- ---- all of them
 
--- A browser is let go exactly if it is over, and counted if it was refused.
-pub record LetsGo (place : ℕ) (old new : Bridge) : Type 0 where
-  pub goes : (relay : Relay) → get old.relays place ≡ Some relay → relay.is_over ≡ true
-      → Updates old.relays new.relays place None × Counts relay old.refused new.refused
-  pub stays : IfSome (get old.relays place) (λ relay. relay.is_over ≡ false) → new ≡ old
-  pub rest : new ≡ record old { relays = new.relays; refused = new.refused }
+  -- a second has passed since a line told how many logins were refused, and some were
+  abbrev pub IsToTellRefused : Duration → Bridge S → Type 0
+  IsToTellRefused now b = (0 < b.refused) × (as_nanos b.told_refused + 1000000000 ≤ as_nanos now)
 
--- the browser at a place is read, has its turn, and is let go if it is over
-pub record Visits (now : Duration) (place : ℕ) (old new : Bridge) : Type 0 where
-  pub read : Bridge
-  pub reads : ReadsAt now place old read
-  pub turned : Bridge
-  pub turns : TurnsAt now place read turned
-  pub leaves : LetsGo place turned new
+  -- how many were refused is logged, once a second at most
+  pub record TellsRefused (now : Duration) (old new : Bridge S) : Type 0 where
+    pub none : old.log ≡ None → new ≡ record old { refused = 0 }
+    pub told : IsSome old.log → IsToTellRefused now old → new ≡ record old { refused = 0; told_refused = now }
+    pub early : IsSome old.log → (IsToTellRefused now old → ⊥) → new ≡ old
 
--- all places before this one are visited, in their order
-abbrev pub VisitsAll : Duration → ℕ → Bridge → Bridge → Type 0
-VisitsAll now zero old new = new ≡ old
-VisitsAll now (suc place) old new = (mid : Bridge) × VisitsAll now place old mid × Visits now place mid new
+  -- something is left to do for a browser without an event
+  abbrev pub IsBusyRelay : Option (Relay S) → Type 0
+  IsBusyRelay None = ⊥
+  IsBusyRelay (Some relay) = IsBusy relay
 
--- ---- all of them
+  -- something is left to do at once, for a browser or for a hall
+  abbrev pub HasWork : Bridge S → Type 0
+  HasWork b = ((place : ℕ) × IsBusyRelay (get b.relays place)) ⊎ ((place : ℕ) × IsBusyHall (get b.halls.list place))
 
--- The halls hear the server. One that is stuck attaches again, and clients are sent to the chosen window.
-pub record BeginsHalls (watcher : Option Watcher) (now : Duration) (old new : Halls) : Type 0 where
-  pub turned : Halls
-  pub turns : AtEach HallTurns old.list turned.list × (turned ≡ record old { list = turned.list })
-  pub renewed : Halls
-  pub renews : ((place : ℕ) → Renews watcher now turned.next (get turned.list place) (get renewed.list place))
-      × (renewed ≡ record turned { list = renewed.list; next = renewed.next })
-  pub none : renewed.choice ≡ None → new ≡ renewed
-  pub chooses : IfSome renewed.choice (λ choice. AtEach (Chooses (string_bytes choice) now) renewed.list new.list)
-  pub rest : new ≡ record renewed { list = new.list }
+-- ---- what was read, written, made and taken, by what is said of it
 
--- a second has passed since a line told how many logins were refused, and some were
-abbrev pub IsToTellRefused : Duration → Bridge → Type 0
-IsToTellRefused now b = (0 < b.refused) × (as_nanos b.told_refused + 1000000000 ≤ as_nanos now)
+module _ (takes : (folder secret : List ℕ) → Option (List ℕ × ℕ) → Type 0) where
+  -- what was taken of the folder of links for a secret, if there is a folder
+  abbrev pub TakesFrom : Option (Bor (List ℕ)) → List ℕ → Option (List ℕ × ℕ) → Type 0
+  TakesFrom None secret taken = taken ≡ None
+  TakesFrom (Some folder) secret taken = takes folder.now secret taken
 
--- how many were refused is logged, once a second at most
-pub record TellsRefused (now : Duration) (old new : Bridge) : Type 0 where
-  pub none : old.log ≡ None → new ≡ record old { refused = 0 }
-  pub told : IsSome old.log → IsToTellRefused now old → new ≡ record old { refused = 0; told_refused = now }
-  pub early : IsSome old.log → (IsToTellRefused now old → ⊥) → new ≡ old
+  -- An open page that shows a link is given what the file of its secret stands for. Nobody else is given a user.
+  pub record Redeems {S : Type 0} (links : Option (Bor (List ℕ))) (old new : Relay S) : Type 0 where
+    pub link : IsOpen old.visitor → (secret : List ℕ) → old.visitor.identity ≡ Link secret
+        → (taken : Option (List ℕ × ℕ)) × TakesFrom links secret taken × GivesTaken taken old new
+    pub other : (IsOpen old.visitor × IsLink old.visitor.identity → ⊥) → new ≡ old
 
--- The halls begin, all places are visited, and halls that are over close.
-pub record Turns (now : Duration) (old new : Bridge) : Type 0 where
-  pub begun : Bridge
-  pub begins : BeginsHalls old.site.watcher now old.halls begun.halls
-      × (begun ≡ record old { halls = begun.halls; buffer = begun.buffer })
-  pub visited : Bridge
-  pub visits : (places : ℕ) × (length begun.relays.slots ≤ places) × VisitsAll now places begun visited
-  pub closed : Bridge
-  pub closes : ((place : ℕ) → Closes now (get visited.halls.list place) (get closed.halls.list place))
-      × (closed ≡ record visited { halls = record visited.halls { list = closed.halls.list } })
-  pub tells : TellsRefused now closed new
+-- Its own client is connected if its page has said who it is, and only once.
+pub record MayConnect {S : Type 0} (makes : Makes S) (socket : List ℕ) (old new : Relay S) : Type 0 where
+  pub wants : WantsServer old → Connects makes.reaches socket old new
+  pub other : (WantsServer old → ⊥) → new ≡ old
 
--- ---- what is left to do
+module _ {S : Type 0} (streams : Streams S) where
+  -- What a browser sent is taken. It is noted whether its page opened by that, and whether it says who it is.
+  pub record Hears (site : Site) (now : Duration) (old : Relay S) (arrival : Arrival) (new : Relay S) : Type 0 where
+    pub mid : Relay S
+    pub reads : ReadsBrowser streams site now old mid
+    pub opens : IsTrue arrival.opens ↔ ((IsOpen old.visitor → ⊥) × IsOpen mid.visitor)
+    pub begins : IsTrue arrival.begins ↔ IsToBegin mid
+    pub begun : arrival.begins ≡ true → new ≡ record mid { has_begun = true }
+    pub same : arrival.begins ≡ false → new ≡ mid
 
--- something is left to do for a browser without an event
-abbrev pub IsBusyRelay : Option Relay → Type 0
-IsBusyRelay None = ⊥
-IsBusyRelay (Some relay) = IsBusy relay
+  -- what the browser at a place sent is taken, and its page is admitted
+  pub record Reads (site : Site) (now : Duration) (most : ℕ) (relays : Slab (Relay S)) (place : ℕ) (old new : Relay S)
+      : Type 0 where
+    pub arrival : Arrival
+    pub heard : Relay S
+    pub hears : Hears site now old arrival heard
+    pub admits : Admits (with_value relays place heard) place most arrival heard new
 
--- something is left to do at once, for a browser or for a hall
-abbrev pub HasWork : Bridge → Type 0
-HasWork b = ((place : ℕ) × IsBusyRelay (get b.relays place)) ⊎ ((place : ℕ) × IsBusyHall (get b.halls.list place))
+  -- the browser at a place is read
+  pub record ReadsAt (now : Duration) (place : ℕ) (old new : Bridge S) : Type 0 where
+    pub reads : ChangesAt place (Reads old.site now old.most old.relays place) old.relays new.relays
+    pub rest : new ≡ record old { relays = new.relays; buffer = new.buffer }
+
+  -- Its own client hears the server, and what the browser asked is written to that client's connection.
+  pub record PassesOn (old new : Relay S) : Type 0 where
+    pub heard : Relay S
+    pub hears : HearsServer streams old heard
+    pub told : Relay S
+    pub tells : Tells heard told
+    pub writes : WritesAll streams told new
+
+  -- It is shown its page, and what it was sent is written.
+  pub record IsShown (halls : Halls S) (old : Relay S) (after : Halls S) (new : Relay S) : Type 0 where
+    pub shown : Relay S
+    pub shows : ShowsPage halls old after shown
+    pub writes : WritesAll streams shown new
+
+  -- The halls hear the server. One that is stuck attaches again, and clients are sent to the chosen window.
+  pub record BeginsHalls (watcher : Option Watcher) (now : Duration) (old new : Halls S) : Type 0 where
+    pub turned : Halls S
+    pub turns : AtEach (HallTurns streams) old.list turned.list × (turned ≡ record old { list = turned.list })
+    pub renewed : Halls S
+    pub renews : ((place : ℕ) → Renews watcher now turned.next (get turned.list place) (get renewed.list place))
+        × (renewed ≡ record turned { list = renewed.list; next = renewed.next })
+    pub none : renewed.choice ≡ None → new ≡ renewed
+    pub chooses : IfSome renewed.choice (λ choice. AtEach (Chooses (string_bytes choice) now) renewed.list new.list)
+    pub rest : new ≡ record renewed { list = new.list }
+
+  module _ (makes : Makes S) (takes : (folder secret : List ℕ) → Option (List ℕ × ℕ) → Type 0) where
+    -- Its client is connected, its link redeemed, and it sits in a hall if it watches.
+    pub record Joins (b : Bridge S) (now : Duration) (old : Relay S) (after : Halls S) (new : Relay S) : Type 0 where
+      pub connected : Relay S
+      pub connects : MayConnect makes b.socket.now old connected
+      pub redeemed : Relay S
+      pub redeems : Redeems takes b.links connected redeemed
+      pub begins : Bool
+      pub seated : Relay S
+      pub seats : Seats b.site.watcher now b.halls redeemed begins after seated
+      pub tells : TellsWatching begins seated new
+
+    -- one turn of a browser
+    pub record TurnsRelay (b : Bridge S) (now : Duration) (old : Relay S) (after : Halls S) (new : Relay S)
+        : Type 0 where
+      pub entered : Halls S
+      pub joined : Relay S
+      pub joins : Joins b now old entered joined
+      pub passed : Relay S
+      pub passes : PassesOn joined passed
+      pub shown : Relay S
+      pub shows : IsShown entered passed after shown
+      pub looks : Looks streams now shown new
+
+    -- the browser at a place has its turn
+    pub record TurnsAt (now : Duration) (place : ℕ) (old new : Bridge S) : Type 0 where
+      pub turns : ChangesAt place (λ before after. TurnsRelay old now before new.halls after) old.relays new.relays
+      pub nobody : get old.relays place ≡ None → new.halls ≡ old.halls
+      pub rest : new ≡ record old { relays = new.relays; halls = new.halls; buffer = new.buffer }
+
+    -- the browser at a place is read, has its turn, and is let go if it is over
+    pub record Visits (now : Duration) (place : ℕ) (old new : Bridge S) : Type 0 where
+      pub read : Bridge S
+      pub reads : ReadsAt now place old read
+      pub turned : Bridge S
+      pub turns : TurnsAt now place read turned
+      pub leaves : LetsGo place turned new
+
+    -- all places before this one are visited, in their order
+    abbrev pub VisitsAll : Duration → ℕ → Bridge S → Bridge S → Type 0
+    VisitsAll now zero old new = new ≡ old
+    VisitsAll now (suc place) old new = (mid : Bridge S) × VisitsAll now place old mid × Visits now place mid new
+
+    -- The halls begin, all places are visited, and halls that are over close.
+    pub record Turns (now : Duration) (old new : Bridge S) : Type 0 where
+      pub begun : Bridge S
+      pub begins : BeginsHalls old.site.watcher now old.halls begun.halls
+          × (begun ≡ record old { halls = begun.halls; buffer = begun.buffer })
+      pub visited : Bridge S
+      pub visits : (places : ℕ) × (length begun.relays.slots ≤ places) × VisitsAll now places begun visited
+      pub closed : Bridge S
+      pub closes : ((place : ℕ) → Closes now (get visited.halls.list place) (get closed.halls.list place))
+          × (closed ≡ record visited { halls = record visited.halls { list = closed.halls.list } })
+      pub tells : TellsRefused now closed new

@@ -1,37 +1,68 @@
--- Which places events concern, and what a round of the loop does.
-use Rattle.std.specs.Prelude.{◌≡◌, ◌⊎◌, ℕ, Bool, true, List, [], ◌∷◌}
+-- Which places events concern, how long a bridge rests, and what a round of its loop does.
+use Rattle.std.specs.Prelude.{◌≡◌, ◌⊎◌, ◌↔◌, ◌||◌, ℕ, Bool, true, List, [], ◌∷◌, IsTrue, if◌then◌else◌, nat_lt}
+use Rattle.std.specs.Prelude.{Option, Some, None, Result, Ok, Err, ⊤}
+use Rattle.std.specs.Duration.{as_nanos}
+use Rattle.std.specs.declared.io.Error.{Error}
 use Rattle.std.specs.declared.time.Duration.{Duration}
 use Rattle.mio.specs.Event.{event_token}
 use Rattle.mio.specs.declared.event.event.Event.{Event}
+use Rattle.web_client.specs.declared.stream.WebStream.{Ghosts as Streams}
+use Rattle.web_relay.specs.declared.streams.BridgeStream.{Ghosts as Makes}
+use Rattle.web_relay.specs.declared.streams.WebListener.{WebListener}
 use Rattle.web_relay.specs.declared.streams.Woken.{Woken}
 use Rattle.web_relay.specs.declared.streams.Woken.TheVariants.{Listener, Browser, Server, Hall}
 use Rattle.web_relay.specs.Halls.{heeds}
 use Rattle.web_relay.specs.Places.{changed_at, heeds_browser, heeds_server}
 use Rattle.web_relay.specs.Tokens.{woken}
 use Rattle.web_turn.specs.declared.bridge.Bridge.{Bridge}
-use Rattle.web_turn.specs.Accepting.{AcceptsEach, room_for}
+use Rattle.web_turn.specs.Accepting.{AcceptsIf}
 use Rattle.web_turn.specs.Turning.{HasWork, Turns}
 
--- Browsers wait at a listener, or one connection has something to read or has room.
-abbrev pub wakes : Woken → Bridge → Bridge
-wakes (Listener number) b = record b { has_comers = true }
-wakes (Browser place) b = record b { relays = changed_at b.relays place heeds_browser }
-wakes (Server place) b = record b { relays = changed_at b.relays place heeds_server }
-wakes (Hall place) b = record b { halls = record b.halls { list = changed_at b.halls.list place heeds } }
+module _ {S : Type 0} where
+  -- Browsers wait at a listener, or one connection has something to read or has room.
+  abbrev pub wakes : Woken → Bridge S → Bridge S
+  wakes (Listener number) b = record b { has_comers = true }
+  wakes (Browser place) b = record b { relays = changed_at b.relays place heeds_browser }
+  wakes (Server place) b = record b { relays = changed_at b.relays place heeds_server }
+  wakes (Hall place) b = record b { halls = record b.halls { list = changed_at b.halls.list place heeds } }
 
--- one event after another
-abbrev pub wakes_all : List Event → Bridge → Bridge
-wakes_all [] b = b
-wakes_all (event ∷ later) b = wakes_all later (wakes (woken (event_token event).0) b)
+  -- one event after another
+  abbrev pub wakes_all : List Event → Bridge S → Bridge S
+  wakes_all [] b = b
+  wakes_all (event ∷ later) b = wakes_all later (wakes (woken (event_token event).0) b)
 
--- Each event is noted, browsers are accepted, and all have their turn. If work is left, or more browsers may be
--- accepted, the next round comes at once.
-pub record Rounds (now : Duration) (events : List Event) (old : Bridge) (is_busy : Bool) (new : Bridge) : Type 0 where
-  pub woken : Bridge
-  pub wakes : woken ≡ wakes_all events old
-  pub came : Bridge
-  pub accepts : ((count : ℕ) × AcceptsEach (room_for woken.most) now count woken.relays came.relays)
-      × (came ≡ record woken { relays = came.relays; has_comers = came.has_comers })
-  pub turns : Turns now came new
-  pub waits : HasWork new → is_busy ≡ true
-  pub rests : is_busy ≡ true → HasWork new ⊎ (came.has_comers ≡ true)
+  -- How long a bridge rests at most without an event, in nanoseconds: not at all if something is left to do, a tenth of
+  -- a second if browsers may wait or refusals are to be told, and else two seconds.
+  abbrev pub longest_rest : Bridge S → ℕ
+  longest_rest b =
+      if b.is_busy then 0 else if b.has_comers || nat_lt 0 b.refused then 100000000 else 2000000000
+
+module _ {S : Type 0} (streams : Streams S) (makes : Makes S)
+    (takes : (folder secret : List ℕ) → Option (List ℕ × ℕ) → Type 0) where
+  -- Each event is noted, browsers are accepted, and all have their turn. The next round comes at once exactly if work
+  -- is left, or more browsers may be accepted.
+  pub record Rounds (now : Duration) (events : List Event) (listeners : List WebListener) (old new : Bridge S)
+      : Type 0 where
+    pub came : Bridge S
+    pub more : Bool
+    pub accepts : AcceptsIf makes.comes listeners now (wakes_all events old) more came
+    pub turned : Bridge S
+    pub turns : Turns streams makes takes now came turned
+    pub busy : IsTrue new.is_busy ↔ (HasWork turned ⊎ (more ≡ true))
+    pub rest : new ≡ record turned { is_busy = new.is_busy }
+
+  -- a round at the time after a wait; none after one that was interrupted or refused
+  abbrev pub RoundsAfter : Result (Option Duration) Error → List Event → List WebListener → Bridge S
+      → Result ⊤ Error → Bridge S → Type 0
+  RoundsAfter (Ok (Some now)) events listeners old result new =
+      (result ≡ Ok tt) × Rounds now events listeners old new
+  RoundsAfter (Ok None) events listeners old result new = (result ≡ Ok tt) × (new ≡ old)
+  RoundsAfter (Err error) events listeners old result new = (result ≡ Err error) × (new ≡ old)
+
+  -- it waited for as long as it rests at most, and had a round with what came
+  abbrev pub GoesRound : {P : Type 0} → (P → Duration → Result (Option Duration) Error → List Event → P → Type 0)
+      → List WebListener → P → Bridge S → Result ⊤ Error → P → Bridge S → Type 0
+  GoesRound waits listeners before old result after new =
+      (longest : Duration) × (as_nanos longest ≡ longest_rest old) × (came : Result (Option Duration) Error)
+      × (events : List Event) × waits before longest came events after
+      × RoundsAfter came events listeners old result new

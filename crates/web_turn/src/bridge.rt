@@ -1,28 +1,28 @@
 //! The loop of a bridge: one thread, and all connections.
 
-ghost use Rattle.std.specs.Prelude.{◌≡◌, ◌≤◌, ℕ, [], true, false, IfOk, OnErr, OnOk};
+ghost use Rattle.std.specs.Prelude.{◌≡◌, ℕ, [], true, false, IfOk, OnErr, OnOk};
 ghost use Rattle.std.specs.Duration.{as_nanos};
 ghost use Rattle.std.specs.declared.time.Duration.{Duration};
 ghost use Rattle.slab.specs.Slab.{get};
 ghost use Rattle.mio.specs.Events.{items};
 ghost use Rattle.web_relay.specs.Places.{Comes, IsClosed, LetsIn};
-ghost use Rattle.web_turn.specs.Accepting.{Accepts, AcceptsEach, room_for};
-ghost use Rattle.web_turn.specs.Waking.{Rounds, wakes, wakes_all};
+ghost use Rattle.web_turn.specs.Accepting.{AcceptsAll, AcceptsAt, AcceptsIf, AcceptsOne, room_for};
+ghost use Rattle.web_turn.specs.Waking.{GoesRound, Rounds, RoundsAfter, longest_rest, wakes, wakes_all};
 
+use crate::links::TakesLinks;
 use crate::log::WebLog;
+use crate::waiting::Waits;
 use mio::{Events, Poll, Registry};
 use slab::Slab;
 use std::alloc::{AllocError, AllocGlobal, Global};
-use std::fs::{File, Files};
 use std::io;
-use std::io::ErrorKind;
 use std::net::Net;
 use std::sync::{Arc, Wait};
 use std::time::{Clock, Duration};
-use web_client::Site;
+use web_client::{Site, WebStream};
 use web_relay::{
-    Browser, Halls, Relay, WebListener, Woken, browser_token, listener_token, make_room, mark,
-    woken_by,
+    Accepted, BridgeStream, Halls, Relay, WebListener, Woken, browser_token, listener_token,
+    make_room, mark, woken_by,
 };
 
 /// The size of a read.
@@ -41,9 +41,9 @@ const LOOK: u64 = 2;
 const SOON: u64 = 100;
 
 /// What a bridge asks of the system, except to wait: a function says that itself, as it may then never return.
-pub trait WebHost: Net + Files<File = File> + Clock + AllocGlobal {}
+pub trait WebHost: Net + TakesLinks + Clock + AllocGlobal {}
 
-impl<R: Net + Files<File = File> + Clock + AllocGlobal> WebHost for R {}
+impl<R: Net + TakesLinks + Clock + AllocGlobal> WebHost for R {}
 
 /// What a bridge is to do.
 #[derive(Drop)]
@@ -62,32 +62,34 @@ pub struct BridgeOptions<'a> {
 
 /// The browsers that are there, and all that they use together.
 #[derive(Drop)]
-pub struct Bridge<'a> {
+pub struct Bridge<'a, S> {
     alloc: Global,
     pub(crate) site: Site,
     pub(crate) socket: &'a str,
     pub(crate) links: Option<&'a str>,
     pub(crate) most: usize,
     pub(crate) log: Option<Arc<WebLog>>,
-    pub(crate) relays: Slab<Relay>,
-    pub(crate) halls: Halls,
+    pub(crate) relays: Slab<Relay<S>>,
+    pub(crate) halls: Halls<S>,
     pub(crate) buffer: Vec<u8>,
     // Browsers may wait at a listener. It tells of those that come, and not again of those that wait.
     has_comers: bool,
+    // Something is left to do at once.
+    is_busy: bool,
     // How many logins were refused since a line told of such.
     pub(crate) refused: u64,
     pub(crate) told_refused: Duration,
 }
 
-impl<'a> Bridge<'a> {
+impl<'a, S: Drop> Bridge<'a, S> {
     /// A bridge that nobody has come to.
     pub fn new(
         alloc: Global,
         site: Site,
         options: BridgeOptions<'a>,
-    ) -> Result<Bridge<'a>, AllocError>
+    ) -> Result<Bridge<'a, S>, AllocError>
         ensures nobody { IfOk result (λ bridge. (bridge.relays.slots ≡ []) × (bridge.halls.list.slots ≡ [])) }
-        ensures comers { IfOk result (λ bridge. bridge.has_comers ≡ true) }
+        ensures comers { IfOk result (λ bridge. (bridge.has_comers ≡ true) × (bridge.is_busy ≡ false)) }
         ensures given { IfOk result (λ bridge. (bridge.site ≡ site) × (bridge.socket ≡ options.entry.socket)
             × (bridge.links ≡ options.entry.links) × (bridge.most ≡ options.entry.most)
             × (bridge.halls.choice ≡ options.entry.choice)) }
@@ -110,6 +112,7 @@ impl<'a> Bridge<'a> {
             halls: Halls::new(alloc, choice),
             buffer: vec![in alloc; 0; CHUNK]?,
             has_comers: true,
+            is_busy: false,
             refused: 0,
             told_refused: Duration::ZERO,
         })
@@ -122,97 +125,11 @@ impl<'a> Bridge<'a> {
         self.most.saturating_add(SPARE)
     }
 
-    // Lets a browser in, if there is memory and the system watches its connection. If there are too many, the oldest
-    // one goes that hasn't said who it is.
-    fn let_in(&mut self, browser: Browser, registry: &Registry, now: Duration) -> io::Result<()>
-        ensures comes { (place : ℕ) → Comes (get self.old.relays place) (get self.new.relays place) }
-        ensures ok { OnOk result (LetsIn (room_for self.old.most) browser now self.old.relays self.new.relays) }
-        ensures err { OnErr result (IsClosed (room_for self.old.most) self.old.relays self.new.relays) }
-        ensures same { self.new ≡ record self.old { relays = self.new.relays } }
-    {
-        let mut browser = browser;
-        let most = self.places();
-        make_room(&mut self.relays, most);
-        let place = self.relays.vacant_key();
-        browser.register(registry, browser_token(place))?;
-        match self.relays.insert(Relay::new(self.alloc, browser, now)) {
-            Ok(_) => Ok(()),
-            Err(error) => Err(io::Error::from(AllocError::from(error))),
-        }
-    }
-
-    // Takes one browser that waits at a listener: it is let in or closed. Returns whether there was one. If the system
-    // refuses to hand it over, it is asked again soon.
-    fn accept_one(&mut self, listener: &WebListener, registry: &Registry, now: Duration) -> bool
-        ensures some { result ≡ true → Accepts (room_for self.old.most) now self.old.relays self.new.relays }
-        ensures none { result ≡ false → self.new ≡ record self.old { has_comers = self.new.has_comers } }
-        ensures waits { self.old.has_comers ≡ true → self.new.has_comers ≡ true }
-        ensures same { self.new ≡ record self.old {
-          relays = self.new.relays;
-          has_comers = self.new.has_comers;
-        } }
-    {
-        match listener.accept() {
-            Ok(browser) => {
-                // (one that can't be let in is closed)
-                let _ = self.let_in(browser, registry, now);
-                true
-            }
-            Err(error) => {
-                self.has_comers |= error.kind() != ErrorKind::WouldBlock;
-                false
-            }
-        }
-    }
-
-    // Takes browsers that wait at a listener. Returns whether more may be taken at once: then as many as may be were.
-    fn accept(&mut self, listener: &WebListener, registry: &Registry, now: Duration) -> bool
-        ensures comers { (count : ℕ) × (count ≤ COMERS) × (result ≡ true → count ≡ COMERS)
-            × AcceptsEach (room_for self.old.most) now count self.old.relays self.new.relays }
-        ensures more { result ≡ true → self.new.has_comers ≡ true }
-        ensures waits { self.old.has_comers ≡ true → self.new.has_comers ≡ true }
-        ensures same { self.new ≡ record self.old {
-          relays = self.new.relays;
-          has_comers = self.new.has_comers;
-        } }
-    {
-        'comers: for _ in 0..COMERS {
-            if !self.accept_one(listener, registry, now) {
-                return false;
-            }
-        }
-        self.has_comers = true;
-        true
-    }
-
-    // Takes browsers that wait at the listeners. Returns whether more may be taken at once.
-    fn accept_all(&mut self, listeners: &[WebListener], registry: &Registry, now: Duration) -> bool
-        ensures none { self.old.has_comers ≡ false → self.new ≡ self.old }
-        ensures comers { (count : ℕ) × AcceptsEach (room_for self.old.most) now count self.old.relays
-            self.new.relays }
-        ensures more { result ≡ true → self.new.has_comers ≡ true }
-        ensures same { self.new ≡ record self.old {
-          relays = self.new.relays;
-          has_comers = self.new.has_comers;
-        } }
-    {
-        let mut has_more = false;
-        if self.has_comers {
-            self.has_comers = false;
-            'listeners: for listener in listeners {
-                has_more |= self.accept(listener, registry, now);
-            }
-        }
-        has_more
-    }
-
     // How long it may sleep without an event.
-    fn longest(&self, is_busy: bool) -> Duration
-        ensures busy { is_busy ≡ true → as_nanos result ≡ 0 }
-        ensures soon { self.now.has_comers ≡ true → as_nanos result ≤ 100000000 }
-        ensures bound { as_nanos result ≤ 2000000000 }
+    fn longest(&self) -> Duration
+        ensures { as_nanos result ≡ longest_rest self.now }
     {
-        if is_busy {
+        if self.is_busy {
             Duration::ZERO
         } else if self.has_comers || self.refused > 0 {
             Duration::from_millis(SOON)
@@ -230,9 +147,7 @@ impl<'a> Bridge<'a> {
             _ => mark(woken, &mut self.relays, &mut self.halls),
         }
     }
-}
 
-impl Bridge<'_> {
     // Notes what events are for.
     fn wake_all(&mut self, events: &Events)
         ensures { self.new ≡ wakes_all (items events.now) self.old }
@@ -241,9 +156,84 @@ impl Bridge<'_> {
             self.wake(woken_by(event.token()));
         }
     }
+}
 
-    // One round of the loop: notes what events are for, accepts browsers, and gives each its turn. Returns whether the
-    // next round is to begin at once.
+impl<S: BridgeStream + WebStream + Drop> Bridge<'_, S> {
+    // Lets a browser in, if there is memory and the system watches its connection. If there are too many, the oldest
+    // one goes that hasn't said who it is.
+    fn let_in(&mut self, browser: S, registry: &Registry, now: Duration) -> io::Result<()>
+        ensures comes { (place : ℕ) → Comes (get self.old.relays place) (get self.new.relays place) }
+        ensures ok { OnOk result (LetsIn (room_for self.old.most) browser now self.old.relays self.new.relays) }
+        ensures err { OnErr result (IsClosed (room_for self.old.most) self.old.relays self.new.relays) }
+        ensures same { self.new ≡ record self.old { relays = self.new.relays } }
+    {
+        let mut browser = browser;
+        let most = self.places();
+        make_room(&mut self.relays, most);
+        let place = self.relays.vacant_key();
+        browser.register(registry, browser_token(place))?;
+        match self.relays.insert(Relay::new(self.alloc, browser, now)) {
+            Ok(_) => Ok(()),
+            Err(error) => Err(io::Error::from(AllocError::from(error))),
+        }
+    }
+
+    // Asks a listener once: one who waits is let in or closed. Returns whether there was one. If the system refuses to
+    // hand it over, the listener is asked again soon.
+    fn accept_one(&mut self, listener: &WebListener, registry: &Registry, now: Duration) -> bool
+        ensures { AcceptsOne S.comes listener.now now self.old result self.new }
+    {
+        match S::come(listener) {
+            Accepted::Came(browser) => {
+                // (one that can't be let in is closed)
+                let _ = self.let_in(browser, registry, now);
+                true
+            }
+            Accepted::Nothing => false,
+            Accepted::Refused => {
+                self.has_comers = true;
+                false
+            }
+        }
+    }
+
+    // Takes browsers that wait at a listener. Returns whether more may be taken at once: then as many as may be were.
+    fn accept(&mut self, listener: &WebListener, registry: &Registry, now: Duration) -> bool
+        ensures { AcceptsAt S.comes listener.now now self.old result self.new }
+    {
+        'comers: for _ in 0..COMERS {
+            if !self.accept_one(listener, registry, now) {
+                return false;
+            }
+        }
+        self.has_comers = true;
+        true
+    }
+
+    // Takes browsers that wait at the listeners. Returns whether more may be taken at once.
+    fn accept_each(&mut self, listeners: &[WebListener], registry: &Registry, now: Duration) -> bool
+        ensures { AcceptsAll S.comes listeners.now now self.old result self.new }
+    {
+        let mut has_more = false;
+        for listener in listeners {
+            let has_first = self.accept(listener, registry, now);
+            has_more |= has_first;
+        }
+        has_more
+    }
+
+    // The same if some may wait.
+    fn accept_all(&mut self, listeners: &[WebListener], registry: &Registry, now: Duration) -> bool
+        ensures { AcceptsIf S.comes listeners.now now self.old result self.new }
+    {
+        if !self.has_comers {
+            return false;
+        }
+        self.has_comers = false;
+        self.accept_each(listeners, registry, now)
+    }
+
+    // One round of the loop: notes what events are for, accepts browsers, and gives each its turn.
     fn round<R: WebHost + Wait>(
         &mut self,
         rt: &R,
@@ -251,20 +241,63 @@ impl Bridge<'_> {
         events: &Events,
         listeners: &[WebListener],
         now: Duration,
-    ) -> bool
-        ensures { Rounds now (items events.now) self.old result self.new }
+    )
+        ensures { Rounds S.WebStream S.BridgeStream (R.takes rt.now) now (items events.now) listeners.now self.old
+            self.new }
     {
         self.wake_all(events);
         let has_more = self.accept_all(listeners, registry, now);
         self.turn(rt, registry, now);
-        self.is_busy() || has_more
+        let has_work = self.has_work();
+        self.is_busy = has_more;
+        self.is_busy |= has_work;
+    }
+
+    // A round after a wait that ended at this time; none after one that was interrupted or refused.
+    fn round_after<R: WebHost + Wait>(
+        &mut self,
+        rt: &R,
+        registry: &Registry,
+        events: &Events,
+        listeners: &[WebListener],
+        ended: io::Result<Option<Duration>>,
+    ) -> io::Result<()>
+        ensures { RoundsAfter S.WebStream S.BridgeStream (R.takes rt.now) ended
+            (items events.now) listeners.now self.old
+            result self.new }
+    {
+        match ended {
+            Ok(Some(now)) => {
+                self.round(rt, registry, events, listeners, now);
+                Ok(())
+            }
+            Ok(None) => Ok(()),
+            Err(error) => Err(error),
+        }
+    }
+
+    // Waits until something comes, and at most for as long as it may rest, and has a round.
+    fn go_round<R: WebHost + Wait, P: Waits>(
+        &mut self,
+        rt: &R,
+        poll: &mut P,
+        registry: &Registry,
+        events: &mut Events,
+        listeners: &[WebListener],
+    ) -> io::Result<()>
+        ensures { GoesRound S.WebStream S.BridgeStream (R.takes rt.now) P.waits listeners.now poll.old self.old result
+            poll.new self.new }
+    {
+        let longest = self.longest();
+        let ended = poll.wait(rt, events, longest);
+        self.round_after(rt, registry, events, listeners, ended)
     }
 }
 
 /// Serves until the system refuses to wait.
-pub fn serve<R: WebHost + Wait>(
+pub fn serve<R: WebHost + Wait, S: BridgeStream + WebStream + Drop>(
     rt: &R,
-    bridge: Bridge<'_>,
+    bridge: Bridge<'_, S>,
     listeners: Vec<WebListener>,
 ) -> io::Result<()> {
     let mut bridge = bridge;
@@ -275,15 +308,8 @@ pub fn serve<R: WebHost + Wait>(
         listener.register(&registry, listener_token(number))?;
     }
     let mut events = Events::with_capacity(rt.alloc(), 1024)?;
-    let mut is_busy = false;
     for _ in rt.forever() {
-        match poll.poll(&mut events, Some(bridge.longest(is_busy))) {
-            Ok(()) => {}
-            Err(error) if error.kind() == ErrorKind::Interrupted => continue,
-            Err(error) => return Err(error),
-        }
-        let now = rt.monotonic()?;
-        is_busy = bridge.round(rt, &registry, &events, &listeners, now);
+        bridge.go_round(rt, &mut poll, &registry, &mut events, &listeners)?;
     }
     Ok(())
 }

@@ -1,9 +1,9 @@
 //! Links: each stands for a user and a token, and is good for one use.
 
-ghost use Rattle.std.specs.Prelude.{◌≡◌, ◌++◌, ◌∷◌, ℕ, List, None, IfOk, IfSome, IsSome};
+ghost use Rattle.std.specs.Prelude.{◌≡◌, ◌++◌, ◌∷◌, ℕ, List, None, IfOk, IfSome, option_map};
 ghost use Rattle.std.specs.String.{string_bytes};
-ghost use Rattle.web_turn.specs.Links.{IsLinkFile, StandsAt};
-ghost use Rattle.web_turn.specs.Turning.{Gives, Redeems};
+ghost use Rattle.web_turn.specs.Links.{IsLinkFile, StandsAt, TakesLink};
+ghost use Rattle.web_turn.specs.Turning.{Gives, Redeems, TakesFrom};
 
 use attach_proto::Token;
 use std::alloc::{AllocError, AllocGlobal, Global};
@@ -60,41 +60,91 @@ fn path_of(alloc: Global, folder: &str, secret: &str) -> Result<String, AllocErr
     format!(in alloc; "{folder}/{secret}")
 }
 
-// Takes the file of the link with this secret: only one use can remove it. Returns its text, and the number of seconds
-// after 1970. None if it was used or never was, or if something else than a short file has that name.
-fn take_file<R>(rt: &R, folder: &str, secret: &Token) -> Option<(String, u64)>
-where
-    R: Files<File = File> + Clock + AllocGlobal,
-{
-    let now = SystemTime::now(rt)
-        .ok()?
-        .duration_since(SystemTime::UNIX_EPOCH)
-        .ok()?;
-    let path = path_of(rt.alloc(), folder, str::from_utf8(secret.as_slice()).ok()?).ok()?;
-    // Opening a FIFO would wait.
-    let found = fs::metadata(rt, path.as_str()).ok()?;
-    if !found.is_file() || found.len() > MOST {
-        return None;
-    }
-    let text = fs::read_to_string(rt, path.as_str()).ok()?;
-    fs::remove_file(rt, path.as_str()).ok()?;
-    Some((text, now.as_secs()))
+/// What takes links. Its relation is shown by a call alone: a user and a token are those of a file that was taken.
+pub trait TakesLinks {
+    ghost use Rattle.std.specs.Prelude.{ℕ, List, Option, option_map};
+    ghost use Rattle.std.specs.String.{string_bytes};
+
+    // A folder, the secret of a link, and what was taken: the text of its file, and when, in seconds after 1970.
+    ghost takes: { Self → (folder secret : List ℕ) → Option (List ℕ × ℕ) → Type 0 };
+
+    /// Takes the file of the link with this secret: only one use can remove it. None if it was used or never was.
+    fn take_link(&self, folder: &str, secret: &Token) -> Option<(String, u64)>
+        ensures { takes self.now folder.now secret.now (option_map (λ it. (string_bytes it.0, it.1)) result) };
 }
 
-// Takes the file of the link with this secret, if there is a folder of links.
-fn take_link<R>(rt: &R, links: Option<&str>, secret: &Token) -> Option<(String, u64)>
-where
-    R: Files<File = File> + Clock + AllocGlobal,
-    ensures { IsSome result → IsSome links.entry }
-{
-    match links {
-        Some(folder) => take_file(rt, folder, secret),
-        None => None,
+/// Files of links. Each relation is shown by a call of its function alone.
+pub trait LinkFiles {
+    ghost use Rattle.std.specs.Prelude.{ℕ, Bool, List, Option, option_map};
+    ghost use Rattle.std.specs.String.{string_bytes};
+
+    // A folder, the secret of a link, and what was read of its file: the text, and when, in seconds after 1970.
+    ghost finds: { Self → (folder secret : List ℕ) → Option (List ℕ × ℕ) → Type 0 };
+
+    // A folder, the secret of a link, and whether its file was removed.
+    ghost removes: { Self → (folder secret : List ℕ) → Bool → Type 0 };
+
+    /// Reads the file of the link with this secret. None if there is none, or something else than a short file has its
+    /// name.
+    fn find_link(&self, folder: &str, secret: &Token) -> Option<(String, u64)>
+        ensures { finds self.now folder.now secret.now (option_map (λ it. (string_bytes it.0, it.1)) result) };
+
+    /// Removes the file of the link with this secret.
+    fn remove_link(&self, folder: &str, secret: &Token) -> bool
+        ensures { removes self.now folder.now secret.now result };
+}
+
+impl<R: LinkFiles> TakesLinks for R {
+    ghost takes = { λ host folder secret taken. TakesLink (R.finds host) (R.removes host) folder secret taken };
+
+    fn take_link(&self, folder: &str, secret: &Token) -> Option<(String, u64)> {
+        let found = self.find_link(folder, secret)?;
+        if self.remove_link(folder, secret) {
+            Some(found)
+        } else {
+            None
+        }
+    }
+}
+
+impl<R: Files<File = File> + Clock + AllocGlobal> LinkFiles for R {
+    ghost finds = { λ host folder secret found. Unit {0} };
+
+    ghost removes = { λ host folder secret is_removed. Unit {0} };
+
+    fn find_link(&self, folder: &str, secret: &Token) -> Option<(String, u64)> {
+        let now = SystemTime::now(self)
+            .ok()?
+            .duration_since(SystemTime::UNIX_EPOCH)
+            .ok()?;
+        let path = path_of(
+            self.alloc(),
+            folder,
+            str::from_utf8(secret.as_slice()).ok()?,
+        )
+        .ok()?;
+        // Opening a FIFO would wait.
+        let found = fs::metadata(self, path.as_str()).ok()?;
+        if !found.is_file() || found.len() > MOST {
+            return None;
+        }
+        let text = fs::read_to_string(self, path.as_str()).ok()?;
+        Some((text, now.as_secs()))
+    }
+
+    fn remove_link(&self, folder: &str, secret: &Token) -> bool {
+        let Ok(secret) = str::from_utf8(secret.as_slice()) else {
+            return false;
+        };
+        match path_of(self.alloc(), folder, secret) {
+            Ok(path) => fs::remove_file(self, path.as_str()).is_ok(),
+            Err(_) => false,
+        }
     }
 }
 
 // Gives a page what its link stands for.
-fn give(text: &str, seconds: u64, relay: &mut Relay)
+fn give<S: Drop>(text: &str, seconds: u64, relay: &mut Relay<S>)
     ensures { Gives text.now seconds relay.old relay.new }
 {
     match link_at(text, seconds) {
@@ -103,16 +153,24 @@ fn give(text: &str, seconds: u64, relay: &mut Relay)
     }
 }
 
+// Takes the file of the link with this secret, if there is a folder of links.
+fn take_from<R: TakesLinks>(rt: &R, links: Option<&str>, secret: &Token) -> Option<(String, u64)>
+    ensures { TakesFrom (R.takes rt.now) links.entry secret.now (option_map (λ it. (string_bytes it.0, it.1)) result) }
+{
+    match links {
+        Some(folder) => rt.take_link(folder, secret),
+        None => None,
+    }
+}
+
 /// Gives a page that shows a link the user and the token that it stands for.
-pub fn redeem<R>(rt: &R, links: Option<&str>, relay: &mut Relay)
-where
-    R: Files<File = File> + Clock + AllocGlobal,
-    ensures { Redeems links.entry relay.old relay.new }
+pub fn redeem<R: TakesLinks, S: Drop>(rt: &R, links: Option<&str>, relay: &mut Relay<S>)
+    ensures { Redeems (R.takes rt.now) links.entry relay.old relay.new }
 {
     let Some(secret) = relay.secret() else {
         return;
     };
-    let Some((text, seconds)) = take_link(rt, links, &secret) else {
+    let Some((text, seconds)) = take_from(rt, links, &secret) else {
         return relay.refuse(USED);
     };
     give(text.as_str(), seconds, relay);

@@ -103,7 +103,7 @@ where
 }
 
 /// Logs who is there, once the server has let them in: a name, and no token.
-pub fn tell<R: Wait>(rt: &R, log: &Option<Arc<WebLog>>, place: usize, relay: &mut Relay)
+pub fn tell<R: Wait, S: Drop>(rt: &R, log: &Option<Arc<WebLog>>, place: usize, relay: &mut Relay<S>)
     ensures { Tells relay.old relay.new }
 {
     let Some(name) = relay.is_let_in() else {
@@ -116,11 +116,11 @@ pub fn tell<R: Wait>(rt: &R, log: &Option<Arc<WebLog>>, place: usize, relay: &mu
 }
 
 /// Logs that somebody watches, if they have just begun to.
-pub fn tell_watching<R: Wait>(
+pub fn tell_watching<R: Wait, S: Drop>(
     rt: &R,
     log: &Option<Arc<WebLog>>,
     place: usize,
-    relay: &mut Relay,
+    relay: &mut Relay<S>,
     begins: bool,
 )
     ensures { TellsWatching begins relay.old relay.new }

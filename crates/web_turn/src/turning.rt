@@ -15,7 +15,8 @@ use slab::Slab;
 use std::net::Net;
 use std::sync::Wait;
 use std::time::Duration;
-use web_relay::{Around, Halls, Relay, is_full, let_go, server_token};
+use web_client::WebStream;
+use web_relay::{Around, BridgeStream, Halls, Relay, is_full, let_go, server_token};
 
 /// What a page is told that has said who it is when all places are taken.
 pub const FULL: &str = "All places are taken";
@@ -36,8 +37,8 @@ impl Arrival {
 }
 
 // Takes what a browser sent.
-fn hear(relay: &mut Relay, around: Around<'_>, buffer: &mut [u8]) -> Arrival
-    ensures { Hears around.entry.site.now around.entry.now relay.old result relay.new }
+fn hear<S: WebStream + Drop>(relay: &mut Relay<S>, around: Around<'_>, buffer: &mut [u8]) -> Arrival
+    ensures { Hears S.WebStream around.entry.site.now around.entry.now relay.old result relay.new }
 {
     let opens = relay.read_browser(around, buffer);
     let begins = relay.begins();
@@ -45,15 +46,20 @@ fn hear(relay: &mut Relay, around: Around<'_>, buffer: &mut [u8]) -> Arrival
 }
 
 // Whether a page comes that is one too many.
-fn is_too_many(relays: &Slab<Relay>, place: usize, most: usize, arrival: Arrival) -> bool
-    ensures { (relay : Relay) → get relays.now place ≡ Some relay
+fn is_too_many<S: Drop>(
+    relays: &Slab<Relay<S>>,
+    place: usize,
+    most: usize,
+    arrival: Arrival,
+) -> bool
+    ensures { (relay : Relay S) → get relays.now place ≡ Some relay
         → IsTrue result ↔ (IsComing arrival × IsTooMany relays.now place relay most) }
 {
     arrival.is_coming() && is_full(relays, place, most)
 }
 
 // Turns away the page at this place if it comes and is one too many.
-fn admit(relays: &mut Slab<Relay>, place: usize, most: usize, arrival: Arrival)
+fn admit<S: Drop>(relays: &mut Slab<Relay<S>>, place: usize, most: usize, arrival: Arrival)
     ensures { ChangesAt place (Admits relays.old place most arrival) relays.old relays.new }
 {
     if !is_too_many(relays, place, most, arrival) {
@@ -65,14 +71,15 @@ fn admit(relays: &mut Slab<Relay>, place: usize, most: usize, arrival: Arrival)
 }
 
 // Reads the browser at this place. A page that is one too many is turned away when it opens, or says who it is.
-fn read_at(
-    relays: &mut Slab<Relay>,
+fn read_at<S: WebStream + Drop>(
+    relays: &mut Slab<Relay<S>>,
     place: usize,
     most: usize,
     around: Around<'_>,
     buffer: &mut [u8],
 )
-    ensures { ChangesAt place (Reads around.entry.site.now around.entry.now most relays.old place) relays.old
+    ensures { ChangesAt place (Reads S.WebStream around.entry.site.now around.entry.now most relays.old place)
+        relays.old
         relays.new }
 {
     let Some(relay) = relays.get_mut(place) else {
@@ -83,8 +90,13 @@ fn read_at(
 }
 
 // Connects a relay's own client, if its page has said who it is.
-fn connect<R: Net>(rt: &R, around: Around<'_>, place: usize, relay: &mut Relay)
-    ensures { MayConnect relay.old relay.new }
+fn connect<R: Net, S: BridgeStream + Drop>(
+    rt: &R,
+    around: Around<'_>,
+    place: usize,
+    relay: &mut Relay<S>,
+)
+    ensures { MayConnect S.BridgeStream around.entry.socket.now relay.old relay.new }
 {
     if relay.wants_server() {
         relay.connect(rt, around, server_token(place));
@@ -92,15 +104,15 @@ fn connect<R: Net>(rt: &R, around: Around<'_>, place: usize, relay: &mut Relay)
 }
 
 // Shows a browser its page, and writes what it was sent.
-fn show(halls: &mut Halls, relay: &mut Relay)
-    ensures { IsShown halls.old relay.old halls.new relay.new }
+fn show<S: WebStream + Drop>(halls: &mut Halls<S>, relay: &mut Relay<S>)
+    ensures { IsShown S.WebStream halls.old relay.old halls.new relay.new }
 {
     halls.show(relay);
     relay.write_all();
 }
 
 // The place of a browser for which something is left to do without an event.
-fn busy_place(relays: &Slab<Relay>) -> Option<usize>
+fn busy_place<S: Drop>(relays: &Slab<Relay<S>>) -> Option<usize>
     ensures some { IfSome result (λ place. IsBusyRelay (get relays.now place)) }
     ensures none { result ≡ None → (place : ℕ) → IsBusyRelay (get relays.now place) → ⊥ }
 {
@@ -114,10 +126,10 @@ fn busy_place(relays: &Slab<Relay>) -> Option<usize>
     None
 }
 
-impl Bridge<'_> {
+impl<S: BridgeStream + WebStream + Drop> Bridge<'_, S> {
     // Reads the browser at this place.
     fn read(&mut self, registry: &Registry, place: usize, now: Duration)
-        ensures { ReadsAt now place self.old self.new }
+        ensures { ReadsAt S.WebStream now place self.old self.new }
     {
         let around = Around {
             registry,
@@ -142,7 +154,7 @@ impl Bridge<'_> {
         place: usize,
         now: Duration,
     )
-        ensures { TurnsAt now place self.old self.new }
+        ensures { TurnsAt S.WebStream S.BridgeStream (R.takes rt.now) now place self.old self.new }
     {
         let Some(relay) = self.relays.get_mut(place) else {
             return;
@@ -178,7 +190,7 @@ impl Bridge<'_> {
 
     // Reads the browser at this place, gives it its turn, and lets it go if it is over.
     fn visit<R: WebHost + Wait>(&mut self, rt: &R, registry: &Registry, place: usize, now: Duration)
-        ensures { Visits now place self.old self.new }
+        ensures { Visits S.WebStream S.BridgeStream (R.takes rt.now) now place self.old self.new }
     {
         self.read(registry, place, now);
         self.turn_of(rt, registry, place, now);
@@ -187,7 +199,8 @@ impl Bridge<'_> {
 
     // Visits all places, one after another.
     fn visit_all<R: WebHost + Wait>(&mut self, rt: &R, registry: &Registry, now: Duration)
-        ensures { (places : ℕ) × (length self.old.relays.slots ≤ places) × VisitsAll now places self.old self.new }
+        ensures { (places : ℕ) × (length self.old.relays.slots ≤ places) × VisitsAll S.WebStream S.BridgeStream
+            (R.takes rt.now) now places self.old self.new }
     {
         'places: for place in 0..self.relays.capacity() {
             self.visit(rt, registry, place, now);
@@ -196,7 +209,7 @@ impl Bridge<'_> {
 
     // Reads and writes for the halls, and sees to their windows.
     fn begin_halls<R: WebHost>(&mut self, rt: &R, registry: &Registry, now: Duration)
-        ensures begins { BeginsHalls self.old.site.watcher now self.old.halls self.new.halls }
+        ensures begins { BeginsHalls S.WebStream self.old.site.watcher now self.old.halls self.new.halls }
         ensures same { self.new ≡ record self.old { halls = self.new.halls; buffer = self.new.buffer } }
     {
         self.halls.turn(self.buffer.as_mut_slice());
@@ -228,7 +241,7 @@ impl Bridge<'_> {
 
     // One turn of all.
     pub(crate) fn turn<R: WebHost + Wait>(&mut self, rt: &R, registry: &Registry, now: Duration)
-        ensures { Turns now self.old self.new }
+        ensures { Turns S.WebStream S.BridgeStream (R.takes rt.now) now self.old self.new }
     {
         self.begin_halls(rt, registry, now);
         self.visit_all(rt, registry, now);
@@ -237,7 +250,7 @@ impl Bridge<'_> {
     }
 
     // Whether something is left to do at once.
-    pub(crate) fn is_busy(&self) -> bool
+    pub(crate) fn has_work(&self) -> bool
         ensures { IsTrue result ↔ HasWork self.now }
     {
         let has_relay = busy_place(&self.relays).is_some();

@@ -3,7 +3,7 @@ use Rattle.web_relay.proofs.Turns.{done-more, rest-more, all-done}
 use Rattle.web_relay.proofs.halls.choose_all.Goals as goal
 
 pub places-preserved : goal.places-preserved
-places-preserved c =
+places-preserved g c =
     let P = AtBoth (Chooses c.args.choice.now c.args.now) in
     let old = c.args.halls.now in
     let now = c.places.halls in
@@ -15,7 +15,7 @@ places-preserved c =
     }
 
 pub returns : goal.returns
-returns c =
+returns g c =
     let before = c.places.invariant in
     all-done (AtBoth (Chooses c.args.choice.now c.args.now)) c.args.halls.now c.places.halls c.places.place
     before.chosen before.rest refl (omega (arith, before.all))

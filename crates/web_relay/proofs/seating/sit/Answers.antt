@@ -3,7 +3,7 @@ use Rattle.web_relay.proofs.Sitting.{misses_hall}
 use Rattle.web_relay.proofs.seating.sit.Goals as goal
 
 pub returns-then-eq : goal.returns-then-eq
-returns-then-eq c =
+returns-then-eq g c =
     let stays : c.args.found ≡ c.miss.new.relay.hall = search rules in (
       c.miss.new.relay,
       c.miss.ensures,
@@ -11,7 +11,7 @@ returns-then-eq c =
     )
 
 pub returns : goal.returns
-returns c =
+returns g c =
     let mid = c.miss.new.relay in
     let kept : mid.hall ≡ c.args.relay.now.hall = misses_hall c.args.found c.args.relay.now mid c.miss.ensures in
     let differs : c.args.found ≢ mid.hall = search rules in (

@@ -4,7 +4,7 @@ use Rattle.web_turn.specs.Turning.{IsBusyRelay}
 use Rattle.web_turn.proofs.turning.busy_place.Given as goal
 
 abbrev pub invariant-places : goal.invariant-places
-invariant-places l = record {
+invariant-places g l = record {
   none : (q : ℕ) → q < l.place → IsBusyRelay (get l.relays q) → ⊥;
   all : length l.relays.slots ≤ l.place-end;
 }

@@ -1,7 +1,7 @@
 use Rattle.web_turn.proofs.turning.hear.Goals as goal
 
 pub returns : goal.returns
-returns c = record {
+returns g c = record {
   mid = c.read_browser-opens.new.self;
   reads = c.read_browser-opens.ensures.reads;
   opens = c.read_browser-opens.ensures.opens;

@@ -1,4 +1,4 @@
 use Rattle.web_turn.proofs.turning.show.Goals as goal
 
 pub returns : goal.returns
-returns c = record { shown = c.show.new.relay; shows = c.show.ensures; writes = c.write_all.ensures }
+returns g c = record { shown = c.show.new.relay; shows = c.show.ensures; writes = c.write_all.ensures }

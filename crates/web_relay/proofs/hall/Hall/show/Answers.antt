@@ -3,7 +3,7 @@ use Rattle.web_client.specs.declared.visitor.Visitor.{Visitor}
 use Rattle.web_relay.proofs.hall.Hall.show.Goals as goal
 
 pub returns-in-Ok : goal.returns-in-Ok
-returns-in-Ok c = record {
+returns-in-Ok g c = record {
   sees = λ on. record {
     shows = λ is_open due. c.in-Ok.ensures.shows is_open c.requires due;
     sends = λ is_open. c.in-Ok.ensures.sends is_open c.requires;

@@ -3,7 +3,7 @@ use Rattle.web_relay.proofs.Turns.{done-more, rest-more, all-done}
 use Rattle.web_relay.proofs.halls.Halls.close.Goals as goal
 
 pub places-preserved : goal.places-preserved
-places-preserved c =
+places-preserved g c =
     let old = c.args.self.now.list in
     let now = c.places.self.list in
     let new = c.close_at.new.self.list in
@@ -12,12 +12,12 @@ places-preserved c =
     let before = c.places.invariant in record {
       closed = done-more (Closes c.args.now) old now at before.closed before.rest new then.closes then.others;
       rest = rest-more (Closes c.args.now) old now at before.closed before.rest new then.others;
-      same = then.same ∙ ap (λ (h : Halls). record h { list = new }) before.same;
+      same = then.same ∙ ap (λ (h : Halls g.row.S.Denot). record h { list = new }) before.same;
       all = before.all;
     }
 
 pub returns-clause-closes : goal.returns-clause-closes
-returns-clause-closes c =
+returns-clause-closes g c =
     let before = c.places.invariant in
     all-done (Closes c.args.now) c.args.self.now.list c.places.self.list c.places.place before.closed before.rest refl
     (omega (arith, before.all))

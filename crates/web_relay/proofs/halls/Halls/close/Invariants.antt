@@ -2,7 +2,7 @@ use Rattle.web_relay.proofs.Vocabulary.{◌≡◌, ℕ, ◌<◌, ◌≤◌, leng
 use Rattle.web_relay.proofs.halls.Halls.close.Given as goal
 
 abbrev pub invariant-places : goal.invariant-places
-invariant-places l = record {
+invariant-places g l = record {
   closed : (q : ℕ) → q < l.place → Closes l.now (get l.fn.self.list q) (get l.self.list q);
   rest : (q : ℕ) → l.place ≤ q → get l.self.list q ≡ get l.fn.self.list q;
   same : l.self ≡ record l.fn.self { list = l.self.list };

@@ -5,7 +5,7 @@ use Rattle.web_relay.proofs.Turns.{no-halls, some_more}
 use Rattle.web_relay.proofs.halls.Halls.find.Goals as goal
 
 pub returns-clause-some : goal.returns-clause-some
-returns-clause-some c =
+returns-clause-some g c =
     let size = c.args.size in
     let list = c.args.self.now.list in
     let none : HasNone size list = c.of_size.ensures.none (search rules) in
@@ -16,7 +16,7 @@ returns-clause-some c =
     c.stand_in.result (λ place h. inr (none, many, h)) c.stand_in.ensures.some
 
 pub returns-clause-none : goal.returns-clause-none
-returns-clause-none c = λ e.
+returns-clause-none g c = λ e.
     let size = c.args.size in
     let list = c.args.self.now.list in
     let none : HasNone size list = c.of_size.ensures.none (search rules) in

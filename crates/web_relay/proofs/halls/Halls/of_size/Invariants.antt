@@ -3,7 +3,7 @@ use Rattle.web_relay.specs.Halls.{HasSize}
 use Rattle.web_relay.proofs.halls.Halls.of_size.Given as goal
 
 abbrev pub invariant-halls : goal.invariant-halls
-invariant-halls l = record {
+invariant-halls g l = record {
   none : (q : ℕ) → q < l.place → HasSize l.size (get l.self.list q) → ⊥;
   all : length l.self.list.slots ≤ l.place-end;
 }

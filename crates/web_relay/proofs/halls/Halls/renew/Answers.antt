@@ -18,7 +18,8 @@ places-preserved g c =
           (renews-later w t first c.places.self.next (get now at) (get new at) before.next then.renews) then.others;
       rest = rest-more (Renews w t first) old now at before.renewed before.rest new then.others;
       next = omega (arith, before.next, then.next);
-      same = then.same ∙ ap (λ (h : Halls). record h { list = new; next = c.renew_at.new.self.next }) before.same;
+      same = then.same ∙ ap (λ (h : Halls g.row.S.Denot). record h { list = new; next = c.renew_at.new.self.next })
+          before.same;
       all = before.all;
     }
 

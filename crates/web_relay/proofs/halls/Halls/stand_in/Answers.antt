@@ -1,10 +1,10 @@
-use Rattle.web_relay.proofs.Vocabulary.{◌≡◌, ◌+◌, ℕ, Option, None, rules, subst, sym, get}
-use Rattle.web_relay.proofs.StandIn.{BestBelow, best_more, best_none}
+use Rattle.web_relay.proofs.Vocabulary.{◌≡◌, ◌+◌, ℕ, Option, None, arith, rules, subst, sym, get}
+use Rattle.web_relay.proofs.StandIn.{BestBelow, best_more, best_none, best_of_all}
 use Rattle.web_relay.proofs.halls.Halls.stand_in.Goals as goal
 use Rattle.web_relay.proofs.halls.Halls.stand_in.Goals.{in-Some, in_default}
 
 pub halls-preserved : goal.halls-preserved
-halls-preserved c =
+halls-preserved g c =
     let size = c.args.size in
     let list = c.args.self.now.list in
     let place = c.halls.place in
@@ -24,3 +24,8 @@ halls-preserved c =
             all = c.halls.invariant.all;
           }
     ]
+
+pub returns-clause-some : goal.returns-clause-some
+returns-clause-some g c =
+    best_of_all c.args.size c.args.self.now.list c.halls.place (omega (arith, c.halls.invariant.all)) c.halls.best
+    c.halls.invariant.below

@@ -16,7 +16,7 @@ first true b e = refl
 first false b e = absurd (let wrong : false ≡ true = e in cc)
 
 pub returns : goal.returns
-returns c =
+returns g c =
     let old = c.args.self.now in
     let over = old.is_over || c.is_err.result in (
       record old { asked = c.args.now; visitor = c.ping.new.self; is_over = over },

@@ -1,16 +1,15 @@
 use Rattle.std.proofs.Common.{ℕ, subst}
-use Rattle.web_relay.specs.declared.streams.Browser.{Browser}
 use Rattle.web_relay.specs.Places.{IsNew, MakesRoom}
 use Rattle.web_turn.proofs.bridge.Bridge.let_in.Goals as goal
 
 pub returns-in-Ok-clause-ok : goal.returns-in-Ok-clause-ok
-returns-in-Ok-clause-ok c = record {
+returns-in-Ok-clause-ok g c = record {
   room = c.make_room.new.relays;
   makes = subst (λ (n : ℕ). MakesRoom n c.args.self.now.relays c.make_room.new.relays) c.places-most.ensures
       c.make_room.ensures.room;
   place = c.in-Ok.field-0;
   vacant = c.in-Ok.ensures.was_vacant;
   relay = c.new.result;
-  comes = subst (λ (b : Browser). IsNew b c.args.now c.new.result) c.register.ensures c.new.ensures;
+  comes = subst (λ (b : g.row.S.Denot). IsNew b c.args.now c.new.result) c.register.ensures c.new.ensures;
   placed = c.in-Ok.ensures.updates;
 }

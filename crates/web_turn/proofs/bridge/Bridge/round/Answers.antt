@@ -1,24 +1,17 @@
-use Rattle.std.proofs.Common.{◌≡◌, ◌∙◌, false, true, sym, inl, inr}
+use Rattle.std.proofs.Common.{refl, subst}
+use Rattle.web_turn.specs.declared.bridge.Bridge.{Bridge}
+use Rattle.web_turn.specs.Accepting.{AcceptsIf}
+use Rattle.web_turn.proofs.Accepting.{busy_if}
 use Rattle.web_turn.proofs.bridge.Bridge.round.Goals as goal
 
-pub returns-then-is_busy : goal.returns-then-is_busy
-returns-then-is_busy g c = record {
-  woken = c.wake_all.new.self;
-  wakes = c.wake_all.ensures;
+pub returns : goal.returns
+returns g c = record {
   came = c.accept_all-has_more.new.self;
-  accepts = (c.accept_all-has_more.ensures.comers, c.accept_all-has_more.ensures.same);
+  more = c.accept_all-has_more.result;
+  accepts = subst (λ (b : Bridge g.row.S.Denot). AcceptsIf g.S.BridgeStream.comes c.args.listeners.now c.args.now b
+      c.accept_all-has_more.result c.accept_all-has_more.new.self) c.wake_all.ensures c.accept_all-has_more.ensures;
+  turned = c.turn.new.self;
   turns = c.turn.ensures;
-  waits = λ _. c.if-is_busy.true;
-  rests = λ _. inl (c.is_busy.ensures.0 c.if-is_busy.true);
-}
-
-pub returns-else-is_busy : goal.returns-else-is_busy
-returns-else-is_busy g c = record {
-  woken = c.wake_all.new.self;
-  wakes = c.wake_all.ensures;
-  came = c.accept_all-has_more.new.self;
-  accepts = (c.accept_all-has_more.ensures.comers, c.accept_all-has_more.ensures.same);
-  turns = c.turn.ensures;
-  waits = λ work. absurd (let wrong : false ≡ true = sym c.if-is_busy.false ∙ c.is_busy.ensures.1 work in cc);
-  rests = λ e. inr (c.accept_all-has_more.ensures.more e);
+  busy = busy_if c.accept_all-has_more.result c.has_work-has_work.result _ c.has_work-has_work.ensures;
+  rest = refl;
 }

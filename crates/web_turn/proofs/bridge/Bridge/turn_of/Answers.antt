@@ -9,12 +9,13 @@ pub returns : goal.returns
 returns g c =
     let b = c.args.self.now in
     let place = c.args.place in
-    let before : Relay = c.in-Some.relay.now in
-    let after : Relay = c.look.new.self in
+    let before : Relay g.row.S.Denot = c.in-Some.relay.now in
+    let after : Relay g.row.S.Denot = c.look.new.self in
     let there : get b.relays place ≡ Some before = sym c.in-Some.ensures.value in record {
       turns = record {
         at = both_there
-            (λ (r s : Relay). TurnsRelay b.site.watcher b.links c.args.now b.halls r c.show.new.halls s)
+            (λ (r s : Relay g.row.S.Denot). TurnsRelay g.S.WebStream g.S.BridgeStream
+            (g.R.TakesLinks.takes c.args.rt.now) b c.args.now r c.show.new.halls s)
             (get b.relays place) (get (with_value b.relays place after) place) before after there
             (written b.relays place before after there) (record {
               entered = c.seat-begins.new.self;

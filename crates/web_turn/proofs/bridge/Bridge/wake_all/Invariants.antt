@@ -6,4 +6,4 @@ use Rattle.web_turn.proofs.bridge.Bridge.wake_all.Given as goal
 
 -- what is still to come of the events
 abbrev pub invariant-loop-event : goal.invariant-loop-event
-invariant-loop-event l = wakes_all (iter_rest l.event-iterator) l.self ≡ wakes_all (items l.events) l.fn.self
+invariant-loop-event g l = wakes_all (iter_rest l.event-iterator) l.self ≡ wakes_all (items l.events) l.fn.self
