@@ -87,8 +87,16 @@ impl<'a> Around<Wired<PeerSocket<'a>>> for Inlet<'a> {
         self.shared.latch.arrive(rt)
     }
 
-    fn busy(&self) -> &AtomicU64 {
-        &self.shared.busy
+    fn is_flooded(&self) -> bool {
+        0 < self.shared.busy.load(Ordering::SeqCst)
+    }
+
+    fn note_flood(&mut self, is_much: bool) {
+        if is_much {
+            self.shared.busy.fetch_add(1, Ordering::SeqCst);
+        } else {
+            self.shared.busy.fetch_sub(1, Ordering::SeqCst);
+        }
     }
 
     fn now<R: Clock>(&self, rt: &R) -> Option<Duration> {

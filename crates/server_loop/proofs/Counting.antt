@@ -67,21 +67,27 @@ module _ {S J : Type 0} (calls : Calls J) (event : EventValue) (old new : State 
 
   -- a step whose cost, user and answer are known by other names
   pub tried : (shown : UserId) → user ≡ shown → (cost : ℕ) → cost ≡ cost_of event
-      → (paid : Bool) → paid ≡ true → calls.pays old.seat user old.now cost paid
+      → (paid : Bool) → paid ≡ true → (seat : J) → calls.pays old.seat user old.now cost paid seat
       → MayCause (as_nanos old.now) (as_nanos old.rations.period) (end_at old.rations user)
       → (rations : Rations) → Counts (cost / 1000) rations
-      → (made : Answer) → Submits calls event (record old { rations = rations }) made new
-      → (outcome : Outcome) → outcome ≡ came_of made → calls.settles new.seat user cost outcome
+      → (made : Answer) (done : State S J)
+      → Submits calls event (record old { rations = rations; seat = seat }) made done
+      → (outcome : Outcome) → outcome ≡ came_of made → calls.settles done.seat user cost outcome new.seat
+      → new ≡ record done { seat = new.seat }
       → (answer : Answer) → made ≡ answer → IsTried calls shown event old answer new
-  tried shown named cost costs paid is_paid pays may rations counts made step outcome comes settles answer is =
+  tried shown named cost costs paid is_paid seat pays may rations counts made done step outcome comes settles same
+      answer is =
       subst (λ (u : UserId). IsTried calls u event old answer new) named
       (subst (λ (a : Answer). IsTried calls user event old a new) is (record {
         may = may;
-        paid = subst (λ (n : ℕ). calls.pays old.seat user old.now n true) costs
-            (subst (λ (b : Bool). calls.pays old.seat user old.now cost b) is_paid pays);
+        seat = seat;
+        paid = subst (λ (n : ℕ). calls.pays old.seat user old.now n true seat) costs
+            (subst (λ (b : Bool). calls.pays old.seat user old.now cost b seat) is_paid pays);
         rations = rations;
         counted = subst (λ (n : ℕ). Counts (n / 1000) rations) costs counts;
+        done = done;
         step = step;
-        settled = subst (λ (n : ℕ). calls.settles new.seat user n (came_of made)) costs
-            (subst (λ (o : Outcome). calls.settles new.seat user cost o) comes settles);
+        settled = subst (λ (n : ℕ). calls.settles done.seat user n (came_of made) new.seat) costs
+            (subst (λ (o : Outcome). calls.settles done.seat user cost o new.seat) comes settles);
+        same = same;
       }))

@@ -28,7 +28,7 @@ use Rattle.server_users.specs.Entries.{Entry}
 use Rattle.server_users.specs.declared.user.Shown.{Shown}
 use Rattle.server_loop.specs.Handing.{Faults, SendsTo}
 use Rattle.server_loop.specs.Leaving.{IfBool}
-use Rattle.server_loop.specs.Submitting.{State, peer_at, told, with_peer}
+use Rattle.server_loop.specs.Submitting.{CountsOff, State, peer_at, told, with_peer}
 use Rattle.server_loop.specs.Trying.{HasToWait, IsTried}
 
 -- this user is the one whose name and token these are
@@ -106,20 +106,26 @@ module _ {S J : Type 0} (calls : Calls J) where
   -- what came of it by the answer to its event: it was let in; or it was told why not, and isn't counted any more
   abbrev pub Enters : Shown → GuestKind → Reply → ℕ → State S J → State S J → Type 0
   Enters shown kind (Ok done) key old new = LetsIn shown kind done key old new
-  Enters shown kind (Err refusal) key old new =
-      SendsAway (text_of refusal) key old new × calls.uncounts new.seat shown.user kind
+  Enters shown kind (Err refusal) key old new = (mid : State S J) × SendsAway (text_of refusal) key old mid
+      × CountsOff calls shown.user kind mid new
 
   -- its user has as many as a user may have, and it was told so
   abbrev pub HasMost : Shown → GuestKind → ℕ → State S J → Progress → State S J → Type 0
-  HasMost shown kind key old far new = (most : ℕ) × calls.counts old.seat shown.user kind (Some most)
-      × (far ≡ progress.Done) × SendsAway (too_many kind shown.user most) key old new
+  HasMost shown kind key old far new =
+      (most : ℕ) × (seat : J) × calls.counts old.seat shown.user kind (Some most) seat
+      × (far ≡ progress.Done) × SendsAway (too_many kind shown.user most) key (record old { seat = seat }) new
 
-  -- it was counted, and its event was tried; if there was no answer, it isn't counted any more
+  -- its event was tried after it was counted; if there was no answer, it isn't counted any more
+  abbrev pub EntersIf : Shown → GuestKind → EventValue → ℕ → State S J → Progress → State S J → Type 0
+  EntersIf shown kind event key old far new = (mid : State S J)
+      × ((Attempts shown.user event key old (Err far) mid × CountsOff calls shown.user kind mid new)
+      ⊎ ((far ≡ progress.Done) × (answer : SeatAnswer) × Attempts shown.user event key old (Ok answer) mid
+      × Enters shown kind answer.reply key mid new))
+
+  -- it was counted once, and its event was tried
   abbrev pub IsCounted : Shown → GuestKind → EventValue → ℕ → State S J → Progress → State S J → Type 0
-  IsCounted shown kind event key old far new = calls.counts old.seat shown.user kind None
-      × ((Attempts shown.user event key old (Err far) new × calls.uncounts new.seat shown.user kind)
-      ⊎ ((far ≡ progress.Done) × (answer : SeatAnswer) × (mid : State S J)
-      × Attempts shown.user event key old (Ok answer) mid × Enters shown kind answer.reply key mid new))
+  IsCounted shown kind event key old far new = (seat : J) × calls.counts old.seat shown.user kind None seat
+      × EntersIf shown kind event key (record old { seat = seat }) far new
 
   -- no more are to stay, and it was told so; or it is as above
   abbrev pub Joins : Shown → GuestKind → EventValue → ℕ → State S J → Progress → State S J → Type 0

@@ -1,12 +1,14 @@
 -- What a loop submits.
 use Rattle.std.specs.Prelude.{◌≡◌, ℕ, Bool, true, List, Option, Result, vec_len}
 use Rattle.std.specs.declared.time.Duration.{Duration}
+use Rattle.acl.specs.declared.user_id.UserId.{UserId}
 use Rattle.slab.specs.Slab.{get}
 use Rattle.session.specs.Trace.{EventValue}
 use Rattle.server_connections.specs.Changing.{changed}
 use Rattle.server_connections.specs.declared.connections.Connections.{Connections}
 use Rattle.server_connections.specs.declared.peer.Peer.{Peer}
 use Rattle.server_seat.specs.declared.news.News.{News}
+use Rattle.server_seat.specs.declared.seat.GuestKind.{GuestKind}
 use Rattle.server_seat.specs.declared.seat.SeatAnswer.{SeatAnswer}
 use Rattle.server_seat.specs.declared.seat.SeatFault.{SeatFault}
 use Rattle.server_seat.specs.declared.seat.ServerEnd.{ServerEnd}
@@ -92,6 +94,11 @@ module _ {S J : Type 0} where
     end = end_by answer s.end;
     news = with_any (filled_by answer) s.news;
   }
+
+  -- one guest of a user was counted less, and nothing else changed
+  abbrev pub CountsOff : Calls J → UserId → GuestKind → State S J → State S J → Type 0
+  CountsOff calls user kind old new =
+      calls.uncounts old.seat user kind new.seat × (new ≡ record old { seat = new.seat })
 
   -- one step was made, with this event; no connection changed
   abbrev pub Submits : Calls J → EventValue → State S J → Answer → State S J → Type 0

@@ -40,21 +40,25 @@ module _ {S J : Type 0} (calls : Calls J) where
   -- A user has to wait: too much was counted, there is no memory to count, or the user didn't pay. Nothing was
   -- submitted.
   pub record HasToWait (user : UserId) (event : EventValue) (old new : State S J) : Type 0 where
-    pub cause : IsSpent old.rations old.now user ⊎ calls.pays old.seat user old.now (cost_of event) false
+    pub cause : (IsSpent old.rations old.now user × (new.seat ≡ old.seat))
+        ⊎ calls.pays old.seat user old.now (cost_of event) false new.seat
     pub counted : Stay user old.rations new.rations
-    pub same : new ≡ record old { rations = new.rations }
+    pub same : new ≡ record old { rations = new.rations; seat = new.seat }
 
-  -- The user may cause more entries and paid. The cost was counted, one step was made with this event, and the cost was
-  -- settled by what came of the step.
+  -- The user may cause more entries and paid, once. The cost was counted, one step was made with this event, and the
+  -- cost was settled by what came of the step, once.
   pub record IsTried (user : UserId) (event : EventValue) (old : State S J) (answer : Answer) (new : State S J)
       : Type 0 where
     pub may : MayCause (as_nanos old.now) (as_nanos old.rations.period) (end_at old.rations user)
-    pub paid : calls.pays old.seat user old.now (cost_of event) true
+    pub seat : J
+    pub paid : calls.pays old.seat user old.now (cost_of event) true seat
     pub rations : Rations
     pub counted : EndsAt user (later_end (as_nanos old.now) (as_nanos old.rations.period) (cost_of event / 1000)
         (end_at old.rations user)) old.rations rations
-    pub step : Submits calls event (record old { rations = rations }) answer new
-    pub settled : calls.settles new.seat user (cost_of event) (came_of answer)
+    pub done : State S J
+    pub step : Submits calls event (record old { rations = rations; seat = seat }) answer done
+    pub settled : calls.settles done.seat user (cost_of event) (came_of answer) new.seat
+    pub same : new ≡ record done { seat = new.seat }
 
   abbrev pub Tries : UserId → EventValue → State S J → Tried → State S J → Type 0
   Tries user event old (Ok None) new = HasToWait user event old new

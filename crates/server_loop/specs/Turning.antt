@@ -1,6 +1,7 @@
 -- What a turn of a loop leaves behind, and how connections go.
-use Rattle.std.specs.Prelude.{◌≡◌, ◌⊎◌, ◌<◌, ◌≤◌, ℕ, Bool, true, false, None, IfSome, if◌then◌else◌}
+use Rattle.std.specs.Prelude.{◌≡◌, ◌⊎◌, ◌<◌, ◌≤◌, ℕ, Bool, true, false, Option, Some, None, if◌then◌else◌}
 use Rattle.std.specs.declared.time.Duration.{Duration}
+use Rattle.attach_proto.specs.declared.why.Why.{Why}
 use Rattle.attach_proto.specs.declared.why.Why.TheVariants as why
 use Rattle.slab.specs.Slab.{Updates, get}
 use Rattle.server_connections.specs.Changing.{changed, told_to_go}
@@ -10,6 +11,7 @@ use Rattle.server_connections.specs.Peers.{goes, rests}
 use Rattle.server_connections.specs.declared.connections.Connections.{Connections}
 use Rattle.server_connections.specs.declared.peer_stream.PeerStream.{Ghosts as Streams}
 use Rattle.server_seat.specs.Ending.{why_of_end}
+use Rattle.server_seat.specs.declared.news.Guest.{Guest}
 use Rattle.server_seat.specs.declared.seat.ServerEnd.{ServerEnd}
 use Rattle.server_seat.specs.declared.seat.SessionSeat.{Ghosts as Calls}
 use Rattle.server_steps.specs.Ending.{EachKey, FinishesAt, IsOldest, expired, fullness_at, gone_at, new_below}
@@ -22,7 +24,7 @@ use Rattle.server_loop.specs.Awaiting.{EndsBy}
 use Rattle.server_loop.specs.Drawing.{DrawsAll}
 use Rattle.server_loop.specs.Handing.{HandsOut}
 use Rattle.server_loop.specs.Leaving.{IfBool, Loses, TriesLeaving}
-use Rattle.server_loop.specs.Submitting.{State, peer_at, with_peer}
+use Rattle.server_loop.specs.Submitting.{CountsOff, State, peer_at, with_peer}
 use Rattle.server_loop.specs.Walking.{VisitsAll}
 use Rattle.server_loop.specs.Writing.{DropsAt, DropsLaggard, Writes}
 
@@ -40,19 +42,26 @@ module _ {S : Type 0} where
     pub same : new ≡ record old { peers = new.peers; awake = new.awake }
 
 module _ {S J : Type 0} (calls : Calls J) where
+  -- a guest that went is counted no more
+  abbrev pub Leaves : Option (Guest × Option Why) → State S J → State S J → Type 0
+  Leaves None old new = new ≡ old
+  Leaves (Some gone) old new = CountsOff calls gone.0.user gone.0.kind old new
+
   -- its guest, if it was one and went, is counted no more, and the log is told of it once
   abbrev pub PartsWith : ℕ → State S J → State S J → Type 0
-  PartsWith key old new =
-      IfSome (gone_at (peer_at key old)) (λ gone. calls.uncounts old.seat gone.0.user gone.0.kind)
-      × (new ≡ record (with_peer without_guest key old) {
-        news = with_any (went (gone_at (peer_at key old))) old.news;
-      })
+  PartsWith key old new = Leaves (gone_at (peer_at key old)) (record (with_peer without_guest key old) {
+    news = with_any (went (gone_at (peer_at key old))) old.news;
+  }) new
+
+  -- all loops were told whether a window is full, if that is news
+  abbrev pub TellsNews : Option (ℕ × Bool) → State S J → State S J → Type 0
+  TellsNews None old new = new ≡ old
+  TellsNews (Some news) old new =
+      calls.sets_full old.seat news.0 news.1 new.seat × (new ≡ record old { seat = new.seat })
 
   -- If it is news whether its window is full, all loops were told.
   abbrev pub TellsFull : ℕ → State S J → State S J → Type 0
-  TellsFull key old new =
-      IfSome (fullness_at (peer_at key old)) (λ news. calls.sets_full old.seat news.0 news.1)
-      × (new ≡ with_peer told_full key old)
+  TellsFull key old new = TellsNews (fullness_at (peer_at key old)) (with_peer told_full key old) new
 
   -- All loops were told of its window, its guest went, and it goes or rests if nothing is to be done.
   pub record Settles (key : ℕ) (old new : State S J) : Type 0 where

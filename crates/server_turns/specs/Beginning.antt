@@ -1,6 +1,6 @@
 -- How a turn of a loop begins.
-use Rattle.std.specs.Prelude.{◌≡◌, ◌≢◌, ◌↔◌, ◌||◌, ◌+◌, ◌≤◌, ℕ, Bool, true, false, Option, Some, None, ⊤}
-use Rattle.std.specs.Prelude.{Result, Ok, Err, IsSome, IsSomeAnd, OnErr, OnOk, min, option_map, unwrap_or}
+use Rattle.std.specs.Prelude.{◌≡◌, ◌≢◌, ◌↔◌, ◌||◌, ◌+◌, ℕ, Bool, true, false, Option, Some, None, ⊤}
+use Rattle.std.specs.Prelude.{Result, Ok, Err, IsSomeAnd, OnErr, OnOk, min, option_map, unwrap_or}
 use Rattle.std.specs.Duration.{as_nanos}
 use Rattle.std.specs.declared.alloc.AllocError.{AllocError}
 use Rattle.std.specs.declared.io.Error.{Error}
@@ -10,13 +10,14 @@ use Rattle.server_connections.specs.Marked.{IsMarked}
 use Rattle.server_connections.specs.Peers.{IsNewcomer}
 use Rattle.server_connections.specs.declared.connections.Connections.{Connections}
 use Rattle.server_connections.specs.declared.peer_stream.PeerStream.{Ghosts as Streams}
+use Rattle.server_pace.specs.Pacing.{longest_sleep}
 use Rattle.server_seat.specs.declared.seat.SessionSeat.{Ghosts as Calls}
 use Rattle.server_steps.specs.declared.turns.Pending.{Pending}
 use Rattle.server_loop.specs.Awaiting.{Pends}
 use Rattle.server_loop.specs.Leaving.{IfBool}
 use Rattle.server_loop.specs.Submitting.{State}
 use Rattle.server_loop.specs.Turning.{LetsOldestGo}
-use Rattle.server_turns.specs.Calls.{Call, Accept, Event, Hand, Note, Now, Queue, Take, Wait}
+use Rattle.server_turns.specs.Calls.{Call, Accept, Event, Flooded, Hand, Note, Now, Queue, Take, Wait}
 use Rattle.server_turns.specs.Course.{Course}
 use Rattle.server_turns.specs.Marks.{after, asked_by}
 use Rattle.server_turns.specs.Steps.{Until}
@@ -52,17 +53,18 @@ module _ {S J A : Type 0} where
 
   module _ (does : A → Call → A → Type 0) where
     -- It waited for what comes: not at all with something to do, and else at most until there is something to be
-    -- looked at, or draws are due.
+    -- looked at, draws are due, or other loops to which much comes may have left something to be looked at.
     pub record Sleeps (old : Course S J A) (result : Result ⊤ Error) (new : Course S J A) : Type 0 where
       pub pending : Pending
       pub pends : Pends old.own pending
       pub queue : Backlog
       pub queues : does old.around (Queue queue) old.around
-      pub paced : Option Duration
-      pub draws : IsSome old.pace.since → IsSomeAnd paced (λ d. as_nanos d ≤ 20000000)
+      pub flooded : Bool
+      pub floods : does old.around (Flooded flooded) old.around
       pub longest : Option Duration
       pub is_longest : option_map as_nanos longest ≡ sleep_for ((wants pending).0 || queue.has_more)
-          ((wants pending).1 || queue.is_stuck) (wants pending).2 (option_map as_nanos paced)
+          ((wants pending).1 || queue.is_stuck) (wants pending).2
+          (longest_sleep flooded (as_nanos old.own.now) old.pace)
       pub waits : does old.around (Wait longest result) new.around
       pub same : new ≡ record old { around = new.around }
 

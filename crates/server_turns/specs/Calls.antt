@@ -14,6 +14,8 @@ pub data Call : Type 0 where
   Queue : Backlog → Call
   Wait : Option Duration → Result ⊤ Error → Call
   Event : Option Came → Call
+  Flooded : Bool → Call
+  Flood : Bool → Call
   Accept : Result ⊤ Error → Call
   Take : Call
   Hand : Option Bool → Call

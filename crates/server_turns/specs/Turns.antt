@@ -1,6 +1,6 @@
 -- One turn of a loop with what it has around it, and its last ones.
-use Rattle.std.specs.Prelude.{◌≡◌, ◌⊎◌, ◌↔◌, ◌&&◌, ◌||◌, ◌+◌, ◌<◌, ◌≤◌, ℕ, Bool, true, false, Option, Some, None}
-use Rattle.std.specs.Prelude.{Result, Ok, Err, ⊤, [], IfSome, IsSome, IsSomeAnd, is_some, not, option_map}
+use Rattle.std.specs.Prelude.{◌≡◌, ◌⊎◌, ◌↔◌, ◌&&◌, ◌||◌, ℕ, Bool, true, false, Option, Some, None}
+use Rattle.std.specs.Prelude.{Result, Ok, Err, ⊤, [], is_some, not, option_map}
 use Rattle.std.specs.Duration.{as_nanos}
 use Rattle.std.specs.Option.{option_or}
 use Rattle.std.specs.declared.io.Error.{Error}
@@ -8,7 +8,7 @@ use Rattle.std.specs.declared.time.Duration.{Duration}
 use Rattle.slab.specs.Slab.{slab_len}
 use Rattle.server_connections.specs.declared.peer.Awaits.TheVariants as awaited
 use Rattle.server_connections.specs.declared.peer_stream.PeerStream.{Ghosts as Streams}
-use Rattle.server_pace.specs.declared.pace.Pace.{Pace}
+use Rattle.server_pace.specs.Pacing.{drawn_by, much_by, paced}
 use Rattle.server_seat.specs.declared.seat.ServerEnd.{ServerEnd}
 use Rattle.server_seat.specs.declared.seat.SessionSeat.{Ghosts as Calls}
 use Rattle.server_steps.specs.Ending.{EachKey, seen_at}
@@ -21,7 +21,7 @@ use Rattle.server_loop.specs.Serving.{ReadsAll}
 use Rattle.server_loop.specs.Submitting.{State}
 use Rattle.server_loop.specs.Turning.{EndsTurn, Expires, Finishes}
 use Rattle.server_loop.specs.Walking.{VisitsAll}
-use Rattle.server_turns.specs.Calls.{Call, Ask, Await, Close, End, Know, Now, Pause, Tell, Wake}
+use Rattle.server_turns.specs.Calls.{Call, Ask, Await, Close, End, Flood, Flooded, Know, Now, Pause, Tell, Wake}
 use Rattle.server_turns.specs.Course.{Course}
 use Rattle.server_turns.specs.Steps.{Many, Until}
 use Rattle.server_turns.specs.Waits.{is_late}
@@ -33,39 +33,25 @@ module _ {S J : Type 0} where
   learned None s = s
   learned (Some known) s = record s { looked = Some known.look; users = option_or known.users s.users }
 
--- ---- when draws wait
-
--- it was noted whether much comes to a loop, which ends less than a millisecond after that
-pub record NotesMuch (now : Option Duration) (much : Bool) (old : Pace) (changed : Bool) (new : Pace) : Type 0 where
-  pub comes : much ≡ true → IsSome new.much × (IsSome now → new.much ≡ now)
-  pub lately : much ≡ false → IfSome new.much (λ at. (old.much ≡ Some at)
-      × IsSomeAnd now (λ n. as_nanos n < as_nanos at + 1000000))
-  pub over : much ≡ false → new.much ≡ None
-      → IfSome old.much (λ at. IfSome now (λ n. as_nanos at + 1000000 ≤ as_nanos n))
-  pub is_news : (changed ≡ false) ↔ (is_some new.much ≡ is_some old.much)
-  pub same : new ≡ record old { much = new.much }
-
--- draws wait as they did or since now, and for less than 20 milliseconds
-pub record HoldsDraws (now : Option Duration) (holds : Bool) (old new : Pace) : Type 0 where
-  pub since : IfSome new.since (λ s. (old.since ≡ Some s) ⊎ ((old.since ≡ None) × (now ≡ Some s)))
-  pub held : holds ≡ is_some new.since
-  pub bound : holds ≡ true → IsSomeAnd new.since (λ since. IsSomeAnd now (λ at.
-      as_nanos at < as_nanos since + 20000000))
-
--- a crowd was drawn
-pub record NotesDrawn (now : Option Duration) (clients : ℕ) (old new : Pace) : Type 0 where
-  pub crowd : 8 ≤ clients → new ≡ record old { drawn = now }
-  pub few : clients < 8 → new ≡ old
-
 module _ {S J A : Type 0} where
-  abbrev pub Notes : Option Duration → Bool → Course S J A → Bool → Course S J A → Type 0
-  Notes now much old changed new =
-      NotesMuch now much old.pace changed new.pace × (new ≡ record old { pace = new.pace })
-
-  abbrev pub Holds : Option Duration → Course S J A → Bool → Course S J A → Type 0
-  Holds now old holds new = HoldsDraws now holds old.pace new.pace × (new ≡ record old { pace = new.pace })
+  -- it is known by now whether much comes to the loop
+  abbrev pub with_much : Option Duration → Bool → Course S J A → Course S J A
+  with_much now much s = record s { pace = record s.pace { much = much_by now much s.pace.much } }
 
   module _ (does : A → Call → A → Type 0) where
+    -- It was noted whether much comes to the loop. If that changed, it was counted once among those to which much
+    -- comes, or isn't any more.
+    abbrev pub Notes : Option Duration → Bool → Course S J A → Bool → Course S J A → Type 0
+    Notes now much old changed new =
+        ((changed ≡ false) ↔ (is_some (much_by now much old.pace.much) ≡ is_some old.pace.much))
+        × IfBool changed (does old.around (Flood (is_some (much_by now much old.pace.much))) new.around
+        × (new ≡ record (with_much now much old) { around = new.around })) (new ≡ with_much now much old)
+
+    -- it is known whether draws wait, by whether much comes to any loop
+    abbrev pub Holds : Option Duration → Bool → Course S J A → Bool → Course S J A → Type 0
+    Holds now echo old holds new = (flooded : Bool) × does old.around (Flooded flooded) old.around
+        × (new ≡ record old { pace = paced flooded now echo old.pace }) × (holds ≡ is_some new.pace.since)
+
     -- what is known of who may connect was asked for, once; the loop takes users that it hasn't
     abbrev pub Learns : Course S J A → Course S J A → Type 0
     Learns old new = (known : Option Learned) × does old.around (Know old.count known new.count) new.around
@@ -100,13 +86,13 @@ module _ {S J A : Type 0} where
     abbrev pub EndsReads : Option Duration → Reads → Course S J A → Result Bool Error → Course S J A → Type 0
     EndsReads now reads old (Ok holds) new = (mid : Course S J A) × (news : Bool)
         × Notes now reads.is_much old news mid × (woken : Course S J A)
-        × WakesIf reads.submitted news mid (Ok tt) woken × Holds now woken holds new
+        × WakesIf reads.submitted news mid (Ok tt) woken × Holds now reads.has_typed woken holds new
     EndsReads now reads old (Err error) new = (mid : Course S J A) × (news : Bool)
         × Notes now reads.is_much old news mid × WakesIf reads.submitted news mid (Err error) new
 
     abbrev pub EndsWrites : Option Duration → Writes → Course S J A → Result ⊤ Error → Course S J A → Type 0
-    EndsWrites now writes old result new = (drawn : Pace) × NotesDrawn now writes.drawn old.pace drawn
-        × WakesIf writes.submitted false (record old { pace = drawn }) result new
+    EndsWrites now writes old result new =
+        WakesIf writes.submitted false (record old { pace = drawn_by now writes.drawn old.pace }) result new
 
     -- what happened was told to the log, all of it and once
     abbrev pub Tells : Course S J A → Course S J A → Type 0
@@ -145,15 +131,18 @@ module _ {S J A : Type 0} where
         × VisitsAll (Expires old.own.now) old.own expired
         × Ends now holds (record old { own = expired }) result new
 
-    -- The users who may connect were taken if a message waits. All that is awake was read and served, once. A look at
-    -- the users' file was asked for if a first message waits for it, and the others were woken for what this brought.
+    -- The users who may connect were taken if a message waits, and the time was told to the trail's file, once. All
+    -- that is awake was read and served, once. A look at the users' file was asked for if a first message waits for
+    -- it, and the others were woken for what this brought.
     pub record ReadsTurn (now : Option Duration) (old : Course S J A) (held : Result Bool Error) (new : Course S J A)
         : Type 0 where
       pub looked : Course S J A
       pub looks : Looks does old looked
+      pub timed : J
+      pub times : calls.sets_time looked.own.seat timed
       pub reads : Reads
       pub read : State S J
-      pub reads_all : ReadsAll calls streams looked.own reads read
+      pub reads_all : ReadsAll calls streams (record looked.own { seat = timed }) reads read
       pub asked : Course S J A
       pub asks : Asks does (record looked { own = read }) asked
       pub holds : EndsReads does now reads asked held new

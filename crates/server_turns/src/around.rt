@@ -4,7 +4,6 @@ use server_seat::{News, ServerEnd};
 use server_users::Users;
 use std::io;
 use std::sync::Wait;
-use std::sync::atomic::AtomicU64;
 use std::time::{Clock, Duration};
 
 /// What a loop learns of who may connect.
@@ -46,8 +45,9 @@ pub struct Backlog {
 /// they see of a call lies behind threads, and no clause tells it.
 pub trait Around<S> {
     ghost use Rattle.std.specs.Prelude.{ℕ, Bool, Option};
-    ghost use Rattle.server_turns.specs.Calls.{Call, Accept, Arrive, Ask, Await, Close, End, Event, Hand, Know, Note};
-    ghost use Rattle.server_turns.specs.Calls.{Now, Over, Pause, Queue, Take, Tell, Wait as Sleep, Wake as Rouse};
+    ghost use Rattle.server_turns.specs.Calls.{Call, Accept, Arrive, Ask, Await, Close, End, Event, Flood, Flooded};
+    ghost use Rattle.server_turns.specs.Calls.{Hand, Know, Note, Now, Over, Pause, Queue, Take, Tell};
+    ghost use Rattle.server_turns.specs.Calls.{Wait as Sleep, Wake as Rouse};
 
     // What a call was given and answered. Only that call shows it, and one call shows no second one.
     ghost does: { Self → Call → Self → Type 0 };
@@ -59,8 +59,13 @@ pub trait Around<S> {
     fn arrive<R: Wait>(&mut self, rt: &R) -> bool
         ensures { does self.old (Arrive result) self.new };
 
-    /// How many loops much comes to.
-    fn busy(&self) -> &AtomicU64;
+    /// Whether much comes to any loop.
+    fn is_flooded(&self) -> bool
+        ensures { does self.now (Flooded result) self.now };
+
+    /// Much comes to this loop from now on, or it doesn't any more: the loops to which much comes are counted.
+    fn note_flood(&mut self, is_much: bool)
+        ensures { does self.old (Flood is_much) self.new };
 
     /// The time, if there is a clock.
     fn now<R: Clock>(&self, rt: &R) -> Option<Duration>

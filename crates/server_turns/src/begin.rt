@@ -59,7 +59,9 @@ impl<S: PeerStream + Drop, G: Gate + Drop, J: SessionSeat + Drop, A: Around<S>> 
         let (works, retries, waits) = wants(self.own.pending());
         let queue = self.around.backlog();
         let (works, retries) = (works || queue.has_more, retries || queue.is_stuck);
-        let paced = self.pace.longest_sleep(self.around.busy());
+        let paced = self
+            .pace
+            .longest_sleep(self.around.is_flooded(), self.own.now);
         let longest = sleep_for(works, retries, waits, paced);
         self.around.wait(longest)
     }

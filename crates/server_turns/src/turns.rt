@@ -3,7 +3,8 @@
 ghost use Rattle.std.specs.Prelude.{◌≡◌};
 ghost use Rattle.server_turns.specs.Course.{course_of};
 ghost use Rattle.server_turns.specs.Turns.{Asks, Ends, EndsReads, EndsServer, EndsWrites, Holds, Learns, Looks};
-ghost use Rattle.server_turns.specs.Turns.{Notes, ReadsTurn, Tells, Turns, WakesIf, WindsAll, WindsOn, WindsUntil, WindsUp};
+ghost use Rattle.server_turns.specs.Turns.{Notes, ReadsTurn, Tells, Turns, WakesIf, WindsAll, WindsOn};
+ghost use Rattle.server_turns.specs.Turns.{WindsUntil, WindsUp};
 
 use crate::around::Around;
 use crate::turner::Turner;
@@ -64,18 +65,22 @@ impl<S: PeerStream + Drop, G: Gate + Drop, J: SessionSeat + Drop, A: Around<S>> 
         Ok(())
     }
 
-    // Notes whether much comes to this loop. Returns whether that changed.
+    // Notes whether much comes to this loop. If that changed, the loops to which much comes are counted anew.
     fn note_much(&mut self, now: Option<Duration>, is_much: bool) -> bool
-        ensures { Notes now is_much (course_of self.old) result (course_of self.new) }
+        ensures { Notes A.does now is_much (course_of self.old) result (course_of self.new) }
     {
-        self.pace.note(self.around.busy(), now, is_much)
+        if !self.pace.note(now, is_much) {
+            return false;
+        }
+        self.around.note_flood(self.pace.is_busy());
+        true
     }
 
     // Whether the turn's draws wait.
     fn holds(&mut self, now: Option<Duration>, has_typed: bool) -> bool
-        ensures { Holds now (course_of self.old) result (course_of self.new) }
+        ensures { Holds A.does now has_typed (course_of self.old) result (course_of self.new) }
     {
-        self.pace.holds(self.around.busy(), now, has_typed)
+        self.pace.holds(self.around.is_flooded(), now, has_typed)
     }
 
     // A turn's reads are done: wakes the other loops if they may have something to do. Returns whether the
