@@ -18,22 +18,21 @@ cause_of _ = None
 
 -- After a server served: it ended well only if `quit` ended it, every answer stands in the trail, and the trail's
 -- file has no fault.
-abbrev pub outcome_of : Option ServerEnd → Option ServeFault → Bool → Result ⊤ ServeFault
-outcome_of (Some end.Quit) wrong false = Err fault.Trail
-outcome_of (Some end.Quit) (Some wrong) true = Err wrong
-outcome_of (Some end.Quit) None true = Ok tt
-outcome_of (Some end.TrailFull) (Some wrong) agrees = Err wrong
-outcome_of (Some end.TrailFull) None agrees = Err fault.TrailFull
-outcome_of _ wrong agrees = Err fault.Loop
+abbrev pub outcome_of : {A : Type 0} → Option ServerEnd → Result A ServeFault → Bool → Result A ServeFault
+outcome_of (Some end.Quit) trail true = trail
+outcome_of (Some end.Quit) trail false = Err fault.Trail
+outcome_of (Some end.TrailFull) (Err wrong) agrees = Err wrong
+outcome_of (Some end.TrailFull) (Ok trail) agrees = Err fault.TrailFull
+outcome_of _ trail agrees = Err fault.Loop
 
 -- why a loop couldn't be started
 abbrev pub why_unready : Option Unready → ServeFault
 why_unready (Some NoThread) = fault.NoThread
 why_unready _ = fault.NoMemory
 
--- Whether a server served, which says that it is ready before; then, whether every answer stands in the trail.
-abbrev pub served : Result Bool ServeFault → Option (Result ⊤ Error) → Option Unready → Result Bool ServeFault
+-- what a server kept that served, which says that it is ready before
+abbrev pub served : {A : Type 0} → Result A ServeFault → Option (Result ⊤ Error) → Option Unready → Result A ServeFault
 served (Err why) said missing = Err why
-served (Ok agrees) (Some (Ok is)) missing = Ok agrees
-served (Ok agrees) (Some (Err error)) missing = Err (fault.Untold (record { 0 = error }))
-served (Ok agrees) None missing = Err (why_unready missing)
+served (Ok kept) (Some (Ok is)) missing = Ok kept
+served (Ok kept) (Some (Err error)) missing = Err (fault.Untold (record { 0 = error }))
+served (Ok kept) None missing = Err (why_unready missing)

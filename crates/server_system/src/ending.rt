@@ -1,6 +1,6 @@
 //! How a server ends.
 
-ghost use Rattle.std.specs.Prelude.{◌≡◌};
+ghost use Rattle.std.specs.Prelude.{◌≡◌, IfOk, Ok, true};
 ghost use Rattle.server_system.specs.Ending.{cause_of, outcome_of, served, why_unready};
 
 use crate::fault::ServeFault;
@@ -27,27 +27,26 @@ pub fn cause_of(end: Option<ServerEnd>) -> Option<Cause>
     }
 }
 
-/// How a server ended that served, from the fault of the trail's file. `agrees` says whether every answer
+/// How a server ended that served, from what came of its trail's file. `agrees` says whether every answer
 /// stands in the trail.
-pub fn outcome_of(
+pub fn outcome_of<T: Drop>(
     end: Option<ServerEnd>,
-    wrong: Option<ServeFault>,
+    trail: Result<T, ServeFault>,
     agrees: bool,
-) -> Result<(), ServeFault>
-    ensures { result ≡ outcome_of end wrong agrees }
+) -> Result<T, ServeFault>
+    ensures outcome { result ≡ outcome_of end trail agrees }
+    ensures well { IfOk result (λ kept. (agrees ≡ true) × (trail ≡ Ok kept)) }
 {
-    match (end, wrong) {
-        (Some(ServerEnd::Quit), wrong) => {
-            if !agrees {
-                return Err(ServeFault::Trail);
-            }
-            match wrong {
-                Some(wrong) => Err(wrong),
-                None => Ok(()),
+    match (end, trail) {
+        (Some(ServerEnd::Quit), trail) => {
+            if agrees {
+                trail
+            } else {
+                Err(ServeFault::Trail)
             }
         }
-        (Some(ServerEnd::TrailFull), Some(wrong)) => Err(wrong),
-        (Some(ServerEnd::TrailFull), None) => Err(ServeFault::TrailFull),
+        (Some(ServerEnd::TrailFull), Err(wrong)) => Err(wrong),
+        (Some(ServerEnd::TrailFull), Ok(_)) => Err(ServeFault::TrailFull),
         (Some(ServerEnd::Fault) | None, _) => Err(ServeFault::Loop),
     }
 }
@@ -61,18 +60,17 @@ fn why_unready(missing: Option<Unready>) -> ServeFault
     }
 }
 
-/// Whether a server served, which says that it is ready before. The answer is whether every answer stands
-/// in the trail.
-pub fn served(
-    kept: Result<bool, ServeFault>,
+/// What a server kept that served: it said before that it is ready.
+pub fn served<T: Drop>(
+    kept: Result<T, ServeFault>,
     said: Option<io::Result<()>>,
     missing: Option<Unready>,
-) -> Result<bool, ServeFault>
+) -> Result<T, ServeFault>
     ensures { result ≡ served kept said missing }
 {
     match (kept, said) {
         (Err(fault), _) => Err(fault),
-        (Ok(agrees), Some(Ok(()))) => Ok(agrees),
+        (Ok(kept), Some(Ok(()))) => Ok(kept),
         (Ok(_), Some(Err(error))) => Err(ServeFault::Untold(SystemError(error))),
         (Ok(_), None) => Err(why_unready(missing)),
     }

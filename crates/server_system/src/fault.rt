@@ -1,10 +1,14 @@
 //! What can be wrong, and what to do about it.
 
-use program_words::SystemError;
+ghost use Rattle.server_system.specs.Faults.{IsOfSetup, IsOfTrail};
+
+use program_words::{RefusedLine, SetupFault, SystemError};
 use server_trail::JournalFault;
 use server_users::{OpenFolder, UsersFault};
 use std::alloc::{AllocError, AllocFailed, Global};
+use std::fmt::{Display, Formatter};
 use std::io::{self, ErrorKind};
+use std::{fmt, str};
 use thiserror::Error;
 
 /// Why a server can't listen on its socket.
@@ -35,6 +39,37 @@ impl From<io::Error> for SocketFault {
     }
 }
 
+/// A line of a setup that the session refused, by its number, and the text of the refusal.
+#[derive(Debug, Drop)]
+pub struct RefusedCommand {
+    pub number: usize,
+    pub line: Vec<u8>,
+    pub said: Vec<u8>,
+}
+
+impl Display for RefusedCommand {
+    fn fmt<W: fmt::Write>(&self, f: &mut Formatter<W>) -> fmt::Result {
+        let refused = RefusedLine {
+            number: self.number,
+            line: str::from_utf8(&self.line).unwrap_or("?"),
+            said: str::from_utf8(&self.said).unwrap_or("?"),
+        };
+        write!(f, "{refused}")
+    }
+}
+
+/// What is wrong with a setup.
+#[derive(Debug, Drop, Error)]
+pub enum SetupCause {
+    #[error("{0} (set --setup)")]
+    NotRead(SystemError),
+    /// A line of it can be no command.
+    #[error("{0}")]
+    Wrong(SetupFault),
+    #[error("{0}")]
+    Refused(RefusedCommand),
+}
+
 /// Why `muxd` doesn't serve, or ended.
 #[derive(Debug, Drop, Error)]
 pub enum ServeFault {
@@ -59,8 +94,9 @@ pub enum ServeFault {
     /// The users' file at this path.
     #[error("users' file {0}, {1}")]
     Users(String, UsersFault),
-    #[error("setup {0}")]
-    Setup(String),
+    /// The setup at this path.
+    #[error("setup {0}: {1}")]
+    Setup(String, SetupCause),
     /// The socket at this path.
     #[error("socket {0}: {1}")]
     Socket(String, SocketFault),
@@ -84,8 +120,20 @@ pub enum ServeFault {
 }
 
 impl ServeFault {
+    /// The setup at this path can't be given.
+    pub fn of_setup(alloc: Global, path: &str, cause: SetupCause) -> ServeFault
+        ensures { IsOfSetup path.now cause result }
+    {
+        match String::from_str(alloc, path) {
+            Ok(path) => ServeFault::Setup(path, cause),
+            Err(_) => ServeFault::NoMemory,
+        }
+    }
+
     /// The trail's file at this path has a fault.
-    pub fn of_trail(alloc: Global, path: &str, fault: JournalFault) -> ServeFault {
+    pub fn of_trail(alloc: Global, path: &str, fault: JournalFault) -> ServeFault
+        ensures { IsOfTrail path.now fault result }
+    {
         match String::from_str(alloc, path) {
             Ok(path) => ServeFault::Journal(path, fault),
             Err(_) => ServeFault::NoMemory,

@@ -12,7 +12,7 @@ mod watched;
 mod wired;
 
 pub use ending::{Unready, cause_of, outcome_of, served};
-pub use fault::ServeFault;
+pub use fault::{RefusedCommand, ServeFault, SetupCause};
 pub use log::Log;
 pub use socket::SocketPath;
 pub use standard::{LastLine, fill_closed};

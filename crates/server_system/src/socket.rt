@@ -1,5 +1,8 @@
 //! The socket that a server listens on.
 
+ghost use Rattle.std.specs.Prelude.{◌≡◌, IfOk};
+ghost use Rattle.server_system.specs.Paths.{socket_path};
+
 use crate::Host;
 use crate::fault::{ServeFault, SocketFault};
 use mio::net::{UnixListener, UnixStream};
@@ -128,7 +131,9 @@ impl SocketPath<'_> {
         rt: &R,
         alloc: Global,
         path: &'a str,
-    ) -> Result<(SocketPath<'a>, UnixListener), ServeFault> {
+    ) -> Result<(SocketPath<'a>, UnixListener), ServeFault>
+        ensures { IfOk result (λ made. socket_path made.0 ≡ path.entry.now) }
+    {
         match listen(rt, alloc, path) {
             Ok((lock, listener)) => {
                 let lock = Mutex::new(Some(lock));

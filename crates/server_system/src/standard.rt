@@ -33,8 +33,7 @@ impl Write for LastLine {
         if !has_room(&self.0, PATIENCE) {
             return Err(io::Error::from(ErrorKind::TimedOut));
         }
-        let piece = buf.len().min(PIECE);
-        self.0.write(&buf[..piece])
+        self.0.write(&buf[..buf.len().min(PIECE)])
     }
 
     fn flush(&mut self) -> io::Result<()> {

@@ -1,8 +1,9 @@
 //! The users' file, and whether it has changed.
 
-ghost use Rattle.std.specs.Prelude.{◌≡◌, Err, IfErr, IfOk, List, None, Some, ℕ, false};
+ghost use Rattle.std.specs.Prelude.{◌≡◌, Err, IfErr, IfOk, IfSome, List, None, Some, ℕ, false, take};
 ghost use Rattle.std.specs.Option.{option_copied};
 ghost use Rattle.server_system.specs.Looking.{AreOf, IsWrong, LooksAt, MayBeTold, access_of, after_look};
+ghost use Rattle.server_system.specs.Paths.{users_path};
 ghost use Rattle.server_system.specs.declared.fault.ServeFault.TheVariants.{NoMemory};
 
 use crate::fault::ServeFault;
@@ -57,6 +58,15 @@ impl Stamp {
             mode: self.mode,
         }
     }
+}
+
+// The first bytes of a file, at most this many.
+fn first_bytes<R: Read + Drop>(alloc: Global, file: R, most: u64) -> io::Result<Vec<u8>>
+    ensures { IfOk result (λ bytes. IfSome (R.remaining file) (λ all. bytes.items ≡ take most all)) }
+{
+    let mut bytes = Vec::new(alloc);
+    file.take(most).read_to_end(&mut bytes)?;
+    Ok(bytes)
 }
 
 // The users of a file of this path and stamp, which has these bytes, for a server of this account.
@@ -120,7 +130,9 @@ pub struct UsersFile {
 
 impl UsersFile {
     /// The users' file of this path.
-    pub fn new(files: HostRuntime, alloc: Global, path: &str) -> Result<UsersFile, AllocError> {
+    pub fn new(files: HostRuntime, alloc: Global, path: &str) -> Result<UsersFile, AllocError>
+        ensures { IfOk result (λ file. users_path file ≡ path.now) }
+    {
         let path = String::from_str(alloc, path)?;
         Ok(UsersFile {
             files,
@@ -143,10 +155,8 @@ impl UsersFile {
 
     // The file's bytes, of which at most one too many is read.
     fn bytes(&self) -> io::Result<Vec<u8>> {
-        let mut bytes = Vec::new(self.alloc);
-        let mut file = fs::open(&self.files, self.path.as_str())?.take(MOST as u64 + 1);
-        file.read_to_end(&mut bytes)?;
-        Ok(bytes)
+        let file = fs::open(&self.files, self.path.as_str())?;
+        first_bytes(self.alloc, file, MOST as u64 + 1)
     }
 
     /// Reads the users, with the file's stamp. Only a plain file is read, of at most 1,048,576 bytes, and
@@ -207,7 +217,9 @@ pub struct LastLook {
 
 impl LastLook {
     /// The file was read when it had this stamp.
-    pub fn read(stamp: Stamp) -> LastLook {
+    pub fn read(stamp: Stamp) -> LastLook
+        ensures { result ≡ record { stamp = Some stamp; failed = None } }
+    {
         LastLook {
             stamp: Some(stamp),
             failed: None,
@@ -235,8 +247,7 @@ impl LastLook {
     {
         match fault {
             Some(ServeFault::NoMemory) => true,
-            Some(ServeFault::NoFile(_, _)) => self.fails(found),
-            Some(ServeFault::Folder(_, _)) => self.fails(found),
+            Some(ServeFault::NoFile(..) | ServeFault::Folder(..)) => self.fails(found),
             _ => {
                 self.stamp = found;
                 self.failed = None;

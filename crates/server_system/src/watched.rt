@@ -178,13 +178,7 @@ impl SharedLooks for Looks {
         let (look, count_now) = (self.done, self.count);
         let mut users = None;
         if count_now != count {
-            let Some(newer) = &self.users else {
-                return None;
-            };
-            let Ok(copy) = newer.copy(alloc) else {
-                return None;
-            };
-            users = Some(copy);
+            users = Some(self.users.as_ref()?.copy(alloc).ok()?);
         }
         Some(KnownUsers {
             look,
@@ -230,7 +224,10 @@ pub struct WatchedUsers<F, L = Looks> {
 
 impl<F: UsersSource> WatchedUsers<F> {
     /// A file that was read once. Its owner is the session's.
-    pub fn new(alloc: Global, file: F, owner: UserId) -> WatchedUsers<F> {
+    pub fn new(alloc: Global, file: F, owner: UserId) -> WatchedUsers<F>
+        ensures file { result.file ≡ file }
+        ensures owner { result.owner ≡ owner }
+    {
         WatchedUsers {
             alloc,
             file,
@@ -317,9 +314,7 @@ impl<F: UsersSource, L: SharedLooks> WatchedUsers<F, L> {
             let path = self.file.path();
             log.put(rt, &UsersLine { path, news: &news });
         }
-        let Some(known) = looks.newest(self.alloc, *count) else {
-            return None;
-        };
+        let known = looks.newest(self.alloc, *count)?;
         *count = known.count;
         Some(known)
     }

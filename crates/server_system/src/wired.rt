@@ -1,6 +1,6 @@
 //! A connection that a loop waits for.
 
-ghost use Rattle.std.specs.Prelude.{◌≡◌, IfErr, IsTrue, Ok, OnOk, true};
+ghost use Rattle.std.specs.Prelude.{◌≡◌, IfErr, IfOk, IsTrue, Ok, OnOk, true};
 ghost use Rattle.std.specs.Io.{WritesAtMost};
 ghost use Rattle.std.specs.Io.KnownBytes.{WriteAppends};
 ghost use Rattle.std.specs.IoError.{error_kind};
@@ -133,7 +133,9 @@ impl<'a> Wired<PeerSocket<'a>> {
         registry: &'a Registry,
         token: Token,
         mut stream: UnixStream,
-    ) -> io::Result<Wired<PeerSocket<'a>>> {
+    ) -> io::Result<Wired<PeerSocket<'a>>>
+        ensures { IfOk result (λ wired. wired.stream.token ≡ token) }
+    {
         bound_unread(&stream);
         registry.register(&mut stream, token, Interest::READABLE)?;
         Ok(Wired {
