@@ -1,5 +1,13 @@
 -- What came to a loop by an event of its poll.
-use Rattle.std.specs.Prelude.{ℕ, ◌-◌, ◌==◌, ◌||◌, if◌then◌else◌}
+use Rattle.std.specs.Prelude.{◌≡◌, ℕ, ◌+◌, ◌-◌, ◌^◌, ◌==◌, ◌||◌, if◌then◌else◌, false, min, slice_get}
+use Rattle.std.specs.Prelude.{Option, Some, None, IfSome, option_map}
+use Rattle.mio.specs.Events.{items}
+use Rattle.mio.specs.declared.token.Token.{Token}
+use Rattle.server_turns.specs.Calls as calls
+use Rattle.server_turns.specs.Calls.{Call}
+use Rattle.server_turns.specs.declared.around.Backlog.{Backlog}
+use Rattle.server.specs.declared.acceptor.Acceptor.{Acceptor}
+use Rattle.server.specs.declared.turns.Inlet.{Inlet}
 use Rattle.mio.specs.Event.{event_token, is_error, is_read_closed, is_readable, is_writable}
 use Rattle.mio.specs.declared.event.event.Event.{Event}
 use Rattle.server_turns.specs.declared.around.Came.{Came}
@@ -12,3 +20,27 @@ came_to token event = if token == 0 then came.Wake else (if token == 1 then came
 
 abbrev pub came_by : Event → Came
 came_by event = came_to (event_token event).0 event
+
+-- one more, as far as a number of 64 bits goes
+abbrev pub next : ℕ → ℕ
+next number = min (number + 1) (2 ^ 64 - 1)
+
+-- a loop without the listener has no backlog
+abbrev pub backlog_of : Option Acceptor → Backlog
+backlog_of None = record { has_more = false; is_stuck = false }
+backlog_of (Some acceptor) = acceptor.backlog
+
+-- What a call of a loop shows of what lies around it: the events of a wait come in turn, each once. What the other
+-- threads and the system see of a call lies in atomics, under locks and in the system.
+abbrev pub Shows : Inlet → Call → Inlet → Type 0
+Shows inlet (calls.Event came) left = (came ≡ option_map came_by (slice_get (items inlet.events) inlet.seen))
+    × (left ≡ record inlet { seen = next inlet.seen })
+Shows inlet (calls.Wait longest waited) left = left.seen ≡ 0
+Shows inlet (calls.Pause waited) left = left.seen ≡ 0
+Shows inlet (calls.Queue backlog) left = backlog ≡ backlog_of inlet.acceptor
+Shows inlet calls.Close left = left ≡ record inlet { acceptor = None }
+Shows inlet other left = Unit {0}
+
+-- the token of the connection of a key
+abbrev pub token_of : ℕ → Token
+token_of key = record { 0 = min (key + 2) (2 ^ 64 - 1) }

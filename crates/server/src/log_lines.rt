@@ -53,12 +53,8 @@ struct DiskLine<'a> {
 
 impl Display for DiskLine<'_> {
     fn fmt<W: fmt::Write>(&self, f: &mut Formatter<W>) -> fmt::Result {
-        let DiskLine {
-            path,
-            news,
-            waiting,
-        } = *self;
-        match news {
+        let (path, waiting) = (self.path, self.waiting);
+        match self.news {
             DiskNews::Refuses(error, _) => write!(
                 f,
                 "trail {path}: can't write it: {}: {waiting} bytes wait: make room before {MOST} do",

@@ -1,7 +1,9 @@
 //! What a loop begins with, and how connections and news come to it.
 
+ghost use Rattle.std.specs.Prelude.{◌≡◌, IfOk, length};
+
 use crate::acceptor::Acceptor;
-use crate::ready::Latch;
+use crate::latch::Latch;
 use crate::turns::{LISTEN, WAKE};
 use mio::net::{UnixListener, UnixStream};
 use mio::{Interest, Poll, Registry, Waker};
@@ -152,7 +154,9 @@ pub fn places(
     rt: &impl Host,
     loops: usize,
     listener: UnixListener,
-) -> io::Result<(Vec<LoopStart>, Vec<LoopHandle>)> {
+) -> io::Result<(Vec<LoopStart>, Vec<LoopHandle>)>
+    ensures { IfOk result (λ made. (length made.0.items ≡ loops) × (length made.1.items ≡ loops)) }
+{
     let alloc = rt.alloc();
     let mut starts = Vec::new(alloc);
     let mut loop_handles = Vec::new(alloc);

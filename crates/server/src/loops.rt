@@ -1,19 +1,27 @@
 //! A server: its socket, its threads, its files, its log and its end.
 
+ghost use Rattle.std.specs.Prelude.{◌≡◌, IfOk, is_some, length, option_map, true};
+ghost use Rattle.std.specs.Arc.{arc_value};
+ghost use Rattle.server_session.specs.SettingUp.{agrees, setup_of};
+ghost use Rattle.server_system.specs.Paths.{socket_path, watched_path};
+ghost use Rattle.server_trail.specs.Journals.{journal_path};
+ghost use Rattle.server.specs.Starting.{loops_of, text_of};
+
 use crate::log_lines::DiskLog;
 use crate::loop_handle::{LoopStart, Shared};
+use crate::options::Options;
 use crate::ready::ReadyLine;
-use crate::setup_file::Setup;
+use crate::setup_file::start_fault;
 use crate::turns::run_loop;
 use server_loop::{Gate, ServerEnd};
 use server_session::{
-    Accounts, Begun, Books, LoopBody, LoopsFault, Recorder, Seat, Seated, SharedSession, Start,
+    Accounts, Agreement, Begun, Books, LoopBody, Recorder, Seat, Seated, SharedSession, Start,
     Trail, keep,
 };
 use server_system::{
     Host, LastLine, ServeFault, SocketPath, Unready, cause_of, outcome_of, served,
 };
-use server_trail::Journal;
+use server_trail::{Journal, ReadBack};
 use std::alloc::Global;
 use std::io::Write;
 use std::rt::{HostRuntime, Stderr};
@@ -23,6 +31,13 @@ use std::time::{Clock, Duration};
 
 // How many seconds the trail's disk has for the last line before that is told.
 const PATIENCE: u64 = 5;
+
+/// A session that ended well, and what shows that its trail's file was read back, if one was written.
+#[derive(Drop)]
+pub struct Kept {
+    pub session: Agreement,
+    pub trail: Option<ReadBack>,
+}
 
 /// A server, of which each loop runs in a thread of its own.
 #[derive(Drop)]
@@ -36,12 +51,16 @@ pub struct Server<'a, G, O> {
     pub place: &'a SocketPath<'a>,
     /// What each user may still try, and how many clients and windows they have.
     pub accounts: Accounts<Books>,
-    /// The owner's commands that are given before anybody connects.
-    pub setup: Setup<'a>,
+    /// What the arguments ask for.
+    pub options: Options<'a>,
     /// Where lines are written about who comes and goes.
     pub log: Stderr,
     /// Where the session's trail is written, if it is.
     pub journal: Option<Journal<'a>>,
+    ghost socket: { socket_path place.now ≡ options.socket.now },
+    ghost users: { watched_path (arc_value shared.watched) ≡ options.users.now },
+    ghost trail: { option_map journal_path journal ≡ text_of options.trail },
+    ghost tells: { shared.tells ≡ options.tells },
 }
 
 impl<G: Drop, O: Write> Server<'_, G, O> {
@@ -64,20 +83,16 @@ impl<G: Drop, O: Write> Server<'_, G, O> {
         }
     }
 
-    // The fault of the trail's file, if there is one.
-    fn trail_fault(&self, rt: &impl Wait) -> Option<ServeFault> {
-        let journal = self.journal.as_ref()?;
-        let fault = journal.fault(rt)?;
-        Some(ServeFault::of_trail(self.shared.alloc, journal.path(), fault))
-    }
-
-    // Why a session didn't begin.
-    fn fault(&self, fault: LoopsFault) -> ServeFault {
-        let alloc = self.shared.alloc;
-        match fault {
-            LoopsFault::NoMemory => ServeFault::NoMemory,
-            LoopsFault::Setup(fault) => self.setup.wrong(alloc, fault),
-            LoopsFault::Refused(number, said) => self.setup.refused(alloc, number, &said),
+    // What shows that the trail's file was read back, if one is written; or its fault.
+    fn trail_file(&self, rt: &impl Wait) -> Result<Option<ReadBack>, ServeFault>
+        ensures { IfOk result (λ trail. is_some trail ≡ is_some self.now.journal) }
+    {
+        let Some(journal) = &self.journal else {
+            return Ok(None);
+        };
+        match journal.outcome(rt) {
+            Ok(back) => Ok(Some(back)),
+            Err(fault) => Err(ServeFault::of_trail(self.shared.alloc, journal.path(), fault)),
         }
     }
 }
@@ -88,22 +103,29 @@ impl<G: Gate + Copy + Sync + Drop, O: Write + Send> Server<'_, G, O> {
         &self,
         rt: &R,
         start: Start<LoopStart>,
-    ) -> Result<(), ServeFault> {
+    ) -> Result<Kept, ServeFault>
+        requires { length start.places.items ≡ loops_of self.now.options.loops }
+        ensures setup { IfOk result (λ kept. setup_of kept.session ≡ start.setup.items) }
+        ensures agrees { IfOk result (λ kept. agrees kept.session ≡ true) }
+        ensures trail { IfOk result (λ kept. is_some kept.trail ≡ is_some self.now.journal) }
+    {
         let kept = match keep(rt, start, self) {
-            Ok(agreement) => Ok(agreement.holds()),
-            Err(fault) => Err(self.fault(fault)),
+            Ok(agreement) => Ok(agreement),
+            Err(fault) => Err(start_fault(
+                self.shared.alloc,
+                self.options.setup.unwrap_or(""),
+                fault,
+            )),
         };
         self.shared.watched.stop(rt);
         let said = self.ready.said(rt);
         if let (None | Some(Err(_)), Some(journal)) = (&said, &self.journal) {
             journal.remove();
         }
-        let agrees = served(kept, said, self.shared.latch.fault(rt))?;
-        outcome_of(
-            self.shared.over.get().copied(),
-            self.trail_fault(rt),
-            agrees,
-        )
+        let session = served(kept, said, self.shared.latch.fault(rt))?;
+        let end = self.shared.over.get().copied();
+        let trail = outcome_of(end, self.trail_file(rt), session.holds())?;
+        Ok(Kept { session, trail })
     }
 }
 
@@ -140,8 +162,11 @@ where
     }
 
     fn stand_by(&self, rt: &R) {
-        let serves = self.shared.latch.await_all(rt) && self.ready.say(rt);
-        self.shared.latch.open(rt, serves);
+        let said = match self.shared.latch.await_all(rt) {
+            Some(all) => self.ready.say(rt, all),
+            None => None,
+        };
+        self.shared.latch.open(rt, said);
         let mut errors = self.log;
         self.shared.log.write_all(rt, &mut errors);
         self.await_trail(rt);

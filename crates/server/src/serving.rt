@@ -1,21 +1,26 @@
 //! `muxd`: the session, its listener and its loops.
 
+ghost use Rattle.std.specs.Prelude.{◌≡◌, IfOk, is_some, option_map};
+ghost use Rattle.std.specs.Arc.{arc_value};
+ghost use Rattle.server_trail.specs.Journals.{journal_path};
+ghost use Rattle.server.specs.Starting.{IsKeptFor, IsStartOf, text_of};
+
+use crate::latch::Latch;
 use crate::loop_handle::{LoopHandle, Shared, places, start_watching};
-use crate::loops::Server;
-use crate::ready::{Latch, ReadyLine};
-use crate::setup_file::Setup;
+use crate::loops::{Kept, Server};
+use crate::options::Options;
+use crate::ready::ReadyLine;
+use crate::setup_file::{Host, Setup};
+use crate::starting::{ServerStart, listen, read_users};
 use acl::UserId;
-use clap::{ArgMatches, Error};
-use mio::net::UnixListener;
+use clap::Error;
 use program_words::{SystemError, of_server, tell};
 use server_loop::{Gate, Open};
-use server_session::{Accounts, Books, Limits, Start};
+use server_session::{Accounts, Books, Start};
 use server_system::{
-    Host, LastLine, LastLook, Log, ServeFault, SocketPath, Stamp, UsersFile, WatchedUsers,
-    fill_closed,
+    LastLine, LastLook, Log, ServeFault, Stamp, UsersFile, WatchedUsers, fill_closed,
 };
 use server_trail::Journal;
-use server_users::Users;
 use std::alloc::Global;
 use std::io::Write;
 use std::rt::HostRuntime;
@@ -32,36 +37,6 @@ pub struct Handles<G> {
     pub files: HostRuntime,
     /// Is called around each event that a loop submits.
     pub gate: G,
-}
-
-/// What the arguments of `muxd` ask for.
-#[derive(Clone, Copy)]
-struct Options<'a> {
-    socket: &'a str,
-    users: &'a str,
-    setup: Option<&'a str>,
-    trail: Option<&'a str>,
-    loops: u8,
-    limits: Limits,
-    tells: bool,
-}
-
-impl<'a> Options<'a> {
-    // (Arguments that must be there are: without them there are no matches.)
-    fn of(matches: &ArgMatches<'a>) -> Options<'a> {
-        Options {
-            socket: matches.get_str("socket").unwrap_or(""),
-            users: matches.get_str("users").unwrap_or(""),
-            setup: matches.get_str("setup"),
-            trail: matches.get_str("trail"),
-            loops: matches.get_one::<u8>("loops").unwrap_or(1),
-            limits: Limits {
-                clients: matches.get_one::<u8>("user-clients"),
-                windows: matches.get_one::<u8>("user-windows"),
-            },
-            tells: matches.get_flag("log"),
-        }
-    }
 }
 
 // Tells what is wrong with the arguments, or what `--help` and `--version` ask for. Returns the status to exit with.
@@ -96,7 +71,10 @@ fn journal<'a>(
     alloc: Global,
     path: Option<&'a str>,
     owner: UserId,
-) -> Result<Option<Journal<'a>>, ServeFault> {
+) -> Result<Option<Journal<'a>>, ServeFault>
+    ensures path { IfOk result (λ made. option_map journal_path made ≡ text_of path.entry) }
+    ensures there { IfOk result (λ made. is_some made ≡ is_some path.entry) }
+{
     let Some(path) = path else {
         return Ok(None);
     };
@@ -109,14 +87,15 @@ fn journal<'a>(
 // What the loops share. It starts the thread that looks at the users' file.
 fn shared<R: Host + Threads + Wait>(
     rt: &R,
-    options: &Options,
-    files: HostRuntime,
-    (owner, seen): (UserId, Stamp),
+    tells: bool,
+    watched: WatchedUsers<UsersFile>,
+    seen: Stamp,
     loop_handles: Vec<LoopHandle>,
-) -> Result<Shared, ServeFault> {
+) -> Result<Shared, ServeFault>
+    ensures { IfOk result (λ shared. (shared.tells ≡ tells) × (arc_value shared.watched ≡ watched)) }
+{
     let alloc = rt.alloc();
-    let file = UsersFile::new(files, alloc, options.users)?;
-    let watched = Arc::new(alloc, WatchedUsers::new(alloc, file, owner))?;
+    let watched = Arc::new(alloc, watched)?;
     let loop_handles = Arc::new(alloc, loop_handles)?;
     let shared = Shared {
         alloc,
@@ -130,20 +109,10 @@ fn shared<R: Host + Threads + Wait>(
         wrong_tokens_told: AtomicU64::new(0),
         misfits: AtomicU64::new(0),
         misfits_told: AtomicU64::new(0),
-        tells: options.tells,
+        tells,
     };
     start_watching(rt, &shared, LastLook::read(seen))?;
     Ok(shared)
-}
-
-// What a server begins with: its users and their file as it was read, the setup, and its socket.
-#[derive(Drop)]
-struct ServerStart<'a> {
-    users: Users,
-    seen: Stamp,
-    setup: Setup<'a>,
-    place: &'a SocketPath<'a>,
-    listener: UnixListener,
 }
 
 // Serves these users on a listener, after the commands of the setup.
@@ -153,84 +122,48 @@ fn begin<R, G, O>(
     handles: Handles<G>,
     beginning: ServerStart,
     output: &mut O,
-) -> Result<(), ServeFault>
+) -> Result<Kept, ServeFault>
 where
     R: Host + Threads + Wait,
     G: Gate + Copy + Sync + Drop,
     O: Write + Send,
+    requires { IsStartOf (R.reads rt.now) options.now beginning }
+    ensures { IfOk result (IsKeptFor (R.reads rt.now) options.now) }
 {
-    let alloc = rt.alloc();
-    let files = handles.files;
-    let loops = usize::from(options.loops.clamp(1, 8));
     let ServerStart {
         users,
+        file,
         seen,
         setup,
         place,
         listener,
     } = beginning;
+    let Setup { file: setup, .. } = setup;
+    let alloc = rt.alloc();
+    let owner = users.owner();
+    let loops = usize::from(options.loops.clamp(1, 8));
     let (places, loop_handles) = places(rt, loops, listener)?;
-    let known = (users.owner(), seen);
-    let shared = shared(rt, options, files, known, loop_handles)?;
-    let journal = journal(files, alloc, options.trail, users.owner())?;
+    let watched = WatchedUsers::new(alloc, file, owner);
+    let shared = shared(rt, options.tells, watched, seen, loop_handles)?;
+    let journal = journal(handles.files, alloc, options.trail, owner)?;
     let server = Server {
         shared,
         ready: ReadyLine::new(output),
         gate: handles.gate,
-        files,
+        files: handles.files,
         place,
-        accounts: Accounts::new(Books::new(alloc, users.owner(), options.limits)),
-        setup,
-        log: files.stderr(),
+        accounts: Accounts::new(Books::new(alloc, owner, options.limits)),
+        options: *options,
+        log: handles.files.stderr(),
         journal,
     };
     let start = Start {
         alloc,
         users,
-        setup: &server.setup.file,
+        setup,
         places,
     };
     server.serve(rt, start)
-}
-
-// Reads the users, and says who could become one of them without a token of their own.
-fn read_users<E: Write>(
-    files: HostRuntime,
-    alloc: Global,
-    path: &str,
-    errors: &mut E,
-) -> Result<(Users, Stamp), ServeFault> {
-    let file = UsersFile::new(files, alloc, path)?;
-    let (users, seen) = file.read()?;
-    if seen.access().is_open() {
-        let _ = writeln!(
-            errors,
-            "muxd: others may read the users' file: chmod go-r {path}"
-        );
-    }
-    if let Ok(Some(folder)) = file.open_folder() {
-        let _ = writeln!(errors, "muxd: users' file {path}: {folder}");
-    }
-    Ok((users, seen))
-}
-
-// Listens on the socket, and says who could connect or listen there without a right of their own.
-fn listen<'a, R: Host, E: Write>(
-    rt: &R,
-    path: &'a str,
-    errors: &mut E,
-) -> Result<(SocketPath<'a>, UnixListener), ServeFault> {
-    let (place, listener) = SocketPath::listen(rt, rt.alloc(), path)?;
-    if place.is_open(rt) {
-        let _ = writeln!(
-            errors,
-            "muxd: anybody on this machine may connect to the socket: chmod o-w {path}"
-        );
-    }
-    if let Some(folder) = place.open_folder(rt) {
-        let _ = writeln!(errors, "muxd: socket {path}: {folder}");
-    }
-    Ok((place, listener))
 }
 
 fn run<R, G, O, E>(
@@ -239,19 +172,21 @@ fn run<R, G, O, E>(
     handles: Handles<G>,
     output: &mut O,
     errors: &mut E,
-) -> Result<(), ServeFault>
+) -> Result<Kept, ServeFault>
 where
     R: Host + Threads + Wait,
     G: Gate + Copy + Sync + Drop,
     O: Write + Send,
     E: Write,
+    ensures { IfOk result (IsKeptFor (R.reads rt.now) options.now) }
 {
     let files = handles.files;
-    let (users, seen) = read_users(files, rt.alloc(), options.users, errors)?;
+    let (users, file, seen) = read_users(files, rt.alloc(), options.users, errors)?;
     let setup = Setup::read(rt, options.setup)?;
     let (place, listener) = listen(rt, options.socket, errors)?;
     let beginning = ServerStart {
         users,
+        file,
         seen,
         setup,
         place: &place,
@@ -310,7 +245,7 @@ where
         Err(status) => return status,
     };
     match run(rt, &options, handles, output, errors) {
-        Ok(()) => 0,
+        Ok(_) => 0,
         Err(fault) => {
             let _ = writeln!(errors, "muxd: {fault}");
             1

@@ -1,28 +1,51 @@
 //! The file of the owner's first commands, and its faults.
 
-use program_words::{RefusedLine, SetupFault, SetupLine, SystemError, read_setup};
-use server_system::{Host, ServeFault};
+ghost use Rattle.std.specs.Prelude.{IfErr, IfOk};
+ghost use Rattle.server.specs.Starting.{IsSetupAt, IsStartFault, IsUnread, text_of};
+
+use program_words::{SetupFault, SystemError};
+use server_session::LoopsFault;
+use server_system::{RefusedCommand, ServeFault, SetupCause};
 use std::alloc::Global;
-use std::{fs, str};
+use std::{fs, io};
+
+/// A runtime with all that a server asks for.
+pub trait Host: server_system::Host {
+    ghost use Rattle.std.specs.Prelude.{ℕ, List, Result};
+    ghost use Rattle.std.specs.declared.alloc.Global.{Global};
+    ghost use Rattle.std.specs.declared.io.Error.{Error};
+    ghost use Rattle.std.specs.declared.vec.Vec.{Vec as Vector};
+
+    // A path, and the bytes of its file, or why they can't be read. Only a call of `read_file` shows them.
+    ghost reads: { Self → List ℕ → Result (Vector ℕ Global) Error → Type 0 };
+
+    /// Reads a whole file.
+    fn read_file(&self, path: &str) -> io::Result<Vec<u8>>
+        ensures { reads self.now path.now result };
+}
+
+impl<R: server_system::Host> Host for R {
+    // What is on a disk, no clause can say.
+    ghost reads = { λ host path read. Unit {0} };
+
+    fn read_file(&self, path: &str) -> io::Result<Vec<u8>> {
+        fs::read(self, path)
+    }
+}
 
 /// A setup: the path of its file, and the file's bytes.
 #[derive(Drop)]
 pub struct Setup<'a> {
-    path: &'a str,
+    pub path: &'a str,
     pub file: Vec<u8>,
-}
-
-// The text of the line of this number; empty if there is none.
-fn text_of<'a>(lines: &[SetupLine<'a>], number: usize) -> &'a str {
-    match lines.iter().find(|line| line.number == number) {
-        Some(line) => line.text,
-        None => "",
-    }
 }
 
 impl<'a> Setup<'a> {
     /// Reads the setup at a path. Without a path it has no lines.
-    pub fn read<R: Host>(rt: &R, path: Option<&'a str>) -> Result<Setup<'a>, ServeFault> {
+    pub fn read<R: Host>(rt: &R, path: Option<&'a str>) -> Result<Setup<'a>, ServeFault>
+        ensures ok { IfOk result (IsSetupAt (R.reads rt.now) (text_of path.entry)) }
+        ensures fault { IfErr result (IsUnread (R.reads rt.now) (text_of path.entry)) }
+    {
         let alloc = rt.alloc();
         let Some(path) = path else {
             return Ok(Setup {
@@ -30,38 +53,26 @@ impl<'a> Setup<'a> {
                 file: Vec::new(alloc),
             });
         };
-        match fs::read(rt, path) {
+        match rt.read_file(path) {
             Ok(file) => Ok(Setup { path, file }),
             Err(error) => {
-                let error = SystemError(error);
-                Err(ServeFault::Setup(format!(in alloc; "{path}: {error} (set --setup)")?))
+                let cause = SetupCause::NotRead(SystemError(error));
+                Err(ServeFault::of_setup(alloc, path, cause))
             }
         }
     }
+}
 
-    /// The fault of a file with a line that can be no command.
-    pub fn wrong(&self, alloc: Global, fault: SetupFault) -> ServeFault {
-        let path = self.path;
-        match format!(in alloc; "{path}: {fault}") {
-            Ok(told) if fault != SetupFault::NoMemory => ServeFault::Setup(told),
-            _ => ServeFault::NoMemory,
-        }
-    }
-
-    /// The fault of a file whose line of this number the session refused with this text.
-    pub fn refused(&self, alloc: Global, number: usize, said: &[u8]) -> ServeFault {
-        let path = self.path;
-        let Ok(lines) = read_setup(alloc, &self.file) else {
-            return ServeFault::NoMemory;
-        };
-        let line = RefusedLine {
-            number,
-            line: text_of(&lines, number),
-            said: str::from_utf8(said).unwrap_or(""),
-        };
-        match format!(in alloc; "{path}: {line}") {
-            Ok(told) => ServeFault::Setup(told),
-            Err(_) => ServeFault::NoMemory,
+/// Why a session with the setup at this path didn't begin.
+pub fn start_fault(alloc: Global, path: &str, fault: LoopsFault) -> ServeFault
+    ensures { IsStartFault path.now fault result }
+{
+    match fault {
+        LoopsFault::NoMemory | LoopsFault::Setup(SetupFault::NoMemory) => ServeFault::NoMemory,
+        LoopsFault::Setup(fault) => ServeFault::of_setup(alloc, path, SetupCause::Wrong(fault)),
+        LoopsFault::Refused { number, line, said } => {
+            let refused = RefusedCommand { number, line, said };
+            ServeFault::of_setup(alloc, path, SetupCause::Refused(refused))
         }
     }
 }

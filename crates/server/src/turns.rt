@@ -1,7 +1,7 @@
 //! What each loop has around it.
 
-ghost use Rattle.std.specs.Prelude.{◌≡◌};
-ghost use Rattle.server.specs.Events.{came_by};
+ghost use Rattle.std.specs.Prelude.{◌≡◌, IfSome};
+ghost use Rattle.server.specs.Events.{Shows, came_by, token_of};
 
 use crate::acceptor::{Acceptor, NONE};
 use crate::log_lines::NewsLine;
@@ -65,7 +65,9 @@ fn came_by(event: &Event) -> Came
 
 impl Inlet<'_> {
     // Waits for events, at most this long. An interrupted wait has none.
-    fn poll(&mut self, timeout: Option<Duration>) -> io::Result<()> {
+    fn poll(&mut self, timeout: Option<Duration>) -> io::Result<()>
+        ensures { self.new.seen ≡ 0 }
+    {
         self.seen = 0;
         match self.poll.poll(&mut self.events, timeout) {
             Err(error) if error.kind() == ErrorKind::Interrupted => {
@@ -78,13 +80,13 @@ impl Inlet<'_> {
 }
 
 impl<'a> Around<Wired<PeerSocket<'a>>> for Inlet<'a> {
-    // What the other threads and the system see of these calls lies in atomics, under locks and in the system.
-    ghost does = { λ inlet call left. Unit {0} };
+    ghost does = { Shows };
 
-    ghost wires = { λ inlet key stream left. Unit {0} };
+    // Events of the stream that was handed come to this key.
+    ghost wires = { λ inlet key stream left. IfSome stream (λ wired. wired.stream.token ≡ token_of key) };
 
     fn arrive<R: Wait>(&mut self, rt: &R) -> bool {
-        self.shared.latch.arrive(rt)
+        self.shared.latch.arrive(rt).is_some()
     }
 
     fn is_flooded(&self) -> bool {
@@ -122,7 +124,7 @@ impl<'a> Around<Wired<PeerSocket<'a>>> for Inlet<'a> {
     }
 
     fn next_event(&mut self) -> Option<Came> {
-        let came = self.events.iter().nth(self.seen).map(came_by);
+        let came = self.events.iter().as_slice().get(self.seen).map(came_by);
         self.seen = self.seen.saturating_add(1);
         came
     }
