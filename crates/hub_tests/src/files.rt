@@ -3,7 +3,7 @@
 use crate::disk::MemoryFile;
 use crate::entries::{entry, keys, trail};
 use acl::{Edition, UserId};
-use server_trail::{Recorder, begin, header_of, is_trail};
+use server_trail::{Recorder, begin, header_of, read_back};
 use session::Bytes;
 use std::alloc::Global;
 use std::sync::Wait;
@@ -52,7 +52,8 @@ fn record<R: Threads + Wait + Clock + Sync>(
 // Whether a file is the trail of this number of keys, with this first line.
 fn is_of(alloc: Global, file: &[u8], header: &Header, count: usize) -> Option<bool> {
     let entries = trail(alloc, count).ok()?;
-    is_trail(alloc, &mut &*file, header, &entries).ok()
+    let back = read_back(alloc, &mut &*file, header, &entries).ok()?;
+    Some(back.is_some())
 }
 
 // Whether the file, which refuses this number of writes after its first line, is whole.
