@@ -16,7 +16,7 @@ ghost use Rattle.client_peer.specs.declared.meeting.Meeting.TheVariants.{Same};
 use crate::meeting::{Meeting, SessionMark};
 use crate::outgoing::put_frames;
 use crate::peer::Peer;
-use crate::piece::Piece;
+use crate::typing::ReadPiece;
 use attach_proto::{Kind, LONGEST, Message, ProtoFault, Reader, Told, Why};
 use client_words::{PeerFault, Subcommand, put_visible};
 use std::alloc::{AllocError, Global};
@@ -293,7 +293,7 @@ impl Peer {
         &mut self,
         alloc: Global,
         reader: &mut Reader,
-        piece: Piece<'_>,
+        piece: ReadPiece<'_>,
     ) -> Result<Option<Result<Why, PeerFault>>, PeerFault>
         ensures ok { OnOk result (PassesOn self.old self.new) }
         ensures err { OnErr result (StopsAt self.old self.new) }
@@ -305,7 +305,7 @@ impl Peer {
         ensures hears { (self.old.subcommand ≡ Ping → ⊥) → (piece.entry.bytes.now ≡ [] → ⊥)
             → IfOk result (HearsRead self.old reader.old piece.entry.bytes.now self.new reader.new) }
     {
-        let Piece { bytes } = piece;
+        let ReadPiece { bytes } = piece;
         // Any answer to `mux ping` shows that there is a server.
         if matches!(self.subcommand, Subcommand::Ping) {
             return Ok(Some(Ok(Why::Detached)));

@@ -1,22 +1,43 @@
 //! What is typed or printed, on its way to the server.
 
-ghost use Rattle.std.specs.Prelude.{◌≡◌, [], true, false, OnOk, Ok};
+ghost use Rattle.std.specs.Prelude.{◌≡◌, [], true, false, OnErr, OnOk, Ok, IfOk};
+ghost use Rattle.std.specs.Io.KnownBytes.{Consumes};
 ghost use Rattle.client_peer.specs.Ending.{EndsInput};
 ghost use Rattle.client_peer.specs.Sending.{IsMore};
 ghost use Rattle.client_peer.specs.Typing.{TypesIn, Presses, SendsAssisted, TellsScrolled, typed_in};
 ghost use Rattle.client_peer.specs.Typing.{assisted_in, pressed_in};
 
 use crate::peer::Peer;
-use crate::piece::Piece;
 use client_notice::NoticeStage;
 use client_words::PeerFault;
 use std::alloc::AllocError;
+use std::io;
+use std::io::Read;
 
 const ETX: u8 = 0x03;
 
+/// What one read of a stream gave. It can't be copied, let go or made in another way: what was read is taken once.
+pub struct ReadPiece<'b> {
+    pub(crate) bytes: &'b [u8],
+}
+
+impl<'b> ReadPiece<'b> {
+    /// Reads once. Nothing comes at the stream's end.
+    pub fn read<S: Read>(stream: &mut S, buffer: &'b mut [u8]) -> io::Result<ReadPiece<'b>>
+        ensures ok { IfOk result (λ piece.
+            Consumes (S.remaining stream.old) (S.remaining stream.new) piece.bytes.now) }
+        ensures err { OnErr result (Consumes (S.remaining stream.old) (S.remaining stream.new) []) }
+    {
+        let count = stream.read(buffer)?;
+        Ok(ReadPiece {
+            bytes: &buffer[..count],
+        })
+    }
+}
+
 impl Peer {
     /// Takes what was read of standard input. Returns whether that was more than its end.
-    pub fn type_in(&mut self, piece: Piece<'_>) -> Result<bool, PeerFault>
+    pub fn type_in(&mut self, piece: ReadPiece<'_>) -> Result<bool, PeerFault>
         ensures types { (piece.entry.bytes.now ≡ [] → ⊥)
             → OnOk result (TypesIn self.old self.new piece.entry.bytes.now) }
         ensures more { (piece.entry.bytes.now ≡ [] → ⊥) → OnOk result (result ≡ Ok true) }
@@ -24,7 +45,7 @@ impl Peer {
         ensures adds { OnOk result (IsMore self.old.bytes.items self.new.bytes.items) }
         ensures same { self.new ≡ typed_in self.old self.new }
     {
-        let Piece { bytes: input } = piece;
+        let ReadPiece { bytes: input } = piece;
         if input.is_empty() {
             return Ok(false);
         }

@@ -4,7 +4,7 @@ use crate::frames::{DONE, WALL};
 use crate::gate::wait;
 use crate::peer::{PeerStream, quit};
 use crate::served::{Paths, serve};
-use server::{Gate, Handles, Host};
+use server::{Gate, Handles, SetupHost};
 use std::io::Write;
 use std::net::Net;
 use std::sync::Wait;
@@ -71,7 +71,7 @@ impl Write for ServerOutput<'_> {
 }
 
 // Serves until a peer gives `quit`. Returns the status, and what was printed.
-fn serve_counted<'a, R: Host + Threads + Wait>(
+fn serve_counted<'a, R: SetupHost + Threads + Wait>(
     rt: &R,
     runtime: HostRuntime,
     words: &[String],

@@ -1,7 +1,7 @@
 //! A server in this process: its files, its arguments and its end.
 
 use crate::frames::USERS;
-use server::{Gate, Handles, Host, serve_through};
+use server::{Gate, Handles, SetupHost, serve_through};
 use std::alloc::{AllocError, Global};
 use std::fs::{DirBuilder, Files, OpenOptions};
 use std::io::Write;
@@ -65,7 +65,7 @@ impl Paths {
 }
 
 /// Serves until a peer gives `quit`. The server's errors are dropped.
-pub fn serve<R: Host + Threads + Wait, G: Gate + Copy + Sync + Drop, O: Write + Send>(
+pub fn serve<R: SetupHost + Threads + Wait, G: Gate + Copy + Sync + Drop, O: Write + Send>(
     rt: &R,
     handles: Handles<G>,
     words: &[String],

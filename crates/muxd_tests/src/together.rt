@@ -4,7 +4,7 @@ use crate::gate::{FirstCallGate, GateCalls};
 use crate::peer::has;
 use crate::served::{Paths, serve};
 use crate::turns::first_wrong;
-use server::{Handles, Host};
+use server::{Handles, SetupHost};
 use std::sync::Wait;
 use std::thread;
 use std::thread::Threads;
@@ -18,7 +18,7 @@ const PATHS: Paths = Paths {
 };
 
 // Serves until a peer gives `quit`. The server's output is dropped.
-fn serve_calls<R: Host + Threads + Wait>(
+fn serve_calls<R: SetupHost + Threads + Wait>(
     rt: &R,
     runtime: HostRuntime,
     words: &[String],

@@ -2,7 +2,7 @@
 
 use crate::frames::USERS;
 use crate::peer::has;
-use server::{Handles, Host, Open, serve_through};
+use server::{Handles, SetupHost, Open, serve_through};
 use std::alloc::AllocError;
 use std::fs::{DirBuilder, Files, Permissions};
 use std::os::unix::fs::{DirBuilderExt, PermissionsExt};
@@ -107,7 +107,7 @@ fn words<R: AllocGlobal>(rt: &R, users: &str, socket: &str) -> Result<Vec<String
 }
 
 // Whether a server that begins so ends with status 1 and says that, and nothing else.
-fn is_told<R: Host + Threads + Wait>(
+fn is_told<R: SetupHost + Threads + Wait>(
     rt: &R,
     runtime: HostRuntime,
     row: TrustRow,

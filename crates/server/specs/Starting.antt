@@ -18,7 +18,7 @@ use Rattle.server_system.specs.Paths.{socket_path, users_path}
 use Rattle.server_system.specs.declared.fault.ServeFault.{ServeFault}
 use Rattle.server_system.specs.declared.fault.ServeFault.TheVariants as fault
 use Rattle.server_system.specs.declared.fault.SetupCause.TheVariants as cause
-use Rattle.server.specs.declared.loops.Kept.{Kept}
+use Rattle.server.specs.declared.loops.KeptSession.{KeptSession}
 use Rattle.server.specs.declared.options.Options.{Options}
 use Rattle.server.specs.declared.setup_file.Setup.{Setup}
 use Rattle.server.specs.declared.starting.ServerStart.{ServerStart}
@@ -78,7 +78,7 @@ module _ (reads : List ℕ → Result (Vec ℕ Global) Error → Type 0) where
 
   -- what a server kept that started with these options and has ended well: a session that began with all lines of
   -- the setup, with a trail that has every answer; and its file, if one was asked for, was read back
-  pub record IsKeptFor (o : Options) (kept : Kept) : Type 0 where
+  pub record IsKeptFor (o : Options) (kept : KeptSession) : Type 0 where
     pub setup : Setup
     pub is_its : IsSetupAt (text_of o.setup) setup
     pub began : setup_of kept.session ≡ setup.file.items

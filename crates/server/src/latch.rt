@@ -1,6 +1,6 @@
 //! Where the loops wait until all of them can serve, and the server has said so.
 
-use crate::ready::Said;
+use crate::ready::ReadySaid;
 use server_system::Unready;
 use std::sync::{Condvar, Mutex, Wait};
 
@@ -12,7 +12,7 @@ struct Loops {
     // Why one can't be started.
     fault: Option<Unready>,
     // Whether they are to serve, once that is known.
-    serve: Option<Option<Said>>,
+    serve: Option<Option<ReadySaid>>,
 }
 
 /// Shows that all loops are ready.
@@ -46,7 +46,7 @@ impl Latch {
     }
 
     /// A loop is ready. It waits until the server is, and returns what shows that it is to serve.
-    pub fn arrive(&self, rt: &impl Wait) -> Option<Said> {
+    pub fn arrive(&self, rt: &impl Wait) -> Option<ReadySaid> {
         let mut loops = self.loops.lock(rt);
         loops.missing = loops.missing.saturating_sub(1);
         self.news.notify_all();
@@ -72,7 +72,7 @@ impl Latch {
     }
 
     /// Tells the loops whether they are to serve.
-    pub fn open(&self, rt: &impl Wait, serve: Option<Said>) {
+    pub fn open(&self, rt: &impl Wait, serve: Option<ReadySaid>) {
         self.loops.lock(rt).serve = Some(serve);
         self.news.notify_all();
     }

@@ -17,4 +17,4 @@ pub use server_connections::Turn;
 pub use server_loop::{Gate, Loop, Open};
 pub use server_users::{AuthFault, Users, UsersFault, authenticate};
 pub use serving::{Handles, serve, serve_through};
-pub use setup_file::Host;
+pub use setup_file::SetupHost;

@@ -34,7 +34,7 @@ const PATIENCE: u64 = 5;
 
 /// A session that ended well, and what shows that its trail's file was read back, if one was written.
 #[derive(Drop)]
-pub struct Kept {
+pub struct KeptSession {
     pub session: Agreement,
     pub trail: Option<ReadBack>,
 }
@@ -103,7 +103,7 @@ impl<G: Gate + Copy + Sync + Drop, O: Write + Send> Server<'_, G, O> {
         &self,
         rt: &R,
         start: Start<LoopStart>,
-    ) -> Result<Kept, ServeFault>
+    ) -> Result<KeptSession, ServeFault>
         requires { length start.places.items ≡ loops_of self.now.options.loops }
         ensures setup { IfOk result (λ kept. setup_of kept.session ≡ start.setup.items) }
         ensures agrees { IfOk result (λ kept. agrees kept.session ≡ true) }
@@ -125,7 +125,7 @@ impl<G: Gate + Copy + Sync + Drop, O: Write + Send> Server<'_, G, O> {
         let session = served(kept, said, self.shared.latch.fault(rt))?;
         let end = self.shared.over.get().copied();
         let trail = outcome_of(end, self.trail_file(rt), session.holds())?;
-        Ok(Kept { session, trail })
+        Ok(KeptSession { session, trail })
     }
 }
 

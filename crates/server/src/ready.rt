@@ -10,11 +10,11 @@ use std::sync::{Mutex, Wait};
 
 /// Shows that a server has said that it is ready.
 #[derive(Clone, Copy)]
-pub struct Said(());
+pub struct ReadySaid(());
 
 // Where the line is written, and what came of it.
 #[derive(Drop)]
-struct Output<'a, O> {
+struct ReadyOutput<'a, O> {
     output: &'a mut O,
     said: Option<io::Result<()>>,
 }
@@ -22,24 +22,24 @@ struct Output<'a, O> {
 /// Where a server says that it is ready.
 #[derive(Drop)]
 pub struct ReadyLine<'a, O> {
-    output: Mutex<Output<'a, O>>,
+    output: Mutex<ReadyOutput<'a, O>>,
 }
 
 impl<'a, O: Write> ReadyLine<'a, O> {
     /// It writes to this output, and has said nothing yet.
     pub fn new(output: &'a mut O) -> ReadyLine<'a, O> {
         ReadyLine {
-            output: Mutex::new(Output { output, said: None }),
+            output: Mutex::new(ReadyOutput { output, said: None }),
         }
     }
 
     /// Says that the server is ready, of which all loops are. None if it couldn't.
-    pub fn say(&self, rt: &impl Wait, _all: AllReady) -> Option<Said> {
+    pub fn say(&self, rt: &impl Wait, _all: AllReady) -> Option<ReadySaid> {
         let mut line = self.output.lock(rt);
         let said = write_line(line.output);
         line.said = Some(said);
         match said {
-            Ok(()) => Some(Said(())),
+            Ok(()) => Some(ReadySaid(())),
             Err(_) => None,
         }
     }

@@ -7,10 +7,10 @@ ghost use Rattle.server.specs.Starting.{IsKeptFor, IsStartOf, text_of};
 
 use crate::latch::Latch;
 use crate::loop_handle::{LoopHandle, Shared, places, start_watching};
-use crate::loops::{Kept, Server};
+use crate::loops::{KeptSession, Server};
 use crate::options::Options;
 use crate::ready::ReadyLine;
-use crate::setup_file::{Host, Setup};
+use crate::setup_file::{Setup, SetupHost};
 use crate::starting::{ServerStart, listen, read_users};
 use acl::UserId;
 use clap::Error;
@@ -85,7 +85,7 @@ fn journal<'a>(
 }
 
 // What the loops share. It starts the thread that looks at the users' file.
-fn shared<R: Host + Threads + Wait>(
+fn shared<R: SetupHost + Threads + Wait>(
     rt: &R,
     tells: bool,
     watched: WatchedUsers<UsersFile>,
@@ -122,9 +122,9 @@ fn begin<R, G, O>(
     handles: Handles<G>,
     beginning: ServerStart,
     output: &mut O,
-) -> Result<Kept, ServeFault>
+) -> Result<KeptSession, ServeFault>
 where
-    R: Host + Threads + Wait,
+    R: SetupHost + Threads + Wait,
     G: Gate + Copy + Sync + Drop,
     O: Write + Send,
     requires { IsStartOf (R.reads rt.now) options.now beginning }
@@ -172,9 +172,9 @@ fn run<R, G, O, E>(
     handles: Handles<G>,
     output: &mut O,
     errors: &mut E,
-) -> Result<Kept, ServeFault>
+) -> Result<KeptSession, ServeFault>
 where
-    R: Host + Threads + Wait,
+    R: SetupHost + Threads + Wait,
     G: Gate + Copy + Sync + Drop,
     O: Write + Send,
     E: Write,
@@ -201,7 +201,7 @@ where
 /// status to exit with: 0, 1 for a fault, or 2 for invalid arguments.
 pub fn serve<R, O>(rt: &R, runtime: HostRuntime, words: &[String], output: &mut O) -> u8
 where
-    R: Host + Threads + Wait,
+    R: SetupHost + Threads + Wait,
     O: Write + Send,
 {
     let mut errors = LastLine(runtime.stderr());
@@ -235,7 +235,7 @@ pub fn serve_through<R, G, O, E>(
     errors: &mut E,
 ) -> u8
 where
-    R: Host + Threads + Wait,
+    R: SetupHost + Threads + Wait,
     G: Gate + Copy + Sync + Drop,
     O: Write + Send,
     E: Write,

@@ -10,7 +10,7 @@ use std::alloc::Global;
 use std::{fs, io};
 
 /// A runtime with all that a server asks for.
-pub trait Host: server_system::Host {
+pub trait SetupHost: server_system::Host {
     ghost use Rattle.std.specs.Prelude.{ℕ, List, Result};
     ghost use Rattle.std.specs.declared.alloc.Global.{Global};
     ghost use Rattle.std.specs.declared.io.Error.{Error};
@@ -24,7 +24,7 @@ pub trait Host: server_system::Host {
         ensures { reads self.now path.now result };
 }
 
-impl<R: server_system::Host> Host for R {
+impl<R: server_system::Host> SetupHost for R {
     // What is on a disk, no clause can say.
     ghost reads = { λ host path read. Unit {0} };
 
@@ -42,7 +42,7 @@ pub struct Setup<'a> {
 
 impl<'a> Setup<'a> {
     /// Reads the setup at a path. Without a path it has no lines.
-    pub fn read<R: Host>(rt: &R, path: Option<&'a str>) -> Result<Setup<'a>, ServeFault>
+    pub fn read<R: SetupHost>(rt: &R, path: Option<&'a str>) -> Result<Setup<'a>, ServeFault>
         ensures ok { IfOk result (IsSetupAt (R.reads rt.now) (text_of path.entry)) }
         ensures fault { IfErr result (IsUnread (R.reads rt.now) (text_of path.entry)) }
     {

@@ -4,7 +4,7 @@ use crate::PeerHost;
 use crate::opening::Door;
 use crate::shared::{PeerSeat, SharedPeer, is_open};
 use attach_proto::{LONGEST, Why};
-use client_peer::Piece;
+use client_peer::ReadPiece;
 use client_words::{PeerFault, RefusedPart};
 use std::alloc::Global;
 use std::io::{ErrorKind, Read};
@@ -34,7 +34,7 @@ fn connect<R: PeerHost + Wait>(
 fn take<R: Wait>(
     rt: &R,
     shared: &SharedPeer,
-    piece: Piece<'_>,
+    piece: ReadPiece<'_>,
 ) -> Result<ConnectionEnd, PeerFault> {
     let mut guard = shared.seat.lock(rt);
     let PeerSeat { peer, reader, .. } = &mut *guard;
@@ -58,7 +58,7 @@ fn read_once<R: Wait, S: Read>(
     stream: &mut S,
     buffer: &mut [u8],
 ) -> Result<ConnectionEnd, PeerFault> {
-    match Piece::read(stream, buffer) {
+    match ReadPiece::read(stream, buffer) {
         Ok(piece) => take(rt, shared, piece),
         Err(error) if error.kind() == ErrorKind::Interrupted => Ok(None),
         Err(error) => Err(PeerFault::Refused(RefusedPart::Stream, error)),

@@ -4,7 +4,7 @@ use crate::shared::SharedPeer;
 use crate::writing::send;
 use crate::{PeerHost, Source};
 use attach_proto::LONGEST;
-use client_peer::Piece;
+use client_peer::ReadPiece;
 use client_words::{InputStage, PeerFault, RefusedPart, SizeLines};
 use std::alloc::AllocError;
 use std::fs::File;
@@ -15,7 +15,7 @@ use std::sync::Wait;
 const EIO: i32 = 5;
 
 // Sends what was read. Returns whether to go on; None at the input's end.
-fn take<R: Wait>(rt: &R, shared: &SharedPeer, piece: Piece<'_>) -> Result<Option<bool>, PeerFault> {
+fn take<R: Wait>(rt: &R, shared: &SharedPeer, piece: ReadPiece<'_>) -> Result<Option<bool>, PeerFault> {
     let mut seat = shared.seat.lock(rt);
     if !seat.peer.type_in(piece)? {
         return Ok(None);
@@ -40,7 +40,7 @@ fn read_once<R: Wait, I: Read>(
     input: &mut I,
     buffer: &mut [u8],
 ) -> Result<Option<bool>, PeerFault> {
-    match Piece::read(input, buffer) {
+    match ReadPiece::read(input, buffer) {
         Ok(piece) => take(rt, shared, piece),
         Err(error) if error.raw_os_error() == Some(EIO) => Ok(None),
         Err(error) if error.kind() == ErrorKind::Interrupted => Ok(Some(true)),

@@ -6,22 +6,22 @@ use Rattle.std.specs.declared.vec.Vec.{Vec}
 use Rattle.server_session.specs.SettingUp.{agrees, setup_of}
 use Rattle.server_system.specs.declared.fault.ServeFault.{ServeFault}
 use Rattle.server.specs.Starting.{IsKeptFor, IsSetupAt, text_of}
-use Rattle.server.specs.declared.loops.Kept.{Kept}
+use Rattle.server.specs.declared.loops.KeptSession.{KeptSession}
 use Rattle.server.specs.declared.options.Options.{Options}
 use Rattle.server.specs.declared.setup_file.Setup.{Setup}
 use Rattle.server.proofs.serving.begin.Goals as goal
 
 kept_for : (reads : List ℕ → Result (Vec ℕ Global) Error → Type 0) (o : Options) (s : Setup)
-    (result : Result Kept ServeFault) → IsSetupAt reads (text_of o.setup) s
-    → IfOk result (λ (k : Kept). setup_of k.session ≡ s.file.items)
-    → IfOk result (λ (k : Kept). agrees k.session ≡ true)
-    → IfOk result (λ (k : Kept). is_some k.trail ≡ is_some o.trail) → IfOk result (IsKeptFor reads o)
+    (result : Result KeptSession ServeFault) → IsSetupAt reads (text_of o.setup) s
+    → IfOk result (λ (k : KeptSession). setup_of k.session ≡ s.file.items)
+    → IfOk result (λ (k : KeptSession). agrees k.session ≡ true)
+    → IfOk result (λ (k : KeptSession). is_some k.trail ≡ is_some o.trail) → IfOk result (IsKeptFor reads o)
 kept_for reads o s (Ok k) is began ends trail =
     record { setup = s; is_its = is; began = began; agrees_with = ends; trail = trail }
 kept_for reads o s (Err why) is began ends trail = tt
 
 pub returns : goal.returns
-returns g c = kept_for (g.R.Host-1.reads c.args.rt.now) c.args.options.now c.args.beginning.setup c.serve.result
+returns g c = kept_for (g.R.SetupHost.reads c.args.rt.now) c.args.options.now c.args.beginning.setup c.serve.result
     c.requires.setup c.serve.ensures.setup c.serve.ensures.agrees
-    (subst (λ (b : Bool). IfOk c.serve.result (λ (k : Kept). is_some k.trail ≡ b)) c.in_ok-journal.ensures.there
+    (subst (λ (b : Bool). IfOk c.serve.result (λ (k : KeptSession). is_some k.trail ≡ b)) c.in_ok-journal.ensures.there
     c.serve.ensures.trail)
