@@ -5,9 +5,9 @@ use server_system::{Host, SocketPath};
 use std::io::{ErrorKind, Write};
 use std::sync::Wait;
 use std::thread::Threads;
-use web_client::{Loopback, Site};
 use web_options::{Listen, WebFault, WebOptions, look_for_paths, origins_of, site_of};
-use web_relay::{Stream, WebListener};
+use web_requests::{Loopback, Site};
+use web_streams::{Stream, WebListener};
 use web_turn::{Bridge, BridgeOptions, serve, start_log};
 
 /// The system's number for a kind of addresses that it doesn't have.

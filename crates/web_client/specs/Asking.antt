@@ -9,11 +9,11 @@ use Rattle.attach_proto.specs.Spelling.{spelling}
 use Rattle.web_client.specs.declared.client.WebClient.{WebClient}
 use Rattle.web_client.specs.declared.identity.Identity.{Identity}
 use Rattle.web_client.specs.declared.identity.Identity.TheVariants.{Nobody, Own, Watching, Link, Unknown, Left}
-use Rattle.web_client.specs.declared.stream.Arrival.{Arrival}
-use Rattle.web_client.specs.declared.stream.Arrival.TheVariants.{End}
-use Rattle.web_client.specs.declared.stream.Wrote.{Wrote}
-use Rattle.web_client.specs.Streaming.{HearsRead, WritesOut}
-use Rattle.web_page.specs.Hearing.{WebDisplay, IsBlank, IsResized}
+use Rattle.web_streams.specs.declared.stream.ReadOutcome.{ReadOutcome}
+use Rattle.web_streams.specs.declared.stream.ReadOutcome.TheVariants.{End}
+use Rattle.web_streams.specs.declared.stream.WriteOutcome.{WriteOutcome}
+use Rattle.web_streams.specs.Streaming.{WritesOut}
+use Rattle.web_page.specs.Hearing.{WebDisplay, Hears, IsBlank, IsResized, KeepsSent}
 
 -- ---- messages
 
@@ -44,6 +44,22 @@ pub record Passes (message : List ℕ) (before after : WebClient) : Type 0 where
   pub asked : IsAskedBy message frame
   pub added : after.outgoing ≡ before.outgoing ++ spelling frame
   pub shown : Redraws frame before.display after.display
+
+-- ---- what is heard of the server, by what its stream says of reads
+
+-- A display heard these bytes: its name stays, and no moment ends.
+abbrev pub HearsBytes : WebDisplay → List ℕ → WebDisplay → Type 0
+HearsBytes old bytes new =
+    ((bytes ≡ []) × (new ≡ old))
+    ⊎ (Hears old bytes new × (new.name ≡ old.name) × KeepsSent old.sheet new.sheet)
+
+module _ {S : Type 0} (reads : S → List ℕ → ReadOutcome → S → Type 0) where
+  -- One read was made, and the display heard what came, and nothing else. If it can't, the connection ends.
+  pub record HearsRead (stream : S) (old : WebDisplay) (came : ReadOutcome) (left : S) (new : WebDisplay) : Type 0 where
+    pub piece : List ℕ
+    pub arrived : ReadOutcome
+    pub read : reads stream piece arrived left
+    pub heard : ((came ≡ arrived) × HearsBytes old piece new) ⊎ (came ≡ End)
 
 -- ---- identities
 
@@ -117,14 +133,15 @@ Keeps Unknown after = after ≡ Unknown
 Keeps Left after = after ≡ Left
 
 -- One read of the server was made for its own client, which heard what came. Without a client the connection ends.
-abbrev pub HearsFor : {S : Type 0} → (S → List ℕ → Arrival → S → Type 0) → S → Identity → Arrival → S → Identity
+abbrev pub HearsFor : {S : Type 0} → (S → List ℕ → ReadOutcome → S → Type 0) → S → Identity → ReadOutcome → S → Identity
     → Type 0
 HearsFor reads stream (Own before) came left after =
     IsOwn after (λ c. (c.outgoing ≡ before.outgoing) × HearsRead reads stream before.display came left c.display)
 HearsFor reads stream other came left after = (after ≡ other) × (left ≡ stream) × (came ≡ End)
 
 -- what waits of its own client was written
-abbrev pub AsksFor : {S : Type 0} → (S → List ℕ → Wrote → S → Type 0) → S → Identity → Bool → S → Identity → Type 0
+abbrev pub AsksFor : {S : Type 0} → (S → List ℕ → WriteOutcome → S → Type 0) → S → Identity → Bool → S → Identity
+    → Type 0
 AsksFor writes stream (Own before) whole left after =
     IsOwn after (λ c. (c.display ≡ before.display) × WritesOut writes stream before.outgoing whole left c.outgoing)
 AsksFor writes stream other whole left after = (after ≡ other) × (left ≡ stream) × (whole ≡ true)

@@ -1,4 +1,3 @@
-pub mod Streaming
 pub mod Asking
 pub mod Judging
 pub mod Frames

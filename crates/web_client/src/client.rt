@@ -4,17 +4,16 @@ ghost use Rattle.std.specs.Prelude.{◌≡◌, ◌++◌, ◌≤◌, ℕ, List, l
 ghost use Rattle.std.specs.String.{string_bytes};
 ghost use Rattle.attach_proto.specs.Spelling.{spelling, IsSpellable};
 ghost use Rattle.web_page.specs.Hearing.{IsBlank, IsResized};
-ghost use Rattle.web_client.specs.Asking.{IsLogin};
+ghost use Rattle.web_client.specs.Asking.{HearsRead, IsLogin};
 ghost use Rattle.web_client.specs.Judging.{IsTyped, FailsFor};
-ghost use Rattle.web_client.specs.Streaming.{HearsRead, WritesOut};
+ghost use Rattle.web_streams.specs.Streaming.{WritesOut};
 ghost use Rattle.web_client.specs.declared.client.WebClient.{WebClient as Attached};
 
-use crate::outgoing::Outgoing;
-use crate::stream::{Arrival, WebStream};
 use attach_proto::{Bytes, Message, Text, Token, WriteFault, write_message};
 use std::alloc::Global;
 use web_page::{ClientFault, WebDisplay};
 use web_requests::Watcher;
+use web_streams::{Outgoing, ReadOutcome, WebStream};
 
 /// A client of the server, over a connection of its own.
 #[derive(Drop)]
@@ -120,7 +119,7 @@ impl WebClient {
     }
 
     /// Reads the server once, and hears what came. If it can't be heard the connection ends.
-    pub(crate) fn receive<S: WebStream>(&mut self, server: &mut S, buffer: &mut [u8]) -> Arrival
+    pub(crate) fn receive<S: WebStream>(&mut self, server: &mut S, buffer: &mut [u8]) -> ReadOutcome
         ensures hears { HearsRead S.reads server.old self.old.display result server.new self.new.display }
         ensures asks { self.new.outgoing ≡ self.old.outgoing }
     {
@@ -130,7 +129,7 @@ impl WebClient {
         }
         match self.display.hear_all(&buffer[..count]) {
             Ok(()) => arrival,
-            Err(_) => Arrival::End,
+            Err(_) => ReadOutcome::End,
         }
     }
 
@@ -175,7 +174,7 @@ impl SharedClient {
     }
 
     /// Reads the server once, and hears what came.
-    pub fn receive<S: WebStream>(&mut self, server: &mut S, buffer: &mut [u8]) -> Arrival
+    pub fn receive<S: WebStream>(&mut self, server: &mut S, buffer: &mut [u8]) -> ReadOutcome
         ensures hears { HearsRead S.reads server.old self.old.client.display result server.new
             self.new.client.display }
         ensures asks { self.new.client.outgoing ≡ self.old.client.outgoing }

@@ -5,16 +5,11 @@
 mod client;
 mod frame;
 mod identity;
-mod outgoing;
 mod pages;
-mod stream;
 mod visitor;
 mod wire;
 
 pub use client::{SharedClient, WebClient, tokens_change_no_display};
 pub use identity::{Identity, fitted};
-pub use stream::{Arrival, WebStream, Wrote};
 pub use visitor::Visitor;
-pub use web_page::{ClientFault, WebDisplay};
-pub use web_requests::{Loopback, Site, SiteFile, Watcher, refusal};
 pub use wire::WireFault;

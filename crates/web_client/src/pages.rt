@@ -7,19 +7,19 @@ ghost use Rattle.web_client.specs.Frames.{IsWithin};
 
 use crate::client::SharedClient;
 use crate::identity::Identity;
-use crate::stream::{Arrival, WebStream};
 use crate::visitor::Visitor;
 use crate::wire::{Phase, SentPage, WireFault};
+use web_streams::{ReadOutcome, WebStream};
 
 impl Visitor {
     /// Reads the server once for the browser's own client, which hears what came. If it has none the connection ends.
-    pub fn hear<S: WebStream>(&mut self, server: &mut S, buffer: &mut [u8]) -> Arrival
+    pub fn hear<S: WebStream>(&mut self, server: &mut S, buffer: &mut [u8]) -> ReadOutcome
         ensures hears { HearsFor S.reads server.old self.old.identity result server.new self.new.identity }
         ensures same { self.new ≡ record self.old { identity = self.new.identity } }
     {
         match &mut self.identity {
             Identity::Own(client) => client.receive(server, buffer),
-            _ => Arrival::End,
+            _ => ReadOutcome::End,
         }
     }
 

@@ -3,7 +3,7 @@
 ghost use Rattle.std.specs.Prelude.{◌≡◌, ◌↔◌, ◌⊎◌, drop, IfOk, OnOk, OnErr, IfErr, IsTrue, ◌<◌, ◌≤◌, []};
 ghost use Rattle.std.specs.Prelude.{length, false, true, codes, vec_len};
 ghost use Rattle.web_client.specs.Asking.{Asks};
-ghost use Rattle.web_client.specs.Streaming.{Receives, WritesOut};
+ghost use Rattle.web_streams.specs.Streaming.{Receives, WritesOut};
 ghost use Rattle.web_client.specs.Judging.{IsAllowed};
 ghost use Rattle.web_client.specs.Rows.{Closes, TellsAway, TellsLast, TellsHere, Refuses, handed};
 ghost use Rattle.web_requests.specs.Serving.{refusal};
@@ -12,12 +12,11 @@ ghost use Rattle.web_client.specs.Frames.{TakesBytes, TakesOpen, TellsOut, CanRe
 
 use crate::frame::PageFrame;
 use crate::identity::{Identity, MessageFault};
-use crate::outgoing::{drop_front, write_all};
-use crate::stream::{Arrival, WebStream};
 use crate::wire::{Phase, SentPage, Wire, WireFault};
 use attach_proto::Why;
 use std::alloc::Global;
 use web_requests::{Response, Site, Upgrade, answered, refusal};
+use web_streams::{ReadOutcome, WebStream, drop_front, write_all};
 use websocket::protocol::CloseCode;
 
 /// While more bytes wait for the server, or for the browser, the browser isn't read.
@@ -203,14 +202,14 @@ impl Visitor {
     }
 
     /// Reads the browser once. What came waits to be taken.
-    pub fn receive<S: WebStream>(&mut self, browser: &mut S, buffer: &mut [u8]) -> Arrival
+    pub fn receive<S: WebStream>(&mut self, browser: &mut S, buffer: &mut [u8]) -> ReadOutcome
         ensures receives { Receives S.reads browser.old self.old.input.items result browser.new self.new.input.items }
         ensures same { self.new ≡ record self.old { input = self.new.input } }
     {
         let (count, arrival) = browser.read_once(buffer);
         match self.input.extend_from_slice(&buffer[..count]) {
             Ok(()) => arrival,
-            Err(_) => Arrival::End,
+            Err(_) => ReadOutcome::End,
         }
     }
 

@@ -8,10 +8,11 @@ use Rattle.slab.specs.Slab.{Slab, SameValues, Updates, get, slab_len}
 use Rattle.attach_proto.specs.declared.message.Message.TheVariants.{Attach, Keys}
 use Rattle.attach_proto.specs.Spelling.{spelling}
 use Rattle.web_client.specs.declared.client.SharedClient.{SharedClient}
-use Rattle.web_client.specs.Streaming.{HearsRead, WritesOut}
-use Rattle.web_client.specs.declared.stream.Arrival.{Arrival}
-use Rattle.web_client.specs.declared.stream.Arrival.TheVariants.{More, Nothing, End}
-use Rattle.web_client.specs.declared.stream.WebStream.{Ghosts as Streams}
+use Rattle.web_client.specs.Asking.{HearsRead}
+use Rattle.web_streams.specs.Streaming.{WritesOut}
+use Rattle.web_streams.specs.declared.stream.ReadOutcome.{ReadOutcome}
+use Rattle.web_streams.specs.declared.stream.ReadOutcome.TheVariants.{More, Nothing, End}
+use Rattle.web_streams.specs.declared.stream.WebStream.{Ghosts as Streams}
 use Rattle.web_page.specs.Hearing.{IsBlank}
 use Rattle.web_page.specs.Vacant.{IsVacant}
 use Rattle.web_requests.specs.declared.site.Watcher.{Watcher}
@@ -80,7 +81,7 @@ module _ {S : Type 0} where
 
 module _ {S : Type 0} where
   -- what came was heard; or nothing comes now; or the connection ended
-  abbrev pub HallHearsAs : Arrival → Hall S → Hall S → Type 0
+  abbrev pub HallHearsAs : ReadOutcome → Hall S → Hall S → Type 0
   HallHearsAs More old new = new ≡ old
   HallHearsAs Nothing old new = new ≡ record old { is_ready = false }
   HallHearsAs End old new = new ≡ record old { is_lost = true }
@@ -203,7 +204,7 @@ module _ {S : Type 0} (streams : Streams S) where
   -- one read of the server was made
   abbrev pub HallHears : Hall S → Hall S → Type 0
   HallHears old new =
-      (came : Arrival) × (left : S) × (c : SharedClient)
+      (came : ReadOutcome) × (left : S) × (c : SharedClient)
       × HearsRead streams.reads old.stream old.client.client.display came left c.client.display
       × (c.client.outgoing ≡ old.client.client.outgoing)
       × HallHearsAs came (record old { client = c; stream = left }) new

@@ -1,4 +1,3 @@
-pub mod Tokens
 pub mod Walking
 pub mod Halls
 pub mod Places

@@ -11,10 +11,10 @@ use Rattle.web_client.specs.declared.wire.Wire.{Wire}
 use Rattle.web_client.specs.Asking.{AsksFor, HearsFor, IsOwn}
 use Rattle.web_client.specs.Frames.{CanRead, TakesBytes}
 use Rattle.web_client.specs.Rows.{TellsAway, TellsHere}
-use Rattle.web_client.specs.Streaming.{Receives, WritesOut}
-use Rattle.web_client.specs.declared.stream.Arrival.{Arrival}
-use Rattle.web_client.specs.declared.stream.Arrival.TheVariants.{More, Nothing, End}
-use Rattle.web_client.specs.declared.stream.WebStream.{Ghosts as Streams}
+use Rattle.web_streams.specs.Streaming.{Receives, WritesOut}
+use Rattle.web_streams.specs.declared.stream.ReadOutcome.{ReadOutcome}
+use Rattle.web_streams.specs.declared.stream.ReadOutcome.TheVariants.{More, Nothing, End}
+use Rattle.web_streams.specs.declared.stream.WebStream.{Ghosts as Streams}
 use Rattle.web_requests.specs.Serving.{refusal}
 use Rattle.web_requests.specs.declared.site.Site.{Site}
 use Rattle.web_relay.specs.Walking.{Repeats}
@@ -102,7 +102,7 @@ module _ {S : Type 0} where
   IsToRead r = (r.has_more ≡ false) × (r.browser_ready ≡ true) × CanRead r.visitor
 
   -- what came is taken; or nothing comes now; or the connection ended
-  abbrev pub ReadsAs : Arrival → Site → Duration → Relay S → Relay S → Type 0
+  abbrev pub ReadsAs : ReadOutcome → Site → Duration → Relay S → Relay S → Type 0
   ReadsAs More site now old new = TakesNow site now old new
   ReadsAs Nothing site now old new = new ≡ record old { browser_ready = false }
   ReadsAs End site now old new = new ≡ record old { browser_ready = false; is_over = true }
@@ -148,7 +148,7 @@ module _ {S : Type 0} where
     }
 
   -- what came was heard; or nothing comes now; or the connection ended
-  abbrev pub HearsAs : Arrival → Relay S → Relay S → Type 0
+  abbrev pub HearsAs : ReadOutcome → Relay S → Relay S → Type 0
   HearsAs More old new = new ≡ old
   HearsAs Nothing old new = new ≡ record old { server_ready = false }
   HearsAs End old new = LosesServer old new
@@ -206,7 +206,7 @@ module _ {S : Type 0} (streams : Streams S) where
   -- one read of the browser was made
   abbrev pub ReadsOnce : Site → Duration → Relay S → Relay S → Type 0
   ReadsOnce site now old new =
-      (came : Arrival) × (left : S) × (v : Visitor) × (v ≡ record old.visitor { input = v.input })
+      (came : ReadOutcome) × (left : S) × (v : Visitor) × (v ≡ record old.visitor { input = v.input })
       × Receives streams.reads old.browser old.visitor.input.items came left v.input.items
       × ReadsAs came site now (record old { visitor = v; browser = left }) new
 
@@ -219,7 +219,7 @@ module _ {S : Type 0} (streams : Streams S) where
   abbrev pub HearsOnce : Relay S → Relay S → Type 0
   HearsOnce old new =
       ((IsConnected old.server → ⊥) × (new ≡ record old { server_ready = false }))
-      ⊎ ((stream : S) × (old.server ≡ Connected stream) × (came : Arrival) × (left : S) × (v : Visitor)
+      ⊎ ((stream : S) × (old.server ≡ Connected stream) × (came : ReadOutcome) × (left : S) × (v : Visitor)
       × (v ≡ record old.visitor { identity = v.identity })
       × HearsFor streams.reads stream old.visitor.identity came left v.identity
       × HearsAs came (record old { visitor = v; server = Connected left }) new)

@@ -6,7 +6,8 @@ ghost use Rattle.web_relay.specs.Halls.{noted};
 ghost use Rattle.web_relay.specs.Walking.{Repeats};
 
 use std::time::Duration;
-use web_client::{Arrival, SharedClient, WebStream};
+use web_client::SharedClient;
+use web_streams::{ReadOutcome, WebStream};
 
 /// How often a connection is read in one turn.
 const READS: usize = 16;
@@ -42,9 +43,9 @@ impl<S: WebStream + Drop> Hall<S> {
         ensures { HallHears S.WebStream self.old self.new }
     {
         match self.client.receive(&mut self.stream, buffer) {
-            Arrival::Nothing => self.is_ready = false,
-            Arrival::End => self.is_lost = true,
-            Arrival::More => {}
+            ReadOutcome::Nothing => self.is_ready = false,
+            ReadOutcome::End => self.is_lost = true,
+            ReadOutcome::More => {}
         }
     }
 

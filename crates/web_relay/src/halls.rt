@@ -9,12 +9,12 @@ ghost use Rattle.web_relay.specs.Halls.{heeds, number_at};
 ghost use Rattle.web_relay.specs.Places.{changed_at};
 
 use crate::hall::Hall;
-use crate::streams::{Around, BridgeStream, hall_token};
 use slab::Slab;
 use std::alloc::Global;
 use std::net::Net;
 use std::time::Duration;
-use web_client::{SharedClient, WebStream};
+use web_client::SharedClient;
+use web_streams::{BridgeContext, BridgeStream, WebStream, hall_token};
 
 /// How many pages are shared at most.
 const MOST: usize = 8;
@@ -181,7 +181,7 @@ impl<S: BridgeStream + Drop> Halls<S> {
     fn made<R: Net>(
         &mut self,
         rt: &R,
-        around: Around<'_>,
+        around: BridgeContext<'_>,
         size: (u16, u16),
         place: usize,
     ) -> Option<Hall<S>>
@@ -210,7 +210,7 @@ impl<S: BridgeStream + Drop> Halls<S> {
     }
 
     // Opens a hall of this size.
-    fn open<R: Net>(&mut self, rt: &R, around: Around<'_>, size: (u16, u16)) -> Option<usize>
+    fn open<R: Net>(&mut self, rt: &R, around: BridgeContext<'_>, size: (u16, u16)) -> Option<usize>
         ensures { Opens around.entry.site.now.watcher around.entry.now size self.old result self.new }
     {
         let place = self.list.vacant_key();
@@ -222,7 +222,7 @@ impl<S: BridgeStream + Drop> Halls<S> {
     pub fn enter<R: Net>(
         &mut self,
         rt: &R,
-        around: Around<'_>,
+        around: BridgeContext<'_>,
         size: (u16, u16),
     ) -> Option<HallNumber>
         ensures { Enters around.entry.site.now.watcher around.entry.now size self.old result self.new }
@@ -249,7 +249,7 @@ impl<S: BridgeStream + Drop> Halls<S> {
     }
 
     // Attaches the client of this place again, if it sees no window.
-    fn renew_at<R: Net>(&mut self, rt: &R, around: Around<'_>, place: usize)
+    fn renew_at<R: Net>(&mut self, rt: &R, around: BridgeContext<'_>, place: usize)
         ensures renews { Renews around.entry.site.now.watcher around.entry.now self.old.next
             (get self.old.list place) (get self.new.list place) }
         ensures others { (other : ℕ) → other ≢ place → get self.new.list other ≡ get self.old.list other }
@@ -269,7 +269,7 @@ impl<S: BridgeStream + Drop> Halls<S> {
 
     /// Attaches the clients again whose window has closed. They then see the first window that there
     /// is.
-    pub fn renew<R: Net>(&mut self, rt: &R, around: Around<'_>)
+    pub fn renew<R: Net>(&mut self, rt: &R, around: BridgeContext<'_>)
         ensures renews { (place : ℕ) → Renews around.entry.site.now.watcher around.entry.now self.old.next
             (get self.old.list place) (get self.new.list place) }
         ensures same { self.new ≡ record self.old { list = self.new.list; next = self.new.next } }

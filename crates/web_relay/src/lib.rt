@@ -7,13 +7,8 @@ mod halls;
 mod places;
 mod relay;
 mod seating;
-mod streams;
 mod upstream;
 
 pub use halls::{HallNumber, Halls};
 pub use places::{is_full, let_go, make_room, mark, oldest_silent};
 pub use relay::Relay;
-pub use streams::{
-    Accepted, Around, BridgeStream, Stream, WebListener, Woken, browser_token, listener_token,
-    server_token, woken_by,
-};

@@ -10,9 +10,9 @@ ghost use Rattle.web_relay.specs.Halls.{heeds};
 
 use crate::halls::Halls;
 use crate::relay::Relay;
-use crate::streams::Woken;
 use slab::Slab;
 use std::time::Duration;
+use web_streams::Woken;
 
 /// Notes that a connection has something to read, or has room.
 pub fn mark<S: Drop>(woken: Woken, relays: &mut Slab<Relay<S>>, halls: &mut Halls<S>)

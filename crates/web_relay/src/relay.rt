@@ -10,12 +10,12 @@ ghost use Rattle.web_relay.specs.Relaying.{WantsServer};
 ghost use Rattle.web_relay.specs.Walking.{Repeats};
 
 use crate::halls::HallNumber;
-use crate::streams::{Around, BridgeStream};
 use attach_proto::Token;
 use std::alloc::Global;
 use std::net::Net;
 use std::time::Duration;
-use web_client::{Arrival, Identity, Visitor, WebStream};
+use web_client::{Identity, Visitor};
+use web_streams::{BridgeContext, BridgeStream, ReadOutcome, WebStream};
 
 /// How often a connection is read in one turn.
 const READS: usize = 16;
@@ -91,7 +91,7 @@ impl<S: Drop> Relay<S> {
     }
 
     // Takes what came of the browser.
-    fn take(&mut self, around: Around<'_>)
+    fn take(&mut self, around: BridgeContext<'_>)
         ensures asks { Asks self.old.visitor.identity self.new.visitor.identity }
         ensures takes { TakesNow around.entry.site.now around.entry.now self.old self.new }
     {
@@ -280,7 +280,7 @@ impl<S: Drop> Relay<S> {
 impl<S: WebStream + Drop> Relay<S> {
     /// Reads what the browser has sent, up to 64 frames in a turn if they are short. Returns whether its page opened.
     /// Its own client is asked for what these frames say, and for nothing else.
-    pub fn read_browser(&mut self, around: Around<'_>, buffer: &mut [u8]) -> bool
+    pub fn read_browser(&mut self, around: BridgeContext<'_>, buffer: &mut [u8]) -> bool
         ensures asks { Asks self.old.visitor.identity self.new.visitor.identity }
         ensures opens { IsTrue result ↔ ((IsOpen self.old.visitor → ⊥) × IsOpen self.new.visitor) }
         ensures reads { ReadsBrowser S.WebStream around.entry.site.now around.entry.now self.old self.new }
@@ -292,7 +292,7 @@ impl<S: WebStream + Drop> Relay<S> {
     }
 
     // Takes what was left of frames that came.
-    fn take_rest(&mut self, around: Around<'_>)
+    fn take_rest(&mut self, around: BridgeContext<'_>)
         ensures asks { Asks self.old.visitor.identity self.new.visitor.identity }
         ensures takes { TakesRest around.entry.site.now around.entry.now self.old self.new }
     {
@@ -309,7 +309,7 @@ impl<S: WebStream + Drop> Relay<S> {
     }
 
     // Reads the browser while it has sent something.
-    fn read_some(&mut self, around: Around<'_>, buffer: &mut [u8])
+    fn read_some(&mut self, around: BridgeContext<'_>, buffer: &mut [u8])
         ensures asks { Asks self.old.visitor.identity self.new.visitor.identity }
         ensures reads { Repeats IsToRead (ReadsOnce S.WebStream around.entry.site.now around.entry.now) READS self.old
             self.new }
@@ -323,24 +323,24 @@ impl<S: WebStream + Drop> Relay<S> {
     }
 
     // Reads the browser once.
-    fn read_once(&mut self, around: Around<'_>, buffer: &mut [u8])
+    fn read_once(&mut self, around: BridgeContext<'_>, buffer: &mut [u8])
         ensures asks { Asks self.old.visitor.identity self.new.visitor.identity }
         ensures reads { ReadsOnce S.WebStream around.entry.site.now around.entry.now self.old self.new }
     {
         match self.visitor.receive(&mut self.browser, buffer) {
-            Arrival::Nothing => self.browser_ready = false,
-            Arrival::End => {
+            ReadOutcome::Nothing => self.browser_ready = false,
+            ReadOutcome::End => {
                 self.is_over = true;
                 self.browser_ready = false;
             }
-            Arrival::More => self.take(around),
+            ReadOutcome::More => self.take(around),
         }
     }
 }
 
 impl<S: BridgeStream + Drop> Relay<S> {
     /// Connects its own client.
-    pub fn connect<R: Net>(&mut self, rt: &R, around: Around<'_>, token: mio::Token)
+    pub fn connect<R: Net>(&mut self, rt: &R, around: BridgeContext<'_>, token: mio::Token)
         ensures { Connects S.reaches around.entry.socket.now self.old self.new }
     {
         match S::reach(rt, around, token) {

@@ -10,10 +10,10 @@ ghost use Rattle.web_relay.specs.Seeing.{MissesHall, Seats, ShowsHall, ShowsPage
 use crate::hall::Hall;
 use crate::halls::{HallNumber, Halls};
 use crate::relay::{NO_SERVER, Relay};
-use crate::streams::{Around, BridgeStream};
 use crate::upstream::ENDED;
 use std::net::Net;
 use web_client::Identity;
+use web_streams::{BridgeContext, BridgeStream};
 
 impl<S: Drop> Hall<S> {
     // Shows its page to a browser that watches.
@@ -55,7 +55,7 @@ fn sit<S: Drop>(found: Option<HallNumber>, relay: &mut Relay<S>) -> bool
 impl<S: BridgeStream + Drop> Halls<S> {
     /// Seats an open page that watches in the hall of its size. Of the page of another hall it was sent nothing.
     /// Returns whether it has just begun to watch.
-    pub fn seat<R: Net>(&mut self, rt: &R, around: Around<'_>, relay: &mut Relay<S>) -> bool
+    pub fn seat<R: Net>(&mut self, rt: &R, around: BridgeContext<'_>, relay: &mut Relay<S>) -> bool
         ensures { Seats around.entry.site.now.watcher around.entry.now self.old relay.old result self.new relay.new }
     {
         let Identity::Watching(rows, columns) = *relay.visitor.identity() else {

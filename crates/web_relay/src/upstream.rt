@@ -8,7 +8,8 @@ ghost use Rattle.web_relay.specs.Walking.{Repeats};
 
 use crate::relay::{Relay, Upstream};
 use std::time::Duration;
-use web_client::{Arrival, Identity, WebStream};
+use web_client::Identity;
+use web_streams::{ReadOutcome, WebStream};
 
 /// A browser has this number of seconds for its request and its first message.
 const PATIENCE: u64 = 20;
@@ -41,13 +42,13 @@ impl<S: Drop> Relay<S> {
     }
 
     // Notes what a read of the server came to.
-    fn note_heard(&mut self, came: Arrival)
+    fn note_heard(&mut self, came: ReadOutcome)
         ensures { HearsAs came self.old self.new }
     {
         match came {
-            Arrival::Nothing => self.server_ready = false,
-            Arrival::End => self.lose_server(),
-            Arrival::More => {}
+            ReadOutcome::Nothing => self.server_ready = false,
+            ReadOutcome::End => self.lose_server(),
+            ReadOutcome::More => {}
         }
     }
 

@@ -2,8 +2,8 @@
 use Rattle.std.proofs.Common.{◌≡◌, ◌⊎◌, ◌↔◌, ◌||◌, Bool, true, false, IsTrue, List, [], ◌∷◌, length, refl, inl, inr}
 use Rattle.std.proofs.Common.{◌+◌, ◌<◌, ◌≤◌, ℕ, zero, suc, arith, drop, get_or, subst, sym}
 use Rattle.std.specs.declared.time.Duration.{Duration}
-use Rattle.web_relay.specs.declared.streams.Accepted.{Accepted}
-use Rattle.web_relay.specs.declared.streams.WebListener.{WebListener}
+use Rattle.web_streams.specs.declared.connections.Accepted.{Accepted}
+use Rattle.web_streams.specs.declared.connections.WebListener.{WebListener}
 use Rattle.web_turn.specs.declared.bridge.Bridge.{Bridge}
 use Rattle.web_turn.specs.Accepting.{AcceptsAll, AcceptsAt}
 

@@ -4,8 +4,8 @@ use Rattle.mio.specs.declared.event.event.Event.{Event}
 use Rattle.slab.specs.Slab.{Slab}
 use Rattle.web_relay.specs.declared.halls.Halls.{Halls}
 use Rattle.web_relay.specs.declared.relay.Relay.{Relay}
-use Rattle.web_relay.specs.declared.streams.Woken.{Woken}
-use Rattle.web_relay.specs.declared.streams.Woken.TheVariants.{Listener, Browser, Server, Hall}
+use Rattle.web_streams.specs.declared.connections.Woken.{Woken}
+use Rattle.web_streams.specs.declared.connections.Woken.TheVariants.{Listener, Browser, Server, Hall}
 use Rattle.web_relay.specs.Halls.{heeds}
 use Rattle.web_relay.specs.Places.{changed_at, heeds_browser, heeds_server}
 use Rattle.web_turn.specs.declared.bridge.Bridge.{Bridge}

@@ -3,9 +3,9 @@ use Rattle.std.specs.Prelude.{◌≡◌, ◌⊎◌, ◌<◌, ◌+◌, ◌||◌, 
 use Rattle.std.specs.declared.time.Duration.{Duration}
 use Rattle.slab.specs.Slab.{Slab}
 use Rattle.web_relay.specs.declared.relay.Relay.{Relay}
-use Rattle.web_relay.specs.declared.streams.Accepted.{Accepted}
-use Rattle.web_relay.specs.declared.streams.Accepted.TheVariants.{Came, Nothing, Refused}
-use Rattle.web_relay.specs.declared.streams.WebListener.{WebListener}
+use Rattle.web_streams.specs.declared.connections.Accepted.{Accepted}
+use Rattle.web_streams.specs.declared.connections.Accepted.TheVariants.{Came, Nothing, Refused}
+use Rattle.web_streams.specs.declared.connections.WebListener.{WebListener}
 use Rattle.web_relay.specs.Places.{IsClosed, LetsIn}
 use Rattle.web_turn.specs.declared.bridge.Bridge.{Bridge}
 

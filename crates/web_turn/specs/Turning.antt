@@ -11,12 +11,12 @@ use Rattle.web_client.specs.declared.identity.Identity.{Identity}
 use Rattle.web_client.specs.declared.identity.Identity.TheVariants.{Link}
 use Rattle.web_client.specs.Asking.{IsOwn}
 use Rattle.web_client.specs.Rows.{Refuses, TellsLast, handed}
-use Rattle.web_client.specs.declared.stream.WebStream.{Ghosts as Streams}
+use Rattle.web_streams.specs.declared.stream.WebStream.{Ghosts as Streams}
 use Rattle.web_requests.specs.declared.site.Site.{Site}
 use Rattle.web_requests.specs.declared.site.Watcher.{Watcher}
 use Rattle.web_relay.specs.declared.halls.Halls.{Halls}
 use Rattle.web_relay.specs.declared.relay.Relay.{Relay}
-use Rattle.web_relay.specs.declared.streams.BridgeStream.{Ghosts as Makes}
+use Rattle.web_streams.specs.declared.connections.BridgeStream.{Ghosts as Makes}
 use Rattle.web_relay.specs.Halls.{AtEach, Chooses, Closes, HallTurns, IsBusyHall, Renews}
 use Rattle.web_relay.specs.Places.{IsTooMany}
 use Rattle.web_relay.specs.Relaying.{Connects, EndsBy, HasPage, HearsServer, IsBusy, IsOpen, IsRefused, Looks}
@@ -25,11 +25,11 @@ use Rattle.web_relay.specs.Seeing.{Seats, ShowsPage}
 use Rattle.web_turn.specs.declared.bridge.Bridge.{Bridge}
 use Rattle.web_turn.specs.Links.{StandsAt}
 use Rattle.web_turn.specs.declared.links.TheConstants.{USED}
-use Rattle.web_turn.specs.declared.turning.Arrival.{Arrival}
+use Rattle.web_turn.specs.declared.turning.PageArrival.{PageArrival}
 use Rattle.web_turn.specs.declared.turning.TheConstants.{FULL}
 
 -- a page that opens, or says who it is
-abbrev pub IsComing : Arrival → Type 0
+abbrev pub IsComing : PageArrival → Type 0
 IsComing arrival = (arrival.opens ≡ true) ⊎ (arrival.begins ≡ true)
 
 -- a page that shows the secret of a link
@@ -45,7 +45,8 @@ module _ {S : Type 0} where
   IsToBegin r = HasPage r.visitor.identity × (r.has_begun ≡ false) × IsOpen r.visitor
 
   -- A page that comes is turned away if it is one too many. No other page is.
-  pub record Admits (relays : Slab (Relay S)) (place most : ℕ) (arrival : Arrival) (old new : Relay S) : Type 0 where
+  pub record Admits (relays : Slab (Relay S)) (place most : ℕ) (arrival : PageArrival)
+      (old new : Relay S) : Type 0 where
     pub full : IsComing arrival × IsTooMany relays place old most → TurnsAway arrival.opens FULL.now old new
     pub room : (IsComing arrival × IsTooMany relays place old most → ⊥) → new ≡ old
 
@@ -150,7 +151,7 @@ pub record MayConnect {S : Type 0} (makes : Makes S) (socket : List ℕ) (old ne
 
 module _ {S : Type 0} (streams : Streams S) where
   -- What a browser sent is taken. It is noted whether its page opened by that, and whether it says who it is.
-  pub record Hears (site : Site) (now : Duration) (old : Relay S) (arrival : Arrival) (new : Relay S) : Type 0 where
+  pub record Hears (site : Site) (now : Duration) (old : Relay S) (arrival : PageArrival) (new : Relay S) : Type 0 where
     pub mid : Relay S
     pub reads : ReadsBrowser streams site now old mid
     pub opens : IsTrue arrival.opens ↔ ((IsOpen old.visitor → ⊥) × IsOpen mid.visitor)
@@ -161,7 +162,7 @@ module _ {S : Type 0} (streams : Streams S) where
   -- what the browser at a place sent is taken, and its page is admitted
   pub record Reads (site : Site) (now : Duration) (most : ℕ) (relays : Slab (Relay S)) (place : ℕ) (old new : Relay S)
       : Type 0 where
-    pub arrival : Arrival
+    pub arrival : PageArrival
     pub heard : Relay S
     pub hears : Hears site now old arrival heard
     pub admits : Admits (with_value relays place heard) place most arrival heard new

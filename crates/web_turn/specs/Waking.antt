@@ -6,14 +6,14 @@ use Rattle.std.specs.declared.io.Error.{Error}
 use Rattle.std.specs.declared.time.Duration.{Duration}
 use Rattle.mio.specs.Event.{event_token}
 use Rattle.mio.specs.declared.event.event.Event.{Event}
-use Rattle.web_client.specs.declared.stream.WebStream.{Ghosts as Streams}
-use Rattle.web_relay.specs.declared.streams.BridgeStream.{Ghosts as Makes}
-use Rattle.web_relay.specs.declared.streams.WebListener.{WebListener}
-use Rattle.web_relay.specs.declared.streams.Woken.{Woken}
-use Rattle.web_relay.specs.declared.streams.Woken.TheVariants.{Listener, Browser, Server, Hall}
+use Rattle.web_streams.specs.declared.stream.WebStream.{Ghosts as Streams}
+use Rattle.web_streams.specs.declared.connections.BridgeStream.{Ghosts as Makes}
+use Rattle.web_streams.specs.declared.connections.WebListener.{WebListener}
+use Rattle.web_streams.specs.declared.connections.Woken.{Woken}
+use Rattle.web_streams.specs.declared.connections.Woken.TheVariants.{Listener, Browser, Server, Hall}
 use Rattle.web_relay.specs.Halls.{heeds}
 use Rattle.web_relay.specs.Places.{changed_at, heeds_browser, heeds_server}
-use Rattle.web_relay.specs.Tokens.{woken}
+use Rattle.web_streams.specs.Tokens.{woken}
 use Rattle.web_turn.specs.declared.bridge.Bridge.{Bridge}
 use Rattle.web_turn.specs.Accepting.{AcceptsIf}
 use Rattle.web_turn.specs.Turning.{HasWork, Turns}

@@ -15,20 +15,20 @@ use slab::Slab;
 use std::net::Net;
 use std::sync::Wait;
 use std::time::Duration;
-use web_client::WebStream;
-use web_relay::{Around, BridgeStream, Halls, Relay, is_full, let_go, server_token};
+use web_relay::{Halls, Relay, is_full, let_go};
+use web_streams::{BridgeContext, BridgeStream, WebStream, server_token};
 
 /// What a page is told that has said who it is when all places are taken.
 pub const FULL: &str = "All places are taken";
 
 // What a browser's bytes came to: whether its page opened, and whether it says now who it is.
 #[derive(Clone, Copy)]
-struct Arrival {
+struct PageArrival {
     opens: bool,
     begins: bool,
 }
 
-impl Arrival {
+impl PageArrival {
     fn is_coming(self) -> bool
         ensures { IsTrue result ↔ IsComing self }
     {
@@ -37,12 +37,16 @@ impl Arrival {
 }
 
 // Takes what a browser sent.
-fn hear<S: WebStream + Drop>(relay: &mut Relay<S>, around: Around<'_>, buffer: &mut [u8]) -> Arrival
+fn hear<S: WebStream + Drop>(
+    relay: &mut Relay<S>,
+    around: BridgeContext<'_>,
+    buffer: &mut [u8],
+) -> PageArrival
     ensures { Hears S.WebStream around.entry.site.now around.entry.now relay.old result relay.new }
 {
     let opens = relay.read_browser(around, buffer);
     let begins = relay.begins();
-    Arrival { opens, begins }
+    PageArrival { opens, begins }
 }
 
 // Whether a page comes that is one too many.
@@ -50,7 +54,7 @@ fn is_too_many<S: Drop>(
     relays: &Slab<Relay<S>>,
     place: usize,
     most: usize,
-    arrival: Arrival,
+    arrival: PageArrival,
 ) -> bool
     ensures { (relay : Relay S) → get relays.now place ≡ Some relay
         → IsTrue result ↔ (IsComing arrival × IsTooMany relays.now place relay most) }
@@ -59,7 +63,7 @@ fn is_too_many<S: Drop>(
 }
 
 // Turns away the page at this place if it comes and is one too many.
-fn admit<S: Drop>(relays: &mut Slab<Relay<S>>, place: usize, most: usize, arrival: Arrival)
+fn admit<S: Drop>(relays: &mut Slab<Relay<S>>, place: usize, most: usize, arrival: PageArrival)
     ensures { ChangesAt place (Admits relays.old place most arrival) relays.old relays.new }
 {
     if !is_too_many(relays, place, most, arrival) {
@@ -75,7 +79,7 @@ fn read_at<S: WebStream + Drop>(
     relays: &mut Slab<Relay<S>>,
     place: usize,
     most: usize,
-    around: Around<'_>,
+    around: BridgeContext<'_>,
     buffer: &mut [u8],
 )
     ensures { ChangesAt place (Reads S.WebStream around.entry.site.now around.entry.now most relays.old place)
@@ -92,7 +96,7 @@ fn read_at<S: WebStream + Drop>(
 // Connects a relay's own client, if its page has said who it is.
 fn connect<R: Net, S: BridgeStream + Drop>(
     rt: &R,
-    around: Around<'_>,
+    around: BridgeContext<'_>,
     place: usize,
     relay: &mut Relay<S>,
 )
@@ -131,7 +135,7 @@ impl<S: BridgeStream + WebStream + Drop> Bridge<'_, S> {
     fn read(&mut self, registry: &Registry, place: usize, now: Duration)
         ensures { ReadsAt S.WebStream now place self.old self.new }
     {
-        let around = Around {
+        let around = BridgeContext {
             registry,
             site: &self.site,
             socket: self.socket,
@@ -159,7 +163,7 @@ impl<S: BridgeStream + WebStream + Drop> Bridge<'_, S> {
         let Some(relay) = self.relays.get_mut(place) else {
             return;
         };
-        let around = Around {
+        let around = BridgeContext {
             registry,
             site: &self.site,
             socket: self.socket,
@@ -213,7 +217,7 @@ impl<S: BridgeStream + WebStream + Drop> Bridge<'_, S> {
         ensures same { self.new ≡ record self.old { halls = self.new.halls; buffer = self.new.buffer } }
     {
         self.halls.turn(self.buffer.as_mut_slice());
-        let around = Around {
+        let around = BridgeContext {
             registry,
             site: &self.site,
             socket: self.socket,

@@ -2,8 +2,8 @@ use Rattle.std.proofs.Common.{◌≡◌, ◌∙◌, List, [], ◌∷◌, ap, sym
 use Rattle.std.specs.Slice.Iter.{iter_rest}
 use Rattle.mio.specs.declared.event.event.Event.{Event}
 use Rattle.mio.specs.declared.token.Token.{Token}
-use Rattle.web_relay.specs.Tokens.{woken}
-use Rattle.web_relay.specs.declared.streams.Woken.{Woken}
+use Rattle.web_streams.specs.Tokens.{woken}
+use Rattle.web_streams.specs.declared.connections.Woken.{Woken}
 use Rattle.web_turn.specs.Waking.{wakes, wakes_all}
 use Rattle.web_turn.proofs.Waking.{no_more}
 use Rattle.web_turn.proofs.bridge.Bridge.wake_all.Goals as goal

@@ -1,5 +1,5 @@
-use Rattle.web_client.specs.Streaming.{WritesFor}
-use Rattle.web_client.proofs.outgoing.write_all.Given as goal
+use Rattle.web_streams.specs.Streaming.{WritesFor}
+use Rattle.web_streams.proofs.outgoing.write_all.Given as goal
 
 abbrev pub invariant-writes : goal.invariant-writes
 invariant-writes g l =

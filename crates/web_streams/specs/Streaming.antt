@@ -5,80 +5,66 @@ use Rattle.std.specs.declared.io.Error.{Error}
 use Rattle.std.specs.declared.io.ErrorKind.{ErrorKind}
 use Rattle.std.specs.declared.io.ErrorKind.TheVariants.{WouldBlock, Interrupted}
 use Rattle.std.specs.IoError.{error_kind}
-use Rattle.web_client.specs.declared.stream.Arrival.{Arrival}
-use Rattle.web_client.specs.declared.stream.Arrival.TheVariants.{More, Nothing, End}
-use Rattle.web_client.specs.declared.stream.Wrote.{Wrote}
-use Rattle.web_client.specs.declared.stream.Wrote.TheVariants as wrote
-use Rattle.web_page.specs.Hearing.{WebDisplay, Hears, KeepsSent}
+use Rattle.web_streams.specs.declared.stream.ReadOutcome.{ReadOutcome}
+use Rattle.web_streams.specs.declared.stream.ReadOutcome.TheVariants.{More, Nothing, End}
+use Rattle.web_streams.specs.declared.stream.WriteOutcome.{WriteOutcome}
+use Rattle.web_streams.specs.declared.stream.WriteOutcome.TheVariants as wrote
 
 -- ---- what a read and a write came to
 
 -- a stream that fails ends, unless it only has to be asked again
-abbrev pub failed : ErrorKind → Arrival
+abbrev pub failed : ErrorKind → ReadOutcome
 failed WouldBlock = Nothing
 failed Interrupted = More
 failed _ = End
 
-abbrev pub came_of : Result ℕ Error → Arrival
+abbrev pub came_of : Result ℕ Error → ReadOutcome
 came_of (Ok zero) = End
 came_of (Ok (suc n)) = More
 came_of (Err error) = failed (error_kind error)
 
 -- the same of a write
-abbrev pub stopped : ErrorKind → Wrote
+abbrev pub stopped : ErrorKind → WriteOutcome
 stopped WouldBlock = wrote.Full
 stopped Interrupted = wrote.Nothing
 stopped _ = wrote.Broken
 
-abbrev pub took_of : Result ℕ Error → Wrote
+abbrev pub took_of : Result ℕ Error → WriteOutcome
 took_of (Ok zero) = wrote.Broken
 took_of (Ok (suc n)) = wrote.Some (suc n)
 took_of (Err error) = stopped (error_kind error)
 
 -- how many bytes a write took
-abbrev pub count_of : Wrote → ℕ
+abbrev pub count_of : WriteOutcome → ℕ
 count_of (wrote.Some count) = count
 count_of _ = 0
 
 -- another write is made after it
-abbrev pub goes_on : Wrote → Bool
+abbrev pub goes_on : WriteOutcome → Bool
 goes_on (wrote.Some count) = true
 goes_on wrote.Nothing = true
 goes_on _ = false
 
 -- the connection isn't broken after it
-abbrev pub is_whole : Wrote → Bool
+abbrev pub is_whole : WriteOutcome → Bool
 is_whole wrote.Broken = false
 is_whole _ = true
 
 -- ---- what is read through a stream, by what that says of its reads
 
--- A display heard these bytes: its name stays, and no moment ends.
-abbrev pub HearsBytes : WebDisplay → List ℕ → WebDisplay → Type 0
-HearsBytes old bytes new =
-    ((bytes ≡ []) × (new ≡ old))
-    ⊎ (Hears old bytes new × (new.name ≡ old.name) × KeepsSent old.sheet new.sheet)
-
-module _ {S : Type 0} (reads : S → List ℕ → Arrival → S → Type 0) where
+module _ {S : Type 0} (reads : S → List ℕ → ReadOutcome → S → Type 0) where
   -- One read was made, and what came is after all that waited. If there is no memory for it, the connection ends.
-  pub record Receives (stream : S) (old : List ℕ) (came : Arrival) (left : S) (new : List ℕ) : Type 0 where
+  pub record Receives (stream : S) (old : List ℕ) (came : ReadOutcome) (left : S) (new : List ℕ) : Type 0 where
     pub piece : List ℕ
-    pub arrived : Arrival
+    pub arrived : ReadOutcome
     pub read : reads stream piece arrived left
     pub taken : ((came ≡ arrived) × (new ≡ old ++ piece)) ⊎ ((came ≡ End) × (new ≡ old))
 
-  -- One read was made, and the display heard what came, and nothing else. If it can't, the connection ends.
-  pub record HearsRead (stream : S) (old : WebDisplay) (came : Arrival) (left : S) (new : WebDisplay) : Type 0 where
-    pub piece : List ℕ
-    pub arrived : Arrival
-    pub read : reads stream piece arrived left
-    pub heard : ((came ≡ arrived) × HearsBytes old piece new) ⊎ (came ≡ End)
-
 -- ---- what is written through a stream, by what that says of its writes
 
-module _ {S : Type 0} (writes : S → List ℕ → Wrote → S → Type 0) where
+module _ {S : Type 0} (writes : S → List ℕ → WriteOutcome → S → Type 0) where
   -- one write of what waits was made, and what was taken doesn't wait any more
-  abbrev pub WritesOnce : S → List ℕ → Wrote → S → List ℕ → Type 0
+  abbrev pub WritesOnce : S → List ℕ → WriteOutcome → S → List ℕ → Type 0
   WritesOnce stream old took left new =
       (old ≢ []) × writes stream old took left × (new ≡ drop (count_of took) old)
 
@@ -87,13 +73,13 @@ module _ {S : Type 0} (writes : S → List ℕ → Wrote → S → Type 0) where
   WritesFor zero stream old left new = (left ≡ stream) × (new ≡ old)
   WritesFor (suc count) stream old left new =
       (mid : S) × (rest : List ℕ) × WritesFor count stream old mid rest
-      × (took : Wrote) × (goes_on took ≡ true) × WritesOnce mid rest took left new
+      × (took : WriteOutcome) × (goes_on took ≡ true) × WritesOnce mid rest took left new
 
   -- nothing waits, or a write was made after which the stream takes no more
   abbrev pub WritesLast : S → List ℕ → Bool → S → List ℕ → Type 0
   WritesLast stream old whole left new =
       ((old ≡ []) × (whole ≡ true) × (left ≡ stream) × (new ≡ []))
-      ⊎ ((took : Wrote) × (goes_on took ≡ false) × (whole ≡ is_whole took) × WritesOnce stream old took left new)
+      ⊎ ((took : WriteOutcome) × (goes_on took ≡ false) × (whole ≡ is_whole took) × WritesOnce stream old took left new)
 
   -- Write after write was made, until nothing waits or the stream takes no more; 2 ^ 64 - 1 of them at most.
   pub record WritesOut (stream : S) (old : List ℕ) (whole : Bool) (left : S) (new : List ℕ) : Type 0 where

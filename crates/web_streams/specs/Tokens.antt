@@ -3,10 +3,10 @@ use Rattle.std.specs.Prelude.{◌≡◌, ◌≢◌, ℕ, ◌/◌, ◌%◌, ◌==
 use Rattle.std.specs.IoError.{error_kind}
 use Rattle.std.specs.declared.io.Error.{Error}
 use Rattle.std.specs.declared.io.ErrorKind.TheVariants.{WouldBlock}
-use Rattle.web_relay.specs.declared.streams.Accepted.{Accepted}
-use Rattle.web_relay.specs.declared.streams.Accepted.TheVariants.{Came, Nothing, Refused}
-use Rattle.web_relay.specs.declared.streams.Woken.{Woken}
-use Rattle.web_relay.specs.declared.streams.Woken.TheVariants.{Listener, Browser, Server, Hall}
+use Rattle.web_streams.specs.declared.connections.Accepted.{Accepted}
+use Rattle.web_streams.specs.declared.connections.Accepted.TheVariants.{Came, Nothing, Refused}
+use Rattle.web_streams.specs.declared.connections.Woken.{Woken}
+use Rattle.web_streams.specs.declared.connections.Woken.TheVariants.{Listener, Browser, Server, Hall}
 
 -- four kinds take turns, from place to place
 abbrev pub of_kind : ℕ → ℕ → Woken

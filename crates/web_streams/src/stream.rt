@@ -2,14 +2,14 @@
 
 ghost use Rattle.std.specs.Prelude.{◌≡◌, take};
 ghost use Rattle.std.specs.Io.KnownBytes.{Appends, Consumes};
-ghost use Rattle.web_client.specs.Streaming.{came_of, count_of, took_of};
+ghost use Rattle.web_streams.specs.Streaming.{came_of, count_of, took_of};
 
 use std::io;
 use std::io::{ErrorKind, Read, Write};
 
 /// What a read came to.
 #[derive(Clone, Copy)]
-pub enum Arrival {
+pub enum ReadOutcome {
     /// Bytes, or none if it was interrupted: more may be there.
     More,
     /// Nothing is there for now.
@@ -20,7 +20,7 @@ pub enum Arrival {
 
 /// What a write came to.
 #[derive(Clone, Copy)]
-pub enum Wrote {
+pub enum WriteOutcome {
     /// This many bytes were taken.
     Some(usize),
     /// It was interrupted, and is to be tried again.
@@ -32,31 +32,31 @@ pub enum Wrote {
 }
 
 // What a read of this answer came to.
-fn arrival_of(answer: io::Result<usize>) -> Arrival
+fn arrival_of(answer: io::Result<usize>) -> ReadOutcome
     ensures { result ≡ came_of answer }
 {
     match answer {
-        Ok(0) => Arrival::End,
-        Ok(_) => Arrival::More,
+        Ok(0) => ReadOutcome::End,
+        Ok(_) => ReadOutcome::More,
         Err(error) => match error.kind() {
-            ErrorKind::WouldBlock => Arrival::Nothing,
-            ErrorKind::Interrupted => Arrival::More,
-            _ => Arrival::End,
+            ErrorKind::WouldBlock => ReadOutcome::Nothing,
+            ErrorKind::Interrupted => ReadOutcome::More,
+            _ => ReadOutcome::End,
         },
     }
 }
 
 // What a write of this answer came to.
-fn wrote_of(answer: io::Result<usize>) -> Wrote
+fn wrote_of(answer: io::Result<usize>) -> WriteOutcome
     ensures { result ≡ took_of answer }
 {
     match answer {
-        Ok(0) => Wrote::Broken,
-        Ok(count) => Wrote::Some(count),
+        Ok(0) => WriteOutcome::Broken,
+        Ok(count) => WriteOutcome::Some(count),
         Err(error) => match error.kind() {
-            ErrorKind::WouldBlock => Wrote::Full,
-            ErrorKind::Interrupted => Wrote::Nothing,
-            _ => Wrote::Broken,
+            ErrorKind::WouldBlock => WriteOutcome::Full,
+            ErrorKind::Interrupted => WriteOutcome::Nothing,
+            _ => WriteOutcome::Broken,
         },
     }
 }
@@ -65,9 +65,9 @@ fn wrote_of(answer: io::Result<usize>) -> Wrote
 /// nothing, and a connection hasn't ended before its stream says so.
 pub trait WebStream {
     ghost use Rattle.std.specs.Prelude.{◌≡◌, ◌≤◌, ℕ, List, length, take};
-    ghost use Rattle.web_client.specs.Streaming.{count_of};
-    ghost use Rattle.web_client.specs.declared.stream.Arrival.{Arrival as Came};
-    ghost use Rattle.web_client.specs.declared.stream.Wrote.{Wrote as Took};
+    ghost use Rattle.web_streams.specs.Streaming.{count_of};
+    ghost use Rattle.web_streams.specs.declared.stream.ReadOutcome.{ReadOutcome as Came};
+    ghost use Rattle.web_streams.specs.declared.stream.WriteOutcome.{WriteOutcome as Took};
 
     // The stream, the bytes that came, what they or their lack mean, and the stream after it.
     ghost reads: { Self → List ℕ → Came → Self → Type 0 };
@@ -76,12 +76,12 @@ pub trait WebStream {
     ghost writes: { Self → List ℕ → Took → Self → Type 0 };
 
     /// Reads once. Says how many bytes came.
-    fn read_once(&mut self, buffer: &mut [u8]) -> (usize, Arrival)
+    fn read_once(&mut self, buffer: &mut [u8]) -> (usize, ReadOutcome)
         ensures within { result.0 ≤ length buffer.new }
         ensures read { reads self.old (take result.0 buffer.new) result.1 self.new };
 
     /// Writes once of what waits.
-    fn write_once(&mut self, bytes: &[u8]) -> Wrote
+    fn write_once(&mut self, bytes: &[u8]) -> WriteOutcome
         ensures within { count_of result ≤ length bytes.now }
         ensures wrote { writes self.old bytes.now result self.new };
 }
@@ -92,7 +92,7 @@ impl<S: Read + Write> WebStream for S {
     ghost writes = { λ s waits took left.
         Appends (S.contents s) (S.contents left) (take (count_of took) waits) };
 
-    fn read_once(&mut self, buffer: &mut [u8]) -> (usize, Arrival) {
+    fn read_once(&mut self, buffer: &mut [u8]) -> (usize, ReadOutcome) {
         let answer = self.read(buffer);
         let count = match &answer {
             Ok(count) => *count,
@@ -101,7 +101,7 @@ impl<S: Read + Write> WebStream for S {
         (count, arrival_of(answer))
     }
 
-    fn write_once(&mut self, bytes: &[u8]) -> Wrote {
+    fn write_once(&mut self, bytes: &[u8]) -> WriteOutcome {
         wrote_of(self.write(bytes))
     }
 }

@@ -1,9 +1,9 @@
 //! Bytes on their way to the server, or to a browser.
 
 ghost use Rattle.std.specs.Prelude.{◌≡◌, ◌++◌, ◌≤◌, [], length, drop, vec_len, OnOk, OnErr};
-ghost use Rattle.web_client.specs.Streaming.{WritesOut, count_of};
+ghost use Rattle.web_streams.specs.Streaming.{WritesOut, count_of};
 
-use crate::stream::{WebStream, Wrote};
+use crate::stream::{WebStream, WriteOutcome};
 use std::alloc::{AllocError, Global};
 use std::marker::Model;
 
@@ -18,14 +18,14 @@ pub fn drop_front(bytes: &mut Vec<u8>, taken: usize)
 }
 
 // Makes one write of bytes that wait. Those that were taken don't wait any more.
-fn write_once<S: WebStream>(bytes: &mut Vec<u8>, stream: &mut S) -> Wrote
+fn write_once<S: WebStream>(bytes: &mut Vec<u8>, stream: &mut S) -> WriteOutcome
     ensures taken { bytes.new.items ≡ drop (count_of result) bytes.old.items }
     ensures writes { S.writes stream.old bytes.old.items result stream.new }
 {
     let wrote = stream.write_once(bytes);
     match wrote {
-        Wrote::Some(count) => drop_front(bytes, count),
-        Wrote::Nothing | Wrote::Full | Wrote::Broken => {}
+        WriteOutcome::Some(count) => drop_front(bytes, count),
+        WriteOutcome::Nothing | WriteOutcome::Full | WriteOutcome::Broken => {}
     }
     wrote
 }
@@ -39,9 +39,9 @@ pub fn write_all<S: WebStream>(bytes: &mut Vec<u8>, stream: &mut S) -> bool
             return true;
         }
         match write_once(bytes, stream) {
-            Wrote::Some(_) | Wrote::Nothing => {}
-            Wrote::Full => return true,
-            Wrote::Broken => return false,
+            WriteOutcome::Some(_) | WriteOutcome::Nothing => {}
+            WriteOutcome::Full => return true,
+            WriteOutcome::Broken => return false,
         }
     }
     true

@@ -2,8 +2,8 @@
 //! to the server.
 
 ghost use Rattle.std.specs.Prelude.{◌≡◌, ◌<◌, ◌^◌};
-ghost use Rattle.web_relay.specs.Tokens.{IsAccepted, woken};
-ghost use Rattle.web_relay.specs.declared.streams.Woken.{Woken};
+ghost use Rattle.web_streams.specs.Tokens.{IsAccepted, woken};
+ghost use Rattle.web_streams.specs.declared.connections.Woken.{Woken};
 
 use mio::net::{TcpListener, TcpStream, UnixListener, UnixStream};
 use mio::{Interest, Registry, Token};
@@ -11,8 +11,7 @@ use std::io;
 use std::io::{ErrorKind, Read, Write};
 use std::net::Net;
 use std::time::Duration;
-use web_client::Site;
-use web_requests::Loopback;
+use web_requests::{Loopback, Site};
 
 /// What an event is for: a listener of this number; a browser, or the own client of a browser, at this place; a hall.
 #[derive(Clone, Copy, Debug, PartialEq, Eq)]
@@ -66,7 +65,7 @@ pub fn hall_token(place: usize) -> Token
 
 /// What all connections of a bridge use in a turn.
 #[derive(Clone, Copy)]
-pub struct Around<'a> {
+pub struct BridgeContext<'a> {
     pub registry: &'a Registry,
     pub site: &'a Site,
     /// The server's socket.
@@ -116,8 +115,8 @@ pub enum Accepted<S> {
 /// A connection that a bridge makes or takes. Each relation is shown by a call of its function alone.
 pub trait BridgeStream {
     ghost use Rattle.std.specs.Prelude.{◌≡◌, ℕ, List, Option};
-    ghost use Rattle.web_relay.specs.declared.streams.Accepted.{Accepted as Came};
-    ghost use Rattle.web_relay.specs.declared.streams.WebListener.{WebListener as Door};
+    ghost use Rattle.web_streams.specs.declared.connections.Accepted.{Accepted as Came};
+    ghost use Rattle.web_streams.specs.declared.connections.WebListener.{WebListener as Door};
 
     // A socket's path, and the connection to it, if one was made.
     ghost reaches: { List ℕ → Option Self → Type 0 };
@@ -126,7 +125,7 @@ pub trait BridgeStream {
     ghost comes: { Door → Came Self → Type 0 };
 
     /// A new connection to the server, if one can be made.
-    fn reach<R: Net>(rt: &R, around: Around<'_>, token: Token) -> Option<Self>
+    fn reach<R: Net>(rt: &R, around: BridgeContext<'_>, token: Token) -> Option<Self>
         ensures { reaches around.entry.socket.now result };
 
     /// Takes the next connection of a listener.
@@ -139,7 +138,7 @@ pub trait BridgeStream {
 }
 
 // A new connection to the socket at this path.
-fn connect_at<R: Net>(rt: &R, around: Around<'_>, token: Token) -> io::Result<Stream> {
+fn connect_at<R: Net>(rt: &R, around: BridgeContext<'_>, token: Token) -> io::Result<Stream> {
     let mut stream = Stream::Unix(UnixStream::connect(rt, around.socket)?);
     stream.register(around.registry, token)?;
     Ok(stream)
@@ -176,7 +175,7 @@ impl BridgeStream for Stream {
 
     ghost comes = { λ listener came. Unit {0} };
 
-    fn reach<R: Net>(rt: &R, around: Around<'_>, token: Token) -> Option<Stream> {
+    fn reach<R: Net>(rt: &R, around: BridgeContext<'_>, token: Token) -> Option<Stream> {
         connect_at(rt, around, token).ok()
     }
 
