@@ -2,7 +2,7 @@
 
 use crate::frames::USERS;
 use crate::peer::has;
-use server::{Handles, SetupHost, Open, serve_through};
+use server::{Handles, Open, SetupHost, serve_through};
 use std::alloc::AllocError;
 use std::fs::{DirBuilder, Files, Permissions};
 use std::os::unix::fs::{DirBuilderExt, PermissionsExt};

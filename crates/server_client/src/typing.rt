@@ -15,7 +15,11 @@ use std::sync::Wait;
 const EIO: i32 = 5;
 
 // Sends what was read. Returns whether to go on; None at the input's end.
-fn take<R: Wait>(rt: &R, shared: &SharedPeer, piece: ReadPiece<'_>) -> Result<Option<bool>, PeerFault> {
+fn take<R: Wait>(
+    rt: &R,
+    shared: &SharedPeer,
+    piece: ReadPiece<'_>,
+) -> Result<Option<bool>, PeerFault> {
     let mut seat = shared.seat.lock(rt);
     if !seat.peer.type_in(piece)? {
         return Ok(None);
