@@ -8,7 +8,7 @@ use Rattle.client_words.specs.declared.fault.PeerFault.TheVariants.{NoAnswer}
 use Rattle.client_peer.specs.declared.peer.Peer.{Peer}
 use Rattle.client_peer.specs.Looking.{EndsInTime, IsLate, leaving}
 use Rattle.client_peer.specs.Returning.{AtLoss, GivesUp, IsOver}
-use Rattle.client_peer.proofs.Waiting.{false_true, not_none}
+use Rattle.client_peer.proofs.Waiting.{false_true}
 
 abbrev End : Type 0
 End = Option (Result Why PeerFault)
@@ -51,13 +51,6 @@ awaits_none old new now none same = record {
   rest = subst (λ (p : Peer). p ≡ record old { end = p.end }) (sym same) refl;
 }
 
-pub ends_left : (old new : Peer) (now : ℕ) → new ≡ leaving old new → IsSome new.times.left_at → EndsInTime old now new
-ends_left old new now same left = record {
-  end = inl (ap (λ (p : Peer). p.end) same);
-  final = λ f. inl (sym (ap (λ (p : Peer). p.is_final) same) ∙ f);
-  lasts = λ f. ap (λ (p : Peer). p.is_final) same ∙ f;
-  over = λ none o. absurd (not_none new.times.left_at none left);
-  late = λ none l. absurd (not_none new.times.left_at none left);
 }
 
 module _ (old first second third new : Peer) (now : ℕ) (same : first ≡ leaving old first) (lost : AtLoss first now second)

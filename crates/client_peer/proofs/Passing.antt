@@ -1,7 +1,7 @@
 -- What a client passes on, step after step.
 use Rattle.std.proofs.Common.{◌≡◌, ℕ, List, [], ◌++◌, refl, sym, ap, ◌∙◌, subst, append-nil, append_assoc}
 use Rattle.std.proofs.Common.{Result, Ok, Err, OnErr}
-use Rattle.std.specs.Prelude.{IfErr, OnOk}
+use Rattle.std.specs.Prelude.{IfErr}
 use Rattle.client_words.specs.declared.arguments.Subcommand.TheVariants.{Attach}
 use Rattle.draw_check.specs.Functions.{BeginDraws}
 use Rattle.draw_check.specs.Places.{place_after}
@@ -24,9 +24,6 @@ passes_keeps old new k = record {
 pub passes_stops : (old new : Peer) → PassesOn old new → StopsAt old new
 passes_stops old new p is came begun stands = (p.passes is came begun stands).passed
 
-pub stops_keeps : (old new : Peer) → Keeps old new → StopsAt old new
-stops_keeps old new k = passes_stops old new (passes_keeps old new k)
-
 -- the same bytes wait
 pub stops_kept : (old new : Peer) → new.bytes.items ≡ old.bytes.items → StopsAt old new
 stops_kept old new k is came begun stands = record {
@@ -34,14 +31,6 @@ stops_kept old new k is came begun stands = record {
   added = k ∙ sym (append-nil old.bytes.items);
   begin = subst BeginDraws (sym (append-nil came)) begun;
 }
-
--- not a client
-pub passes_other : (old new : Peer) → new.subcommand ≡ old.subcommand → (old.subcommand ≡ Attach → ⊥)
-    → PassesOn old new
-passes_other old new same other = record { subcommand = same; passes = λ is came begun stands. absurd (other is) }
-
-pub stops_other : (old new : Peer) → (old.subcommand ≡ Attach → ⊥) → StopsAt old new
-stops_other old new other is came begun stands = absurd (other is)
 
 module _ (old middle new : Peer) (p : PassesOn old middle) where
   passed_then : (is : old.subcommand ≡ Attach) (came : List ℕ) (begun : BeginDraws came)
@@ -111,7 +100,3 @@ on_err_given (Err e) p = p
 
 pub if_err_given : {T E : Type 0} (P : E → Type 0) (r : Result T E) (e : E) → P e → r ≡ Err e → IfErr r P
 if_err_given P r e p is = rw is p
-
-pub on_ok_given : {T E P : Type 0} (r : Result T E) → P → OnOk r P
-on_ok_given (Ok x) p = p
-on_ok_given (Err e) p = tt

@@ -1,14 +1,11 @@
 -- Bytes in frames, one piece after another.
-use Rattle.std.proofs.Common.{◌≡◌, ℕ, ◌≤◌, List, [], ◌∷◌, ◌++◌, length, take, drop, refl, sym, ap, ◌∙◌}
+use Rattle.std.proofs.Common.{◌≡◌, ℕ, ◌≤◌, List, [], ◌∷◌, ◌++◌, length, take, drop, sym, ap, ◌∙◌}
 use Rattle.std.proofs.lemmas.List.{append-nil, append_assoc, take-append-drop}
 use Rattle.std.specs.List.{AllByRecursion, flat_map}
 use Rattle.std.proofs.lemmas.Grind.{flat_map-append}
 use Rattle.attach_proto.specs.declared.kind.Kind.{Kind}
 use Rattle.attach_proto.specs.Spelling.{frame}
 use Rattle.client_peer.specs.Reopening.{Sends}
-
-pub sends-nothing : (old : List ℕ) (kind : Kind) → Sends old old kind []
-sends-nothing old kind = record { pieces = []; whole = refl; fit = tt; added = sym (append-nil old) }
 
 all-more : (pieces : List (List ℕ)) (piece : List ℕ) → AllByRecursion (λ p. length p ≤ 8192) pieces
     → length piece ≤ 8192 → AllByRecursion (λ p. length p ≤ 8192) (pieces ++ piece ∷ [])

@@ -105,9 +105,6 @@ beside_by old first second third now m none lost late =
     ∙ ap (λ (q : Peer). record q { is_final = second.is_final; end = second.end }) stays) in
     subst (λ (q : Peer). q ≡ beside old now q) (sym whole) refl
 
-pub rest_left : (old new : Peer) → new ≡ leaving old new → new ≡ in_time old new
-rest_left old new same = same ∙ sym (ap (in_time old) same)
-
 module _ (old third new : Peer) (now : ℕ) (same : third ≡ beside old now third) where
   -- the peer has ended
   module _ (end : IsSome third.end)
@@ -173,14 +170,6 @@ not_done p now end left (inr d) = not_none p.end end d.0
 
 -- ---- when standard input is begun
 
-pub begins_left : (old new : Peer) (now : ℕ) (next : PeerTask) → new ≡ leaving old new → IsSome new.times.left_at
-    → DoesNext new now next → BeginsInTime old now (Ok next) new
-begins_left old new now next same left does = record {
-  once = λ is.
-      let e : next ≡ task.Begin = cc in
-      absurd (not_none new.times.left_at (subst (DoesNext new now) e does).1 left);
-  soon = λ still stays may. absurd (not_none new.times.left_at stays left);
-  rest = λ other. ap (λ (p : Peer). p.times.has_begun) same;
 }
 
 pub begins_end : (old third new : Peer) (now : ℕ) (next : PeerTask) → third ≡ beside old now third → IsSome third.end

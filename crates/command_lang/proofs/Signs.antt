@@ -1,8 +1,8 @@
 -- Bits, read byte by byte, and the place at which they begin.
 use Rattle.command_lang.proofs.Vocabulary.{◌≡◌, ℕ, suc, ◌+◌, ◌<◌, ◌≤◌, Bool, true, false, not, ◌&&◌, cond, List, []}
 use Rattle.command_lang.proofs.Vocabulary.{◌∷◌, ◌++◌, length, drop, get_or, Option, Some, None, refl, sym, ap, ◌∙◌}
-use Rattle.command_lang.proofs.Vocabulary.{arith, unwrap_or, append_assoc, drop-cons, nat_lt, nat_tests, Bit, BitChange}
-use Rattle.command_lang.proofs.Vocabulary.{is_sign, is_letter, bit_of, goes_on, change_of, value_after, bits_after}
+use Rattle.command_lang.proofs.Vocabulary.{arith, unwrap_or, drop-cons, nat_lt, nat_tests}
+use Rattle.command_lang.proofs.Vocabulary.{is_sign}
 use Rattle.std.specs.List.{position_or_len}
 
 drop-at : (cs : List ℕ) (i x : ℕ) → i < length cs → x ≡ get_or cs i x → drop i cs ≡ x ∷ drop (i + 1) cs
@@ -29,22 +29,6 @@ first-or xs r n h e = e ∙ ap (λ o. unwrap_or o (length xs)) h
         → unwrap_or (cond b (Some (position_or_len is_sign xs)) None) (length xs) ≡ position_or_len is_sign xs
     by true t = refl
     by false t = let l = place_le xs in grind (arith, nat_tests)
-
--- what the loop over groups of bits keeps
-pub groups-at : (text : List ℕ) (i x : ℕ) (b : Bool) → i < length text → x ≡ get_or text i x
-    → goes_on b (drop i text) ≡ cond (is_letter x) (goes_on false (drop (i + 1) text))
-    ((is_sign x && not b) && goes_on true (drop (i + 1) text))
-groups-at text i x b h g = ap (goes_on b) (drop-at text i x h g)
-
--- what the loop over bits keeps: those that were put, and those still to be put
-pub bits-at : (all out new : List BitChange) (text : List ℕ) (i x : ℕ) (v : Bool) (o : Option Bit)
-    → all ≡ out ++ bits_after v (drop i text) → i < length text → x ≡ get_or text i x → o ≡ bit_of x
-    → new ≡ out ++ change_of v o → all ≡ new ++ bits_after (value_after v x o) (drop (i + 1) text)
-bits-at all out new text i x v o a h g e n =
-    a ∙ ap (λ l. out ++ bits_after v l) (drop-at text i x h g)
-    ∙ ap (λ p. out ++ (change_of v p ++ bits_after (value_after v x p) (drop (i + 1) text))) (sym e)
-    ∙ sym (append_assoc out (change_of v o) (bits_after (value_after v x o) (drop (i + 1) text)))
-    ∙ ap (λ l. l ++ bits_after (value_after v x o) (drop (i + 1) text)) (sym n)
 
 -- a text may be cut at its first sign
 sign_at : (xs : List ℕ) → position_or_len is_sign xs < length xs

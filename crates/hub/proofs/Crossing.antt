@@ -1,7 +1,7 @@
 -- Threads may share a hub, and hand back its seats.
 use denote.RattleType.{RattleType}
-use denote.Param.Send.{IsSend, IsSync}
-use denote.Param.SendFields.{declared_send, declared_sync}
+use denote.Param.Send.{IsSync}
+use denote.Param.SendFields.{declared_sync}
 use Rattle.std.specs.declared.sync.ledger.Ledger.{Ghosts}
 use Rattle.hub_ledger.specs.declared.Begun.{Ghosts as Beginnings}
 use Rattle.std.specs.contracts.sync.Mutex as Mutex
@@ -15,9 +15,6 @@ use Rattle.hub_ledger.proofs.seat.Seat.TheSendSync as seat
 use Rattle.hub_ledger.specs.contracts.ledger.Ledger as Ledger
 use Rattle.hub_ledger.specs.contracts.seat.Seat as Seat
 use Rattle.hub.specs.contracts.Hub as Hub
-
-pub hub_send : (L : RattleType) (b : Beginnings L.Denot) (g : Ghosts L.Denot) → IsSend (Hub.the_row L b g)
-hub_send L b g = declared_send (Hub.the_type L b g) (mutex.the_send (Ledger.the_row L b g) (ledger_send L b g), tt)
 
 pub hub_sync : (L : RattleType) (b : Beginnings L.Denot) (g : Ghosts L.Denot) → IsSync (Hub.the_row L b g)
 hub_sync L b g = declared_sync (Hub.the_type L b g) (mutex.the_sync (Ledger.the_row L b g) (ledger_send L b g), tt)

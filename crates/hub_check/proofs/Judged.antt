@@ -24,12 +24,6 @@ pub true_of : (edition : Edition) (owner : UserId) (h : History) (vs : List Verd
 true_of edition owner h [] a = tt
 true_of edition owner h (v ∷ vs) a = (a.0.1, true_of edition owner h vs a.1)
 
-pub both_of : (edition : Edition) (owner : UserId) (h : History) (vs : List Verdict)
-    → AllByRecursion (λ v. is_on_there h v ≡ true) vs → AllByRecursion (IsTrue edition owner h) vs
-    → AreTrue edition owner h vs
-both_of edition owner h [] a b = tt
-both_of edition owner h (v ∷ vs) a b = ((a.0, b.0), both_of edition owner h vs a.1 b.1)
-
 -- ---- lines
 
 -- a line that is no command fits what was refused alone

@@ -11,7 +11,7 @@ use Rattle.hub_trail.specs.Filing as filing
 use Rattle.hub_trail.specs.Filing.{ending_of}
 use Rattle.hub_ledger.specs.Routing.{is_draw}
 use Rattle.hub_ledger.specs.States.{Takes}
-use Rattle.hub_ledger.specs.Seats.{HasReceipt, IsHanded, placed}
+use Rattle.hub_ledger.specs.Seats.{HasReceipt, IsHanded}
 
 one_filed : (o : Option Kept) (step : Entry) → is_some o ≡ true → length (filing.entry_of o step) ≡ 1
 one_filed None step is = absurd (cc (is))
@@ -70,19 +70,6 @@ answered (Some k) place told old new at is same =
     (λ (x : Kept). new.receipts ≡ old.receipts ++ record { place = place; event = x; reply = ending_of told.reply }
     ∷ []) kept is.more.2 in
     (place, at, is.below, same ∙ ap (λ (x : List Receipt). record (stepped old) { receipts = x }) items)
-
-pub unanswered : (o : Option Kept) (told : Told) (old new : Sitting) → is_some o ≡ false → told.place ≡ None
-    → new ≡ stepped old → HasReceipt o told old new
-unanswered None told old new not at same = (at, same)
-unanswered (Some k) told old new not at same = absurd (cc (not))
-
-pub placed_none : (o : Option Kept) (n : ℕ) → is_some o ≡ false → None ≡ placed o n
-placed_none None n not = refl
-placed_none (Some k) n not = absurd (cc (not))
-
-pub placed_some : (o : Option Kept) (n : ℕ) → is_some o ≡ true → Some n ≡ placed o n
-placed_some None n is = absurd (cc (is))
-placed_some (Some k) n is = refl
 
 -- ---- an entry that is handed out
 

@@ -41,10 +41,6 @@ same_at [] more c l = absurd (omega (arith, l))
 same_at (f ∷ forms) more zero l = refl
 same_at (f ∷ forms) more (suc c) l = same_at forms more c (omega (arith, l))
 
-pub last_form : (forms : List Entry) (e : Entry) → slice_get (forms ++ e ∷ []) (length forms) ≡ Some e
-last_form [] e = refl
-last_form (f ∷ forms) e = last_form forms e
-
 -- a form that is stored after the others changes no entry
 pub with_form : (forms more : List Entry) (codes : List ℕ) → Below (length forms) codes
     → listed (forms ++ more) codes ≡ listed forms codes

@@ -20,10 +20,6 @@ all-snoc false xs c e = list_all-append continues xs (c ∷ []) ∙ ap (λ t. li
     and_false true = refl
     and_false false = refl
 
-cond_same : (b : Bool) (xs : List ℕ) → cond b xs xs ≡ xs
-cond_same true xs = refl
-cond_same false xs = refl
-
 snoc : (b : Bool) (xs : List ℕ) (c : ℕ) → continues c ≡ b → shortened (xs ++ c ∷ []) ≡ cond b (shortened xs) xs
 snoc true [] c e = refl
 snoc false [] c e = refl

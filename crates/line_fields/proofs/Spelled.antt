@@ -1,5 +1,5 @@
 -- What an escaped text spells, from its first byte on.
-use Rattle.std.proofs.Common.{◌≡◌, ◌≢◌, ℕ, List, [], ◌∷◌, ◌++◌, length, ap, sym, ◌∙◌, refl, rules, arith, append_assoc}
+use Rattle.std.proofs.Common.{◌≡◌, ◌≢◌, ℕ, List, [], ◌∷◌, ◌++◌, length, ap, ◌∙◌, refl, rules, arith}
 use Rattle.std.proofs.Common.{append-nil}
 use Rattle.std.specs.Prelude.{Bool, true, false, cond, Option, Some, None, option_map}
 use Rattle.line_fields.specs.Texts.{byte_of, put_before, spelled}
@@ -34,15 +34,6 @@ spelled-escape text byte rest high behind low last e h f g = rw (e, h, f, g) ref
 -- what a text spells after bytes that were already read
 abbrev pub behind : List ℕ → Option (List ℕ) → Option (List ℕ)
 behind out bytes = option_map (λ more. out ++ more) bytes
-
-pub behind-nil : (bytes : Option (List ℕ)) → bytes ≡ behind [] bytes
-behind-nil None = refl
-behind-nil (Some bytes) = refl
-
-pub behind-push : (out : List ℕ) (byte : ℕ) (bytes : Option (List ℕ))
-    → behind out (put_before (Some byte) bytes) ≡ behind (out ++ byte ∷ []) bytes
-behind-push out byte None = refl
-behind-push out byte (Some bytes) = ap Some (sym (append_assoc out (byte ∷ []) bytes))
 
 pub behind-end : (out text : List ℕ) → length text ≡ 0 → behind out (spelled text) ≡ Some out
 unfolding spelled

@@ -1,12 +1,9 @@
 -- What a connection takes, write after write.
-use Rattle.std.proofs.Common.{◌≡◌, ◌+◌, ◌∙◌, ℕ, List, [], ◌++◌, take, drop, Option, refl, sym, ap, append_assoc}
-use Rattle.std.proofs.KnownBytes.{Appends-nil, Appends-trans}
+use Rattle.std.proofs.Common.{◌≡◌, ◌+◌, ◌∙◌, ℕ, List, [], ◌++◌, take, drop, Option, sym, ap, append_assoc}
+use Rattle.std.proofs.KnownBytes.{Appends-trans}
 use Rattle.std.proofs.lemmas.List.{drop-drop, take-append-drop}
 use Rattle.client_peer.specs.declared.outgoing.Batch.{Batch}
 use Rattle.server_client.specs.Sending.{SendsSome}
-
-pub sends_none : (known : Option (List ℕ)) (b : Batch) → SendsSome known b known b
-sends_none known b = record { taken = []; whole = refl; appends = Appends-nil known; rest = refl }
 
 pub sends_then : (a b c : Option (List ℕ)) (old middle new : Batch) → SendsSome a old b middle
     → SendsSome b middle c new → SendsSome a old c new

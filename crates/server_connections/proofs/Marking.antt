@@ -162,15 +162,6 @@ module _ (words : List ℕ) (key v : ℕ) (within : key / 64 < length words) (is
       (λ i small other. bit_at_clear_other w64 v (key % 64) (omega arith) i small other
       ∙ ap (λ w. bit_at w i) at_zero)
 
-pub not_changed : (words : List ℕ) (key : ℕ) → IsSameBut key words words
-not_changed words key = record { others = λ k other. same_marks words k; room = refl }
-
--- a word after all others isn't there to be set
-pub set_past : (words : List ℕ) (i w : ℕ) → length words ≤ i → words ≡ set words i w
-set_past [] i w le = refl
-set_past (x ∷ xs) zero w le = absurd (omega arith)
-set_past (x ∷ xs) (suc i) w le = ap (λ ws. x ∷ ws) (set_past xs i w (omega arith))
-
 -- ---- the next mark
 
 -- none is marked from a key on, before another one

@@ -6,7 +6,7 @@ use Rattle.std.proofs.Math.Seq.{paste}
 use Rattle.std.specs.Prelude.{nat_le, if◌then◌else◌}
 use Rattle.std.proofs.lemmas.Bool.{leb-true}
 use Rattle.std.proofs.lemmas.List.{append-nil, drop_all, take_all, length-take-le, drop_more}
-use Rattle.std.proofs.lemmas.List.{drop-drop, take_rest, drop-set-lt, take_more_set}
+use Rattle.std.proofs.lemmas.List.{drop-drop, drop-set-lt, take_more_set}
 use Rattle.std.proofs.lemmas.List.Edits.{take-paste, drop-paste}
 use Rattle.acl.specs.declared.user_id.UserId.{UserId}
 use Rattle.acl.specs.Same.{same_user}
@@ -143,15 +143,6 @@ bytes_next user at to n to_next f fs b made less upto within fits is next =
     ∙ append_assoc (take to b) (take n (drop at b)) (rest (drop end made))
     ∙ ap (λ (l : List ℕ). take to b ++ (take n (drop at b) ++ rest l)) (behind ∙ sym past)
     ∙ ap (λ k. take to b ++ (take k (drop at b) ++ rest (drop (end - at) (drop at b)))) (omega (arith, upto))
-
--- the bytes after the last frame are moved
-pub bytes_last : (at to left : ℕ) (b made : List ℕ) → to ≤ at → at ≤ length b
-    → made ≡ paste b to (drop at b) (length b - at)
-    → left ≡ to + (length b - at) → take left made ≡ take to b ++ drop at b
-bytes_last at to left b made less most is long =
-    ap (λ k. take k made) long ∙ ap (λ (l : List ℕ). take (to + (length b - at)) l) is
-    ∙ take-paste b to (drop at b) (length b - at) (omega (arith, less, most)) (omega (arith, most, length-drop at b))
-    ∙ ap (λ (l : List ℕ). take to b ++ l) (take_rest b at)
 
 pub his_goes : (user : UserId) (gone i : ℕ) (fs : List TypedFrame) (d : TypedFrame) → i < length fs
     → same_user (get_or fs i d).user user ≡ true

@@ -1,7 +1,7 @@
 -- The bytes that are written after those that were there, and the bytes that a reader has left.
 use Rattle.std.proofs.Common.{◌≡◌, ℕ, ◌+◌, ◌<◌, List, [], ◌∷◌, ◌++◌, length, take, drop, Option}
 use Rattle.std.proofs.Common.{Some, None, refl, sym, ◌∙◌, ap, subst, arith, append_assoc}
-use Rattle.std.specs.Prelude.{slice_get, Bool, true, Result, Ok, Err, IfOk}
+use Rattle.std.specs.Prelude.{slice_get}
 use Rattle.std.specs.Io.KnownBytes.{Appends}
 use Rattle.std.proofs.lemmas.List.{take_more}
 use Rattle.std.proofs.Math.Seq.{take-add}
@@ -11,9 +11,7 @@ use Rattle.hub.specs.Trails.{Entry}
 use Rattle.trail_lines.specs.Entries.{line_of}
 use Rattle.trail_lines.specs.declared.halt.NextLine.TheVariants as came
 use Rattle.trail_lines.specs.Lines.{ComesAs, OfKnown}
-use Rattle.trail_lines.specs.declared.header.Header.{Header}
-use Rattle.trail_lines.specs.Heading.{header_text}
-use Rattle.server_trail.specs.Files.{Cuts, AreLines, Reads, ReadsLines, IsLastOf, IsTrailOf}
+use Rattle.server_trail.specs.Files.{Cuts, AreLines, Reads, ReadsLines}
 
 -- ---- writing
 
@@ -70,27 +68,4 @@ line_more entries place e line (Some bytes) (Some rest) (Some more) at a c is =
     subst (λ es. AreLines 0 es bytes more) (sym front) (one_more 0 place (take place entries) e bytes
     rest more is.0 long a (c ∙ ap (λ l. l ++ 0x0A ∷ more) is.1))
 
--- a whole file: a first line, the lines of entries, a last line, and nothing after it
-pub trail_read : (header : Header) (entries : List Entry) (old one two three : Option (List ℕ)) (first last : List ℕ)
-    → Cuts old first one → first ≡ header_text header → ReadsLines entries one two → Cuts two last three
-    → IsLastOf last (length entries) → Reads three (λ bytes. bytes ≡ []) → Reads old (IsTrailOf header entries)
-trail_read header entries None one two three first last a is b c d e = tt
-trail_read header entries (Some bytes) None two three first last a is b c d e = absurd a
-trail_read header entries (Some bytes) (Some xs) None three first last a is b c d e = absurd b
-trail_read header entries (Some bytes) (Some xs) (Some ys) None first last a is b c d e = absurd c
-trail_read header entries (Some bytes) (Some xs) (Some ys) (Some zs) first last a is b c d e = record {
-  lines = xs;
-  last = last;
-  is = a ∙ ap (λ l. l ++ 0x0A ∷ xs) is;
-  are_lines = subst (λ rest. AreLines 0 entries xs rest) (c ∙ ap (λ rest. last ++ 0x0A ∷ rest) e) b;
-  is_last = d;
 }
-
-pub over_read : {E : Type 0} (r : Result Bool E) (header : Header) (entries : List Entry)
-    (old one two three : Option (List ℕ)) (first last : List ℕ) → Cuts old first one → first ≡ header_text header
-    → ReadsLines entries one two → Cuts two last three → IsLastOf last (length entries)
-    → IfOk r (λ is. is ≡ true → Reads three (λ bytes. bytes ≡ []))
-    → IfOk r (λ is. is ≡ true → Reads old (IsTrailOf header entries))
-over_read (Ok is) header entries old one two three first last a same b c d e =
-    λ over. trail_read header entries old one two three first last a same b c d (e over)
-over_read (Err x) header entries old one two three first last a same b c d e = tt

@@ -7,7 +7,7 @@ use Rattle.std.proofs.Common.{not, ◌||◌}
 use Rattle.std.specs.Prelude.{All}
 use Rattle.std.specs.List.{Contains, list_any}
 use Rattle.std.proofs.lemmas.List.{map-append}
-use Rattle.std.proofs.lemmas.List.Elements.{Contains-append_right, All-nil, All-push, All-head, All-tail}
+use Rattle.std.proofs.lemmas.List.Elements.{Contains-append_right, All-push, All-head, All-tail}
 use Rattle.indexmap.specs.IndexSet.{insert_key}
 use Rattle.acl.specs.Names.{named_by}
 use Rattle.server_users.specs.Stands.{IsNamed}
@@ -83,9 +83,6 @@ has_user (u ∷ us) k named all w =
     (cons_cases (name_of u.id) (name_of k) (names (entries_of us)) w.0 w.1 w.2)
 
 -- ---- the set of those that were seen
-
-pub none_seen : (keys : List UserId) → keys ≡ [] → HasSeen keys []
-none_seen keys e = record { users = e; named = subst (All IsNamed) (sym e) (All-nil IsNamed) }
 
 -- a name that isn't new is on an earlier line
 pub was_seen : (keys : List UserId) (us : List User) (k : UserId) (new : Bool) → HasSeen keys us

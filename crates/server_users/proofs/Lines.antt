@@ -149,11 +149,6 @@ pub push_entry : (us : List User) (u : User)
     → entries_of (us ++ u ∷ []) ≡ entries_of us ++ entry_of u ∷ []
 push_entry us u = map-append entry_of us (u ∷ [])
 
-pub moved_name : (us vs : List User) (n m : List ℕ) → us ≡ vs → n ≡ m
-    → Contains (names (entries_of us)) n → Contains (names (entries_of vs)) m
-moved_name us vs n m e f w = subst (Contains (names (entries_of vs))) f (subst (λ l. Contains
-    (names (entries_of l)) n) e w)
-
 pub some_of : (n : ℕ) → (n ≡ 0 → ⊥) → 0 < n
 some_of zero h = absurd (h refl)
 some_of (suc n) h = omega arith

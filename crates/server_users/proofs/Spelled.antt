@@ -40,6 +40,3 @@ parts u front digits name b is e n f =
 pub one_name : (u v : Entry) → IsUser u → IsUser v → spelled u ≡ spelled v → u.name ≡ v.name
 one_name u v is too e = (parts u (v.name ++ 0x20 ∷ []) v.token v.name 0x20 is (e
     ∙ sym (append_assoc v.name (0x20 ∷ []) v.token)) (digits_of v too) refl).0
-
-pub some_bytes : (u : Entry) → spelled u ≡ [] → ⊥
-some_bytes u e = omega (arith, ap length e, length-append u.name (0x20 ∷ u.token))

@@ -1,9 +1,9 @@
 -- Lines that are played one after another.
-use Rattle.session.proofs.Vocabulary.{ℕ, ◌<◌, ◌≡◌, refl, sym, ◌∙◌, ap, subst, List, [], ◌∷◌, ◌++◌, map, length, arith}
+use Rattle.session.proofs.Vocabulary.{ℕ, ◌<◌, ◌≡◌, refl, sym, ◌∙◌, ap, subst, List, [], ◌∷◌, ◌++◌, map}
 use Rattle.session.proofs.Vocabulary.{Option, Some, None, append_assoc, flat_map-append, append-nil, map-append}
-use Rattle.session.proofs.Vocabulary.{Appends, Keeps, EventValue, Entry, Trace, with_step, StandsFor, with_steps}
-use Rattle.session.proofs.Vocabulary.{AllSteps, KeepsPromise, Session, event_of, filled, Plays, IsBad, step_lines}
-use Rattle.session.proofs.Vocabulary.{printed, Runs, Played}
+use Rattle.session.proofs.Vocabulary.{Appends, Keeps, Entry, Trace, with_step, StandsFor, with_steps}
+use Rattle.session.proofs.Vocabulary.{AllSteps, KeepsPromise, Session, event_of, filled, Plays, step_lines}
+use Rattle.session.proofs.Vocabulary.{printed, Played}
 use Rattle.session.proofs.Serving.{with_steps-append, serves_before, serves_on}
 
 -- ---- known bytes
@@ -13,12 +13,6 @@ keeps_on None b c bytes before behind = tt
 keeps_on (Some olds) None c bytes before behind = absurd before
 keeps_on (Some olds) (Some bs) None bytes before behind = absurd behind
 keeps_on (Some olds) (Some bs) (Some cs) bytes before behind = behind ∙ before
-
-pub appends_kept : (a b c : Option (List ℕ)) (bytes : List ℕ) → Keeps a b → Appends b c bytes → Appends a c bytes
-appends_kept None b c bytes before behind = tt
-appends_kept (Some olds) None c bytes before behind = absurd before
-appends_kept (Some olds) (Some bs) None bytes before behind = absurd behind
-appends_kept (Some olds) (Some bs) (Some cs) bytes before behind = behind ∙ ap (λ xs. xs ++ bytes) before
 
 pub appends_on : (a b c : Option (List ℕ)) (xs ys : List ℕ) → Appends a b xs → Appends b c ys → Appends a c (xs ++ ys)
 appends_on None b c xs ys before behind = tt
@@ -49,10 +43,6 @@ filled-append [] ys = refl
 filled-append ([] ∷ xs) ys = filled-append xs ys
 filled-append ((byte ∷ bytes) ∷ xs) ys = ap (λ ls. (byte ∷ bytes) ∷ ls) (filled-append xs ys)
 
-filled_one : (line : List ℕ) → 0 < length line → filled (line ∷ []) ≡ line ∷ []
-filled_one [] some = absurd (omega arith)
-filled_one (byte ∷ bytes) some = refl
-
 -- no line
 pub none_played : (h : Trace) (s : Session) (known : Option (List ℕ)) → StandsFor h s → Played h [] s known known
 none_played h s known st = record {
@@ -62,35 +52,9 @@ none_played h s known st = record {
   prints = appends_none known;
 }
 
--- an empty line
-pub empty_played : (h : Trace) (s : Session) (line : List ℕ) (known : Option (List ℕ)) → line ≡ [] → StandsFor h s
-    → Played h (line ∷ []) s known known
-empty_played h s line known empty st = record {
-  steps = [];
-  plays = record { events = []; understood = ap (λ l. map event_of (filled (l ∷ []))) empty; serves = refl; run = tt };
-  stands = st;
-  prints = appends_none known;
 }
 
--- a line that is an event
-pub one_played : (h : Trace) (line : List ℕ) (event : EventValue) (s : Session) (a b : Option (List ℕ))
-    → 0 < length line → event_of line ≡ Some event → Runs h event s a b
-    → Played h (line ∷ []) s a b
-one_played h line event s a b some is runs = record {
-  steps = runs.steps;
-  plays = record {
-    events = event ∷ [];
-    understood = ap (λ ls. map event_of ls) (filled_one line some) ∙ ap (λ e. e ∷ []) is;
-    serves = runs.serves;
-    run = runs.run;
-  };
-  stands = runs.stands;
-  prints = runs.prints;
 }
-
--- a line that is none
-pub bad_line : (line : List ℕ) → 0 < length line → event_of line ≡ None → IsBad line
-bad_line line some is = ap (λ ls. map event_of ls) (filled_one line some) ∙ ap (λ e. e ∷ []) is
 
 -- lines after others
 plays_on : (h : Trace) (xs ys : List (List ℕ)) (before behind : List Entry) → Plays h xs before

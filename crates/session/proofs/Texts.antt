@@ -33,10 +33,6 @@ same_replies more event [] same = refl
 same_replies more event (reply ∷ replies) same = ap (λ xs. xs ++ flat_map (reply_line more) replies) (same reply)
     ∙ ap (λ xs. reply_line event reply ++ xs) (same_replies more event replies same)
 
-no_steps : (steps : List Entry) → Serves [] steps [] → steps ≡ []
-no_steps [] serves = refl
-no_steps (e ∷ steps) serves = absurd serves
-
 abbrev pub text_of_steps : EventValue → List Entry → List ℕ
 text_of_steps event steps = flat_map effect_line (effects_of steps) ++ flat_map (reply_line event) (replies_of steps)
 

@@ -3,7 +3,7 @@ use Rattle.session_commands.proofs.Vocabulary.{◌≡◌, ℕ, ◌+◌, ◌<◌,
 use Rattle.session_commands.proofs.Vocabulary.{None, length, map, take, drop, get_or, refl, ap, sym, ◌∙◌, inl, inr}
 use Rattle.session_commands.proofs.Vocabulary.{append_assoc, append-nil, if◌then◌else◌, not, filter, nat_eq, slice_get}
 use Rattle.session_commands.proofs.Vocabulary.{list_any, option_map, option_or, option_and_then, map-append, UserId}
-use Rattle.session_commands.proofs.Vocabulary.{Object, same_user, named_by, Table, StandsFor, users_in, Refusal, Tables}
+use Rattle.session_commands.proofs.Vocabulary.{Object, same_user, named_by, Refusal, Tables}
 use Rattle.session_commands.proofs.Vocabulary.{is_wide, item_objects, objects_of, every_window, every_command, if_true}
 use Rattle.session_commands.proofs.Vocabulary.{if_false, mapped_match, WindowStands, StandFor, window_object, wide}
 use Rattle.std.specs.Prelude.{cond}
@@ -17,18 +17,11 @@ use Rattle.command_lang.specs.declared.command.Users.{Users}
 use Rattle.command_lang.specs.declared.command.Users.TheVariants as users
 use Rattle.session_model.specs.Tables as model
 use Rattle.session_model.specs.Tables.{others}
-use Rattle.session_model.specs.Naming.{scopes_of, word_scope}
+use Rattle.session_model.specs.Naming.{scopes_of}
 use Rattle.windows.specs.declared.window.Window.{Window}
-use Rattle.session_commands.specs.Asked.{other_names, object_named, NamesNothing, lone_word, names_in}
+use Rattle.session_commands.specs.Asked.{object_named, NamesNothing, lone_word, names_in}
 
 -- ---- users
-
--- all known users but the owner are those of all tables that the lists stand for
-pub others_stand : (t : Tables) (a : Table) → StandsFor a t.edition t.owner t.acts
-    → other_names a ≡ map (λ u. Some u) (others t)
-others_stand t a st =
-    ap (λ (o : UserId). map (λ u. Some u) (filter (λ u. not (same_user o u)) (users_in a))) st.owned
-    ∙ ap (λ (us : List UserId). map (λ u. Some u) (filter (λ u. not (same_user t.owner u)) us)) st.users
 
 module _ (owner : UserId) (users : List UserId) (i : ℕ) (names : List (Option UserId)) (inside : i < length users)
     (before : names ≡ map (λ u. Some u) (filter (λ u. not (same_user owner u)) (take i users))) where
@@ -104,10 +97,6 @@ pub one_named : (t : Tables) (item : List ℕ) (o : Object) → is_wide item ≡
     → item_objects t item ≡ Some (o ∷ [])
 one_named t item o is named = narrow t item is ∙ ap (option_map (λ x. x ∷ [])) (sym named)
 
-pub none_named : (t : Tables) (item : List ℕ) → is_wide item ≡ false → None ≡ object_named t item
-    → item_objects t item ≡ None
-none_named t item is named = narrow t item is ∙ ap (option_map (λ x. x ∷ [])) (sym named)
-
 regrouped : (objects more : List Object) (rest : Option (List Object))
     → option_map (λ os. objects ++ os) (option_map (λ os. more ++ os) rest) ≡ option_map (λ os. (objects ++ more) ++ os)
     rest
@@ -141,14 +130,6 @@ nothing_named P Q r s is on (inr p) = inr (is ∙ p.0, on p.1)
 map_map : {A B C : Type 0} (g : B → C) (f : A → B) (xs : List A) → map g (map f xs) ≡ map (λ x. g (f x)) xs
 map_map g f [] = refl
 map_map g f (x ∷ xs) = ap (λ ys. g (f x) ∷ ys) (map_map g f xs)
-
-pub lone_scope : (t : Tables) (u : Option Users) (word : List ℕ) → lone_word u ≡ Some word
-    → scopes_of t u ≡ word_scope word ∷ []
-lone_scope t (Some (users.Listed (w ∷ []))) word is = let e : w ≡ word = cc (is) in ap (λ x. word_scope x ∷ []) e
-lone_scope t (Some (users.Listed (w ∷ v ∷ ws))) word is = absurd (cc (is))
-lone_scope t (Some (users.Listed [])) word is = absurd (cc (is))
-lone_scope t (Some users.All) word is = absurd (cc (is))
-lone_scope t None word is = absurd (cc (is))
 
 pub other_scopes : (t : Tables) (u : Option Users) → lone_word u ≡ None → map scope.User (names_in t u) ≡ scopes_of t u
 other_scopes t (Some (users.Listed (w ∷ []))) is = absurd (cc (is))

@@ -1,11 +1,10 @@
 -- The window that a number names is found again by its serial.
-use Rattle.session_input.proofs.Vocabulary.{◌≡◌, ◌<◌, ℕ, Bool, true, false, List, [], ◌∷◌, Option, Some, None, ap, sym}
+use Rattle.session_input.proofs.Vocabulary.{◌≡◌, ◌<◌, ℕ, Bool, true, false, List, [], ◌∷◌, Option, Some, ap, sym}
 use Rattle.session_input.proofs.Vocabulary.{subst, ◌∙◌, arith, ◌==◌, if◌then◌else◌, AllByRecursion, Tables, row_of}
 use Rattle.session_input.proofs.Vocabulary.{window_at, with_number, Rises, both_back, if_true, State, Stands, AreFit}
 use Rattle.std.proofs.lemmas.Bool.Decides.{nat_tests}
 use Rattle.session_model.specs.Tables as model
 use Rattle.session_model.specs.Sound.{window_serials}
-use Rattle.windows_model.proofs.Matching.{none_back}
 use Rattle.windows_model.proofs.Serials.{if_false, same_number}
 use Rattle.windows.specs.Standing.{WindowStands, Finds}
 use Rattle.windows.specs.declared.window.Window.{Window}
@@ -54,9 +53,3 @@ numbered_there t s n found w st fit finds is =
     ap (window_at t) row.2.serial_is
     ∙ number_row t.windows t.next_window n row.0 fit.sound.windows_rise row.1
     ∙ sym row.1
-
-pub numbered_none : (t : Tables) (s : State) (n : ℕ) (found : Option Window)
-    → Stands t s → Finds (λ rows. with_number rows n) s.windows found → found ≡ None
-    → with_number t.windows n ≡ None
-numbered_none t s n found st finds is =
-    none_back WindowStands (with_number t.windows n) found (finds t.windows st.windows) is

@@ -1,5 +1,5 @@
 -- A list that grew by an item has the text of one more item.
-use Rattle.session_state.proofs.Vocabulary.{◌≡◌, ℕ, Bool, true, false, List, [], ◌∷◌, ◌++◌, refl, ap, sym, ◌∙◌}
+use Rattle.session_state.proofs.Vocabulary.{◌≡◌, ℕ, Bool, false, List, [], ◌∷◌, ◌++◌, refl, ap, sym, ◌∙◌}
 use Rattle.session_state.proofs.Vocabulary.{append_assoc, subst, length, ◌<◌, ◌+◌, ◌≤◌, get_or, map, take, codes}
 use Rattle.session_state.proofs.Vocabulary.{map_more, take_all, separated, separator, IsList}
 use Rattle.session_state.specs.Items.{has_none, separated_more}
@@ -7,9 +7,6 @@ use Rattle.session_state.specs.Items.{has_none, separated_more}
 has_more : (items : List (List ℕ)) (item : List ℕ) → has_none (items ++ item ∷ []) ≡ false
 has_more [] item = refl
 has_more (i ∷ items) item = refl
-
-pub list_none : IsList [] true []
-list_none = record { text_is = refl; first_is = refl }
 
 -- one more item, after the separator
 pub list_more : (items : List (List ℕ)) (is_first : Bool) (item text between new : List ℕ)

@@ -25,17 +25,6 @@ part_in_focus t user back (Some serial) = part_of_window t user back (window_at 
 
 -- ---- one region
 
--- no window, or one that isn't there
-pub nothing_shown : (t : Tables) (user : UserId) (shown : Shown) → shown.window ≡ None
-    → part_shown t user shown ≡ view.vacant
-nothing_shown t user shown none = ap (part_in_focus t user shown.back) none
-
-pub missing_shown : (t : Tables) (user : UserId) (shown : Shown) (serial : ℕ)
-    → shown.window ≡ Some serial → window_at t serial ≡ None
-    → part_shown t user shown ≡ view.vacant
-missing_shown t user shown serial at none =
-    ap (part_in_focus t user shown.back) at ∙ ap (part_of_window t user shown.back) none
-
 module _ (t : Tables) (user : UserId) (shown : Shown) (serial : ℕ) (m : model.Window)
     (at : shown.window ≡ Some serial) (here : window_at t serial ≡ Some m) where
   own : m.serial ≡ serial

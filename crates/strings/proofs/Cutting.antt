@@ -40,10 +40,6 @@ pub record IsCutTo (cs : List ℕ) (words : List Word) (left : List ℕ) : Type 
   pub short : length left ≤ length cs
   pub small : size left ≤ size cs
 
-pub cut-start : (cs : List ℕ) (words : List Word) → words ≡ [] → IsCutTo cs words cs
-cut-start cs words e = record
-    { goes_on = λ ws k. subst (λ l. Line (size cs) cs (l ++ ws)) (sym e) k; short = omega arith; small = omega arith }
-
 pub cut-blank : (cs : List ℕ) (words : List Word) (left : List ℕ) (c : ℕ) → IsCutTo cs words left → 1 ≤ length left
     → c ≡ get_or left 0 c → c ≡ 0x20
     → IsCutTo cs words (take (length left - 1) (drop 1 left))

@@ -3,7 +3,6 @@ use Rattle.std.proofs.Common.{◌≡◌, ℕ, zero, suc, ◌-◌, ◌≤◌, Lis
 use Rattle.std.proofs.Common.{◌∙◌, subst, arith, append_assoc, Option, Some, true≢false}
 use Rattle.std.specs.Option.{is_some}
 use Rattle.std.proofs.Math.Seq.{take-length}
-use Rattle.std.proofs.lemmas.List.{append-nil}
 use Rattle.std.proofs.lemmas.Str.{encodes-append}
 use Rattle.std.specs.Str.{encode_utf8_all}
 use Rattle.strings.specs.Grammar.{octal_front}
@@ -35,10 +34,6 @@ pub record IsAhead (Kind : List ℕ → List ℕ → Option (List ℕ) → Type 
   pub put : now ≡ old ++ encode_utf8_all done
   pub goes_on : (text : List ℕ) (rest : Option (List ℕ)) → Kind left text rest → Kind cs (done ++ text) rest
   pub shorter : length left ≤ length cs
-
-pub ahead-start : (Kind : List ℕ → List ℕ → Option (List ℕ) → Type 0) (cs old : List ℕ) → IsAhead Kind cs old old cs
-ahead-start Kind cs old = record
-    { done = []; put = sym (append-nil old); goes_on = λ text rest k. k; shorter = omega arith }
 
 -- one more thing was read
 pub ahead-more : (Kind : List ℕ → List ℕ → Option (List ℕ) → Type 0) (cs old now left : List ℕ)

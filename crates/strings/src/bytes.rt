@@ -49,6 +49,14 @@ impl Bytes {
         Bytes { items }
     }
 
+    /// The vector of these bytes.
+    pub fn into_vec(self) -> Vec<u8>
+        ensures { result.items ≡ self }
+    {
+        let Bytes { items } = self;
+        items
+    }
+
     /// Appends the byte, if there is one. `AllocError` if memory is refused.
     pub fn push_some(&mut self, byte: Option<u8>) -> Result<(), AllocError>
         ensures ok { OnOk result (self.new ≡ self.old ++ option_to_list byte) }

@@ -114,15 +114,6 @@ module _ (edition : Edition) (owner : UserId) (h : History) where
 
 -- ---- aclchg of names that become known
 
-among_front : (xs ys : List UserId) (u : UserId) → among (xs ++ ys) u ≡ false → among xs u ≡ false
-among_front [] ys u new = refl
-among_front (x ∷ xs) ys u new = at (same_user u x) refl new (λ e. among_front xs ys u e)
-  where
-    at : (b : Bool) → same_user u x ≡ b → (b || among (xs ++ ys) u) ≡ false
-        → (among (xs ++ ys) u ≡ false → among xs u ≡ false) → (b || among xs u) ≡ false
-    at true e f later = absurd (cc (f))
-    at false e f later = later f
-
 middle_apart : (xs : List UserId) (y : UserId) (ys : List UserId) (u : UserId) → among (xs ++ y ∷ ys) u ≡ false
     → same_user u y ≡ false
 middle_apart [] y ys u new = first (same_user u y) (among ys u) new

@@ -41,10 +41,6 @@ abbrev pub ShowsOn : ℕ → List ℕ → List ℕ → Type 0
 ShowsOn number bytes rest =
     (n : ℕ) (stopped : Option ℕ) → ShowsTo n number rest stopped → ShowsFrom 2 stopped bytes
 
-pub show_begun : (a : Option (List ℕ)) → OfKnown a a (ShowsOn 2)
-show_begun None = tt
-show_begun (Some bytes) = λ n stopped shows. (n, shows)
-
 pub shown_on : (number : ℕ) (a b c : Option (List ℕ)) → OfKnown a b (ShowsOn number)
     → OfKnown b c (ShowsAs kind.Entry) → OfKnown a c (ShowsOn (number + 1))
 shown_on number None b c on come = tt

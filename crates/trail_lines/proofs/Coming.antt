@@ -103,11 +103,3 @@ came_torn (Some xs) new begun all front last other empty bytes rest is =
     let t = torn xs front last other (read_of xs begun all (front ++ last ∷ []) empty bytes is) in
     subst (λ (n : Option (List ℕ)). OfKnown (Some xs) n (ComesAs came.Torn (front ++ last ∷ []))) (sym rest)
     (t.0, some_end front last, t.1, t.2)
-
-pub came_nothing : (old new : Option (List ℕ)) (begun all line : List ℕ) → begun ≡ [] → Read old begun all
-    → DropsThrough old new feed → all ≡ [] → line ≡ [] → OfKnown old new (ComesAs came.Nothing line)
-came_nothing None new begun all line empty bytes rest is none = tt
-came_nothing (Some xs) new begun all line empty bytes rest is none =
-    let end : xs ≡ [] = take_through-nil feed xs (ap length (read_of xs begun all [] empty bytes is)) in
-    subst (λ (n : Option (List ℕ)). OfKnown (Some xs) n (ComesAs came.Nothing line)) (sym rest)
-    (end, none, ap (drop_through feed) end)

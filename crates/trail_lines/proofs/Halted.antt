@@ -44,10 +44,6 @@ read_more said x line number (Some bytes) (Some mid) None a next is = absurd nex
 read_more said x line number (Some bytes) (Some mid) (Some rest) a next is =
     one_more said x line bytes mid rest a next.0 next.1 is
 
-pub read_none : (old : Option (List ℕ)) → OfKnown old old (AreRead [])
-read_none None = tt
-read_none (Some bytes) = refl
-
 -- ---- what halts it
 
 pub read_to : (h : Halt) (said : List Said) (line : List ℕ) (number : ℕ) (old mid new : Option (List ℕ))

@@ -71,12 +71,3 @@ leaves_both a b c h k = record {
       k.rest
       ∙ ap (λ (v : Visitor). record v { wire = c.wire; input = c.input; identity = c.identity }) h.rest;
 }
-
--- bytes that were taken are dropped
-pub leaves_input : (a b c : Visitor) → Leaves a b → c ≡ record b { input = c.input } → Leaves a c
-leaves_input a b c h e =
-    leaves_both a b c h (record {
-      adds = same_adds b.wire c.wire (ap (λ (v : Visitor). v.wire) e);
-      sent = ap (λ (v : Visitor). v.wire.sent) e;
-      rest = e ∙ sym (ap (λ (v : Visitor). record b { wire = v.wire; input = c.input; identity = v.identity }) e);
-    })

@@ -1,8 +1,8 @@
 -- Frames that are read one after another.
-use Rattle.std.proofs.Common.{◌≡◌, ◌⊎◌, ℕ, suc, ◌+◌, ◌<◌, Bool, true, false, List, ◌++◌, take}
+use Rattle.std.proofs.Common.{◌≡◌, ◌⊎◌, ℕ, suc, ◌+◌, ◌<◌, false, List, ◌++◌, take}
 use Rattle.std.proofs.Common.{drop, length, Option, option_map}
 use Rattle.std.proofs.Common.{Result, Ok, Err}
-use Rattle.std.proofs.Common.{◌≤◌, ◌-◌, refl, sym, ap, ◌∙◌, subst, inl, inr, arith, length-drop, append_assoc}
+use Rattle.std.proofs.Common.{◌≤◌, ◌-◌, refl, sym, ap, ◌∙◌, subst, inl, inr, arith, append_assoc}
 use Rattle.std.proofs.Math.Seq.{take-append_seam}
 use Rattle.std.proofs.lemmas.List.{drop-drop, drop-take, drop_at, length-take}
 use Rattle.websocket.specs.declared.error.Error.{Error}
@@ -12,7 +12,6 @@ use Rattle.websocket.specs.declared.protocol.frame.codec.FrameStatus.TheVariants
 use Rattle.websocket.specs.Content.{Content, received_content}
 use Rattle.websocket.specs.Connection.{Connection, Effect}
 use Rattle.websocket.specs.View.{Returns, ReadLeaves}
-use Rattle.websocket.proofs.StreamLemmas.{TookFrame_from_read}
 use Rattle.web_client.specs.declared.identity.Identity.{Identity}
 use Rattle.web_client.specs.declared.wire.Phase.TheVariants.{Socket, Last}
 use Rattle.web_client.specs.declared.frame.PageFrame.{PageFrame}
@@ -52,13 +51,6 @@ pub leaves : (r : Result (FrameStatus (ℕ × Effect)) Error) (before after : Co
 leaves (Err e) before after old new f h is = absurd h
 leaves (Ok (Partial n)) before after old new f h is = absurd (cc is)
 leaves (Ok (Complete g)) before after old new f h is = let same : g ≡ f = cc is in rw same at h.0
-
--- a frame that was read is gone from the bytes that wait
-pub shrinks : (f : ℕ × Effect) (old new : Page) → IsRead f old new → length new.waiting < length old.waiting
-shrinks f old new h =
-    let t = TookFrame_from_read old.socket old.waiting f h.next in
-    let e : length new.waiting ≡ length (drop f.0 old.waiting) = ap length h.waiting in
-    omega (arith, e, t.not_empty, t.inside, length-drop f.0 old.waiting)
 
 -- ---- a loop over the frames
 
@@ -162,15 +154,6 @@ after_none watcher count old now next w e r s =
         inr (h.0, elim h.1 [ inl b ↦ inl (b, s) | inr c ↦ inr (inl (c.0, c.1, c.2, s)) ]),
       )
     ]
-
--- 64 frames were taken, or the connection has ended
-pub after_all : {A : Type 0} (watcher : Option A) (count : ℕ) (old now : Page) (more : Bool)
-    → Went watcher count old now → (now.phase ≡ Socket → count ≡ 64) → (more ≡ true → now.phase ≡ Socket)
-    → (now.phase ≡ Socket → more ≡ true) → TakesSome watcher old now more
-after_all watcher count old now true w n f g =
-    (count, now, going watcher count old now w (f refl), (n (f refl), refl))
-after_all watcher count old now false w n f g =
-    elim w [ inl h ↦ absurd (cc (g h.1)) | inr h ↦ (h.0, h.1, h.2, inr (h.3, h.4)) ]
 
 -- bytes that were read are counted with those that were read before
 pub further : (taken count : ℕ) (old new : Page) (said : PageFrame) (items rest : List ℕ)

@@ -11,9 +11,7 @@ use Rattle.websocket.specs.declared.protocol.frame.coding.OpCode.TheVariants as 
 use Rattle.websocket.specs.declared.protocol.frame.coding.Data.TheVariants.{Text}
 use Rattle.websocket.specs.declared.protocol.frame.coding.Control.TheVariants.{Ping}
 use Rattle.websocket.specs.Connection.{Connection, Effect, Outgoing, Sends}
-use Rattle.websocket.specs.View.{Leaves, ReadLeaves}
-use Rattle.websocket.specs.declared.protocol.frame.codec.FrameStatus.{FrameStatus}
-use Rattle.websocket.specs.declared.protocol.frame.codec.FrameStatus.TheVariants.{Partial, Complete}
+use Rattle.websocket.specs.View.{Leaves}
 use Rattle.web_client.specs.declared.wire.SentPage.{SentPage}
 use Rattle.web_client.specs.declared.wire.Wire.{Wire}
 use Rattle.web_page.specs.Hearing.{WebDisplay}
@@ -92,13 +90,6 @@ on_ok (Err e) P h = tt
 pub then_same : {A E : Type 0} (r : Result A E) (a b c : ℕ) → b ≡ a → c ≡ b → OnOk r (c ≡ a)
 then_same (Ok u) a b c h k = k ∙ h
 then_same (Err e) a b c h k = tt
-
--- what a read adds
-pub read_adds : (r : Result (FrameStatus (ℕ × Effect)) Error) (before after : Connection) (old new : List ℕ)
-    → ReadLeaves r before after old new → (more : List ℕ) × (new ≡ old ++ more)
-read_adds (Err e) before after old new h = absurd h
-read_adds (Ok (Partial n)) before after old new h = ([], h.1 ∙ sym (append-nil old))
-read_adds (Ok (Complete p)) before after old new h = leaves_adds (Ok p.1) after old new h
 
 pub ends : {A E : Type 0} (r : Result A E) (refusal : Option (List ℕ)) (told : Option Why) (why : Why)
     (old v new : Wire) → told ≡ Some why → Explains refusal old v → OnOk r (TellsLast (gone why) v new)

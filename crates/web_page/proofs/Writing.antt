@@ -157,19 +157,6 @@ new_run_at s o p q after last c rs es r h ep eq ea =
 
 -- ---- lists that are written one item after another
 
-pub item_more : {X : Type 0} (f : X → List ℕ) (xs : List X) (i : ℕ) (d : X) (out after start : List ℕ)
-    → i < length xs → out ++ flat_map f (drop i xs) ≡ start → after ≡ out ++ f (get_or xs i d)
-    → after ++ flat_map f (drop (i + 1) xs) ≡ start
-item_more f xs i d out after start l a b =
-    ap (λ l. l ++ flat_map f (drop (i + 1) xs)) b
-    ∙ (append_assoc out (f (get_or xs i d)) (flat_map f (drop (i + 1) xs))
-    ∙ (ap (λ l. out ++ flat_map f l) (sym (drop_more xs i d l)) ∙ a))
-
-pub items_end : {X : Type 0} (f : X → List ℕ) (xs : List X) (i : ℕ) (out start : List ℕ) → length xs ≤ i
-    → out ++ flat_map f (drop i xs) ≡ start → out ≡ start
-items_end f xs i out start l a =
-    sym (append-nil out) ∙ (ap (λ l. out ++ flat_map f l) (sym (drop_all i xs l)) ∙ a)
-
 -- the characters of a text: those that were yielded are written
 pub text_more : (cs ys : List ℕ) (c : ℕ) (all now new : List ℕ) → (length ys < length cs)
     × (c ≡ get_or cs (length ys) c)
@@ -249,9 +236,3 @@ rows_end since i rows out start l a =
     ∙ (ap (λ l. out ++ flat_map spelled_row (newer since i l)) (sym (drop_all i rows l)) ∙ a)
 
 -- ---- an update
-
-pub five_put : (a b c d e o p q r s : List ℕ) → o ≡ a → p ≡ o ++ b → q ≡ p ++ c → r ≡ q ++ d → s ≡ r ++ e
-    → s ≡ a ++ (b ++ (c ++ (d ++ e)))
-five_put a b c d e o p q r s eo ep eq er es =
-    es ∙ (ap (λ l. l ++ e) (er ∙ ap (λ l. l ++ d) (eq ∙ ap (λ l. l ++ c) (ep ∙ ap (λ l. l ++ b) eo)))
-    ∙ pieces a b c d e)
