@@ -1,4 +1,4 @@
-use Rattle.std.proofs.Common.{rules, ◌≡◌, ℕ, List, Option, Some, refl, sym, subst}
+use Rattle.std.proofs.Common.{rules, ◌≡◌, ℕ, List, Some, sym, subst}
 use Rattle.std.specs.Path.{path_bytes, path_parent}
 use Rattle.std.specs.Path.Iter.{ancestors_next}
 use Rattle.server_system.specs.Folders.{Begin, GoesUp, IsTrusted, Up}
