@@ -6,12 +6,12 @@ ghost use Rattle.attach_proto.specs.Texts.{token_of};
 ghost use Rattle.web_options.specs.Asking.{CantWatch, HasNoToken, MayWatch, line_of, text_of};
 
 use crate::fault::WebFault;
+use crate::files::ReadsFiles;
 use crate::options::WebOptions;
 use acl::UserId;
 use attach_proto::Token;
 use program_words::SystemError;
-use std::fs;
-use std::fs::{File, Files};
+use std::alloc::AllocGlobal;
 use web_requests::Watcher;
 
 // The token that a file has: its digits, and maybe a line feed.
@@ -25,13 +25,9 @@ fn token_of(file: &[u8]) -> Option<Token>
 }
 
 // The user of this name, with the token of the file at this path.
-fn named<R: Files<File = File> + AllocGlobal>(
-    rt: &R,
-    name: &str,
-    path: &str,
-) -> Result<Watcher, WebFault>
-    ensures ok { IfOk result (λ w. MayWatch (Some name.now) (Some path.now) None (Some w)) }
-    ensures fault { IfErr result (HasNoToken name.now path.now) }
+fn named<R: ReadsFiles + AllocGlobal>(rt: &R, name: &str, path: &str) -> Result<Watcher, WebFault>
+    ensures ok { IfOk result (λ w. MayWatch (R.reads rt.now) (Some name.now) (Some path.now) None (Some w)) }
+    ensures fault { IfErr result (HasNoToken (R.reads rt.now) name.now path.now) }
 {
     let alloc = rt.alloc();
     let name = String::from_str(alloc, name)?;
@@ -39,7 +35,7 @@ fn named<R: Files<File = File> + AllocGlobal>(
         return Err(WebFault::NoName(name));
     }
     let path = String::from_str(alloc, path)?;
-    let file = match fs::read(rt, path.as_str()) {
+    let file = match rt.read_file(path.as_str()) {
         Ok(file) => file,
         Err(error) => return Err(WebFault::NoFile(path, SystemError(error))),
     };
@@ -50,14 +46,14 @@ fn named<R: Files<File = File> + AllocGlobal>(
 }
 
 /// The user as whom anybody may watch, if the arguments name one.
-pub fn watcher_of<R: Files<File = File> + AllocGlobal>(
+pub fn watcher_of<R: ReadsFiles + AllocGlobal>(
     rt: &R,
     options: WebOptions<'_>,
 ) -> Result<Option<Watcher>, WebFault>
-    ensures ok { IfOk result (MayWatch (text_of options.entry.watch) (text_of options.entry.watch_token)
-        (text_of options.entry.window)) }
-    ensures fault { IfErr result (CantWatch (text_of options.entry.watch) (text_of options.entry.watch_token)
-        (text_of options.entry.window)) }
+    ensures ok { IfOk result (MayWatch (R.reads rt.now) (text_of options.entry.watch)
+        (text_of options.entry.watch_token) (text_of options.entry.window)) }
+    ensures fault { IfErr result (CantWatch (R.reads rt.now) (text_of options.entry.watch)
+        (text_of options.entry.watch_token) (text_of options.entry.window)) }
 {
     match (options.watch, options.watch_token) {
         (Some(name), Some(path)) => Ok(Some(named(rt, name, path)?)),
