@@ -113,6 +113,9 @@ fn read_as(back: io::Result<Option<ReadBack>>) -> Result<ReadBack, JournalFault>
     }
 }
 
+/// Shows that a server never said that it is ready, and won't.
+pub trait NeverReady {}
+
 /// A new file for the trail of a session.
 #[derive(Drop)]
 pub struct Journal<'a> {
@@ -173,8 +176,8 @@ impl<'a> Journal<'a> {
         self.path
     }
 
-    /// Removes the file, if no session began.
-    pub fn remove(&self) {
+    /// Removes the file of a server that was never ready.
+    pub fn remove(&self, _server: &impl NeverReady) {
         let _ = fs::remove_file(&self.files, self.path);
     }
 
