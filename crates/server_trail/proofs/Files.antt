@@ -67,5 +67,3 @@ line_more entries place e line (Some bytes) (Some rest) (Some more) at a c is =
     let long : place ≡ 0 + length (take place entries) = grind (arith, common_steps) in
     subst (λ es. AreLines 0 es bytes more) (sym front) (one_more 0 place (take place entries) e bytes
     rest more is.0 long a (c ∙ ap (λ l. l ++ 0x0A ∷ more) is.1))
-
-}

@@ -7,23 +7,16 @@ use Rattle.server_trail.specs.declared.journal.JournalFault.{JournalFault}
 use Rattle.server_trail.specs.declared.journal.JournalFault.TheVariants as fault
 use Rattle.server_trail.specs.declared.reading.ReadBack.{ReadBack}
 
--- of a file that had to stop for its disk, from the error of its last write
-abbrev pub stopped_by : Option Error → JournalFault
-stopped_by (Some error) = fault.Refused (record { 0 = error })
-stopped_by None = fault.TooSlow
-
--- of a file that didn't stop, from whether its last line was written, and the errors of its last write and of a sync
-abbrev pub lost_by : Bool → Option Error → Option Error → Option JournalFault
-lost_by true refused None = None
-lost_by true refused (Some error) = Some (fault.Unsynced (record { 0 = error }))
-lost_by false (Some error) unsynced = Some (fault.Cut (record { 0 = error }))
-lost_by false None (Some error) = Some (fault.Unsynced (record { 0 = error }))
-lost_by false None None = Some fault.Unended
-
+-- from why it stopped, whether its last line was written, and the errors of its last write and of a sync
 abbrev pub fault_of : Option StopCause → Bool → Option Error → Option Error → Option JournalFault
 fault_of (Some stop.Memory) ended refused unsynced = Some fault.Memory
-fault_of (Some stop.Disk) ended refused unsynced = Some (stopped_by refused)
-fault_of None ended refused unsynced = lost_by ended refused unsynced
+fault_of (Some stop.Disk) ended (Some error) unsynced = Some (fault.Refused (record { 0 = error }))
+fault_of (Some stop.Disk) ended None unsynced = Some fault.TooSlow
+fault_of None true refused None = None
+fault_of None true refused (Some error) = Some (fault.Unsynced (record { 0 = error }))
+fault_of None false (Some error) unsynced = Some (fault.Cut (record { 0 = error }))
+fault_of None false None (Some error) = Some (fault.Unsynced (record { 0 = error }))
+fault_of None false None None = Some fault.Unended
 
 -- of a file that is to be read back: what shows that it was
 abbrev pub read_as : Result (Option ReadBack) Error → Result ReadBack JournalFault

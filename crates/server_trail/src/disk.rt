@@ -1,9 +1,11 @@
 //! A trail's file on its disk, what the disk refuses, and why the file can't go on.
 
-ghost use Rattle.std.specs.Prelude.{◌≡◌, Some, None};
+ghost use Rattle.std.specs.Prelude.{◌≡◌, IfOk, Some, None, true};
+ghost use Rattle.std.specs.Fs.{new_options, with_create_new, with_write};
 ghost use Rattle.server_trail.specs.Disks.{after_write, last_cause, news_of, no_refusal, one_more, told_of};
 
-use crate::file::TrailFile;
+use crate::file::{FileMaker, TrailFile};
+use std::fs::{File, OpenOptions};
 use std::io::{self, Write};
 use trail_lines::Cause;
 
@@ -84,19 +86,24 @@ pub struct Disk<F: TrailFile + Drop> {
     syncs: Refusals,
 }
 
-impl<F: TrailFile + Drop> Disk<F> {
-    /// Nothing was refused yet.
-    pub fn new(file: F) -> Disk<F>
-        ensures writes { result.writes ≡ no_refusal }
-        ensures syncs { result.syncs ≡ no_refusal }
+impl Disk<File> {
+    /// Makes a new file, which only its owner may read and write. Nothing was refused yet.
+    pub fn create<R: FileMaker>(files: &R, path: &str) -> io::Result<Disk<File>>
+        ensures made { IfOk result (λ disk. R.makes files.now path.now
+            (with_create_new (with_write new_options true) true) 0o600 disk.file) }
+        ensures none { IfOk result (λ disk. (disk.writes ≡ no_refusal) × (disk.syncs ≡ no_refusal)) }
     {
-        Disk {
-            file,
+        let mut options = OpenOptions::new();
+        options.write(true).create_new(true);
+        Ok(Disk {
+            file: files.make(path, options, 0o600)?,
             writes: Refusals::none(),
             syncs: Refusals::none(),
-        }
+        })
     }
+}
 
+impl<F: TrailFile + Drop> Disk<F> {
     /// The error of the last write, if it was refused.
     pub fn refused(&self) -> Option<io::Error>
         ensures { result ≡ self.now.writes.error }

@@ -8,8 +8,10 @@ ghost use Rattle.server_trail.specs.Files.{Begins};
 use acl::{Edition, UserId};
 use session::Bytes;
 use std::alloc::{AllocError, Global};
-use std::fs::File;
+use std::fs::{File, OpenOptions};
 use std::io::{self, Write};
+use std::os::unix::fs::OpenOptionsExt;
+use std::rt::HostRuntime;
 use std::time::Clock;
 use trail_lines::{Header, print_header};
 
@@ -23,6 +25,27 @@ pub trait TrailFile: Write {
 impl TrailFile for File {
     fn sync(&mut self) -> io::Result<()> {
         self.sync_data()
+    }
+}
+
+/// Makes files. Only a call of `make` shows how a file was made.
+pub trait FileMaker {
+    ghost use Rattle.std.specs.Prelude.{ℕ, List};
+    ghost use Rattle.std.specs.declared.fs.File.{File as Made};
+    ghost use Rattle.std.specs.declared.fs.OpenOptions.{OpenOptions as Options};
+
+    // The path, how the file is opened, its permissions, and the file.
+    ghost makes: { Self → List ℕ → Options → ℕ → Made → Type 0 };
+
+    fn make(&self, path: &str, options: OpenOptions, mode: u32) -> io::Result<File>
+        ensures { IfOk result (makes self.now path.now options mode) };
+}
+
+impl FileMaker for HostRuntime {
+    ghost makes = { λ files path options mode file. Unit {0} };
+
+    fn make(&self, path: &str, mut options: OpenOptions, mode: u32) -> io::Result<File> {
+        options.mode(mode).open(self, path)
     }
 }
 
@@ -49,22 +72,14 @@ pub fn header_of<R: Clock>(
     })
 }
 
-// The first line, with its line feed.
-fn first_line(alloc: Global, header: &Header) -> Result<Vec<u8>, AllocError>
-    ensures { IfOk result (λ line. line.items ≡ header_text header.now ++ 0x0A ∷ []) }
-{
-    let mut line = Vec::new(alloc);
-    print_header(header, &mut line)?;
-    line.push(b'\n')?;
-    Ok(line)
-}
-
 /// Writes the first line of a trail's file, and brings it to the disk.
 pub fn begin<F: TrailFile>(alloc: Global, file: &mut F, header: &Header) -> io::Result<()>
     ensures { OnOk result (Appends (F.contents file.old) (F.contents file.new)
         (header_text header.now ++ 0x0A ∷ [])) }
 {
-    let line = first_line(alloc, header)?;
+    let mut line = Vec::new(alloc);
+    print_header(header, &mut line)?;
+    line.push(b'\n')?;
     file.write_all(&line)?;
     file.sync()
 }

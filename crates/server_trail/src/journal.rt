@@ -1,7 +1,7 @@
 //! The file to which a server writes its session's trail.
 
 ghost use Rattle.std.specs.Prelude.{◌≡◌, IfOk};
-ghost use Rattle.server_trail.specs.Faults.{fault_of, lost_by, read_as, stopped_by};
+ghost use Rattle.server_trail.specs.Faults.{fault_of, read_as};
 ghost use Rattle.server_trail.specs.Journals.{journal_path};
 
 use crate::disk::{Disk, DiskWatch, StopCause, WatchedDisk, last_cause};
@@ -14,9 +14,8 @@ use hub::EntryList;
 use program_words::SystemError;
 use session::Bytes;
 use std::alloc::Global;
-use std::fs::{File, OpenOptions};
+use std::fs::File;
 use std::io::{BufReader, ErrorKind};
-use std::os::unix::fs::OpenOptionsExt;
 use std::rt::HostRuntime;
 use std::sync::{Condvar, Mutex, Wait};
 use std::time::{Clock, Duration};
@@ -73,37 +72,8 @@ impl JournalFault {
     }
 }
 
-// The fault of a file that had to stop for its disk, from the error of its last write.
-fn stopped_by(refused: Option<io::Error>) -> JournalFault
-    ensures { result ≡ stopped_by refused }
-{
-    match refused {
-        Some(error) => JournalFault::Refused(SystemError(error)),
-        None => JournalFault::TooSlow,
-    }
-}
-
-// The fault of a file that didn't stop, from whether its last line was written, and the errors of its last write
+// The fault of a file, from why it stopped, whether its last line was written, and the errors of its last write
 // and of a sync.
-fn lost_by(
-    is_ended: bool,
-    refused: Option<io::Error>,
-    unsynced: Option<io::Error>,
-) -> Option<JournalFault>
-    ensures { result ≡ lost_by is_ended refused unsynced }
-{
-    if !is_ended {
-        if let Some(error) = refused {
-            return Some(JournalFault::Cut(SystemError(error)));
-        }
-    }
-    match unsynced {
-        Some(error) => Some(JournalFault::Unsynced(SystemError(error))),
-        None if is_ended => None,
-        None => Some(JournalFault::Unended),
-    }
-}
-
 fn fault_of(
     stopped: Option<StopCause>,
     is_ended: bool,
@@ -113,9 +83,22 @@ fn fault_of(
     ensures { result ≡ fault_of stopped is_ended refused unsynced }
 {
     match stopped {
-        Some(StopCause::Memory) => Some(JournalFault::Memory),
-        Some(StopCause::Disk) => Some(stopped_by(refused)),
-        None => lost_by(is_ended, refused, unsynced),
+        Some(StopCause::Memory) => return Some(JournalFault::Memory),
+        Some(StopCause::Disk) => match refused {
+            Some(error) => return Some(JournalFault::Refused(SystemError(error))),
+            None => return Some(JournalFault::TooSlow),
+        },
+        None => {}
+    }
+    if !is_ended {
+        if let Some(error) = refused {
+            return Some(JournalFault::Cut(SystemError(error)));
+        }
+    }
+    match unsynced {
+        Some(error) => Some(JournalFault::Unsynced(SystemError(error))),
+        None if is_ended => None,
+        None => Some(JournalFault::Unended),
     }
 }
 
@@ -129,6 +112,9 @@ fn read_as(back: io::Result<Option<ReadBack>>) -> Result<ReadBack, JournalFault>
         Err(error) => Err(JournalFault::NotRead(SystemError(error))),
     }
 }
+
+/// Shows that a server never said that it is ready, and won't.
+pub trait NeverReady {}
 
 /// A new file for the trail of a session.
 #[derive(Drop)]
@@ -152,16 +138,6 @@ struct JournalEnd {
     outcome: Result<ReadBack, JournalFault>,
 }
 
-// Makes a new file, which only its owner may read and write.
-fn create(files: &HostRuntime, path: &str) -> io::Result<Disk<File>> {
-    let file = OpenOptions::new()
-        .write(true)
-        .create_new(true)
-        .mode(0o600)
-        .open(files, path)?;
-    Ok(Disk::new(file))
-}
-
 impl<'a> Journal<'a> {
     /// Makes a new file, with its first line, for the trail of a session of this owner.
     pub fn create(
@@ -175,7 +151,7 @@ impl<'a> Journal<'a> {
         let Ok(header) = header_of(&files, alloc, owner, VERSION) else {
             return Err(JournalFault::Memory);
         };
-        let mut file = create(&files, path).map_err(JournalFault::of_making)?;
+        let mut file = Disk::create(&files, path).map_err(JournalFault::of_making)?;
         if let Err(error) = begin(alloc, &mut file, &header) {
             let _ = fs::remove_file(&files, path);
             return Err(JournalFault::of_making(error));
@@ -200,8 +176,8 @@ impl<'a> Journal<'a> {
         self.path
     }
 
-    /// Removes the file, if no session began.
-    pub fn remove(&self) {
+    /// Removes the file of a server that was never ready.
+    pub fn remove(&self, _server: &impl NeverReady) {
         let _ = fs::remove_file(&self.files, self.path);
     }
 

@@ -12,7 +12,7 @@ mod writing;
 
 pub use disk::{DiskNews, DiskWatch, StopCause};
 pub use file::{TrailFile, begin, header_of};
-pub use journal::{Journal, JournalFault};
+pub use journal::{Journal, JournalFault, NeverReady};
 pub use merge::Merge;
 pub use reading::{ReadBack, read_back};
 pub use recorder::Recorder;

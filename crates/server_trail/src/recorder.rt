@@ -61,13 +61,11 @@ impl Recorder {
         let Some(line) = EntryLine::of(self.alloc, place, ms, entry) else {
             return Err(self.lose(rt));
         };
-        let put = self.put_line(rt, line);
-        if let Ok(line) = &put {
-            if line.is_news() {
-                self.news.notify_one();
-            }
+        let put = self.put_line(rt, line)?;
+        if put.is_news() {
+            self.news.notify_one();
         }
-        put
+        Ok(put)
     }
 
     // Puts a line down, unless the file has stopped meanwhile.

@@ -315,23 +315,28 @@ impl WaitingLines {
         self.loops = self.loops.saturating_sub(1);
     }
 
-    /// How much was written, from what was torn, and why the file stopped. It isn't whole if a line is ready
-    /// that wasn't taken or, unless it stopped, if one still waits for an earlier one that never came.
-    pub fn written(&self, torn: Option<Torn>, stopped: Option<StopCause>) -> Written
-        ensures entries { result.entries ≡ self.now.merge.next }
+    /// How much was written, from what was torn and what shows that the file stopped. If nothing was torn, it is
+    /// None until all loops have ended and no text is ready. It isn't whole if text was torn or, unless the file
+    /// stopped, if a line still waits for an earlier one that never came.
+    pub fn written(&self, torn: Option<Torn>, stopped: Option<Stopped>) -> Option<Written>
+        ensures over { is_some result
+            ≡ (is_some torn || (self.now.loops == 0) && (vec_len self.now.merge.ready == 0)) }
+        ensures entries { IfSome result (λ written. written.entries ≡ self.now.merge.next) }
         ensures whole { (put : List Placed) (taken : List ℕ) → HasMerged put taken self.now.merge →
-            result.is_whole ≡ (is_none torn && (vec_len self.now.merge.ready == 0) && (is_some stopped
-            || (vec_len self.now.merge.ready + early_bytes self.now.merge == 0))) }
+            IfSome result (λ written. written.is_whole ≡ (is_none torn && (is_some stopped
+            || (vec_len self.now.merge.ready + early_bytes self.now.merge == 0)))) }
     {
         let is_written = match torn {
             Some(Torn(())) => false,
             None => true,
         };
-        let is_complete = stopped.is_some() || self.merge.waiting() == 0;
-        Written {
-            entries: self.merge.next() as u64,
-            is_whole: is_written && self.merge.ready() == 0 && is_complete,
+        if is_written && (self.loops > 0 || self.merge.ready() > 0) {
+            return None;
         }
+        Some(Written {
+            entries: self.merge.next() as u64,
+            is_whole: is_written && (stopped.is_some() || self.merge.waiting() == 0),
+        })
     }
 }
 

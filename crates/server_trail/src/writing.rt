@@ -7,7 +7,7 @@ ghost use Rattle.server_trail.specs.Files.{HasWritten, end_line};
 
 use crate::file::TrailFile;
 use crate::recorder::Recorder;
-use crate::waiting::{LAST_TRIES, Ready, Torn, Written, write_bytes};
+use crate::waiting::{LAST_TRIES, Written, write_bytes};
 use std::alloc::{AllocError, Global};
 use std::sync::Wait;
 use std::sync::atomic::Ordering;
@@ -77,22 +77,6 @@ fn last_line(alloc: Global, ended: &Ended) -> Result<Vec<u8>, AllocError>
 }
 
 impl Recorder {
-    fn look(&self, rt: &impl Wait) -> Ready {
-        self.waiting.lock(rt).look()
-    }
-
-    // Writes the text that is ready; `Err` if not all of it was written.
-    fn write_ready<R: Clock + Wait, F: TrailFile>(&self, rt: &R, file: &mut F) -> Result<(), Torn> {
-        let text = self.waiting.lock(rt).take();
-        text.write(rt, &self.waiting, file)
-    }
-
-    // How much was written, after all loops have ended.
-    fn written(&self, rt: &impl Wait, torn: Option<Torn>) -> Written {
-        let stopped = self.stopped();
-        self.waiting.lock(rt).written(torn, stopped)
-    }
-
     /// Writes the lines as they come, until all loops have ended. It sleeps as long as no line is ready,
     /// and waits a tenth of a second for more if few are and none tells of a change. A refused write is
     /// tried again each second, and for five seconds at the end. The file is synced in each second in
@@ -104,10 +88,7 @@ impl Recorder {
         };
         for _ in rt.forever() {
             let seen = self.news.notifications();
-            let ready = self.look(rt);
-            if ready.bytes == 0 && ready.is_over {
-                return self.written(rt, None);
-            }
+            let ready = self.waiting.lock(rt).look();
             if !ready.is_due() {
                 let pause = match ready.bytes {
                     0 => syncing.pause(),
@@ -115,11 +96,17 @@ impl Recorder {
                 };
                 self.news.sleep(rt, seen, pause);
             }
-            if ready.bytes > 0 {
-                if let Err(torn) = self.write_ready(rt, file) {
-                    return self.written(rt, Some(torn));
+            let torn = match ready.bytes {
+                0 => None,
+                _ => {
+                    syncing.is_behind = true;
+                    let text = self.waiting.lock(rt).take();
+                    text.write(rt, &self.waiting, file).err()
                 }
-                syncing.is_behind = true;
+            };
+            let stopped = self.stop();
+            if let Some(written) = self.waiting.lock(rt).written(torn, stopped) {
+                return written;
             }
             syncing.sync(rt, file);
         }
