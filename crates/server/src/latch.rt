@@ -1,9 +1,10 @@
 //! Where the loops wait until all of them can serve, and the server has said so.
 
-ghost use Rattle.std.specs.Prelude.{OnOk, codes};
+ghost use Rattle.std.specs.Prelude.{◌≡◌, None, Ok, OnOk, Some, codes};
 ghost use Rattle.std.specs.Io.KnownBytes.{Appends};
 
 use server_outcome::Unready;
+use server_trail::NeverReady;
 use std::io;
 use std::io::Write;
 use std::sync::{Condvar, Mutex, Wait};
@@ -86,6 +87,12 @@ impl Latch {
 #[derive(Clone, Copy)]
 pub struct ReadySaid(());
 
+/// Shows that a server has never said that it is ready.
+#[derive(Drop)]
+pub struct NeverSaid(());
+
+impl NeverReady for NeverSaid {}
+
 // Where the line is written, and what came of it.
 #[derive(Drop)]
 struct ReadyOutput<'a, O> {
@@ -118,9 +125,16 @@ impl<'a, O: Write> ReadyLine<'a, O> {
         }
     }
 
-    /// What came of saying it; None if it didn't get to that.
-    pub fn said(&self, rt: &impl Wait) -> Option<io::Result<()>> {
-        self.output.lock(rt).said.take()
+    /// What came of saying it, or None if it didn't get to that; and whether it was never said.
+    pub fn said(&self, rt: &impl Wait) -> (Option<io::Result<()>>, Option<NeverSaid>)
+        ensures { result.0 ≡ Some (Ok tt) → result.1 ≡ None }
+    {
+        let said = self.output.lock(rt).said.take();
+        let never = match &said {
+            Some(Ok(())) => None,
+            _ => Some(NeverSaid(())),
+        };
+        (said, never)
     }
 }
 

@@ -116,9 +116,9 @@ impl<G: Gate + Copy + Sync + Drop, O: Write + Send> Server<'_, G, O> {
             )),
         };
         self.shared.watched.stop(rt);
-        let said = self.ready.said(rt);
-        if let (None | Some(Err(_)), Some(journal)) = (&said, &self.journal) {
-            journal.remove();
+        let (said, never) = self.ready.said(rt);
+        if let (Some(never), Some(journal)) = (&never, &self.journal) {
+            journal.remove(never);
         }
         let session = served(kept, said, self.shared.latch.fault(rt))?;
         let end = self.shared.over.get().copied();
