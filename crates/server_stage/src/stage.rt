@@ -215,6 +215,12 @@ impl<R: Clock + Wait> LoopBody<usize, R> for Playing<'_> {
 
     fn fail(&self, _rt: &R) {}
 
+    fn stand_by(&self, _rt: &R) {}
+
+    fn recorder(&self, _alloc: Global, _loops: usize) -> Option<Recorder> {
+        None
+    }
+
     fn compare(&self, rt: &R, trail: &Trail) {
         let mut left = self.left.lock(rt);
         if let Err(stop) = left.put_entries(trail) {
