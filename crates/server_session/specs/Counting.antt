@@ -1,6 +1,6 @@
 -- What is counted of users and of windows.
-use Rattle.std.specs.Prelude.{◌≡◌, ◌<◌, ◌++◌, ◌∷◌, ◌^◌, ◌+◌, ◌-◌, ◌/◌, ◌%◌, ℕ, Bool, true, false, [], Option, Some, None}
-use Rattle.std.specs.Prelude.{IfSome, if◌then◌else◌, min, option_map, unwrap_or}
+use Rattle.std.specs.Prelude.{◌≡◌, ◌<◌, ◌≤◌, ◌++◌, ◌∷◌, ◌^◌, ◌+◌, ◌-◌, ◌/◌, ◌%◌, ℕ, Bool, true, false, []}
+use Rattle.std.specs.Prelude.{IfSome, Option, Some, None, if◌then◌else◌, min, option_map, unwrap_or, vec_capacity, vec_len}
 use Rattle.std.specs.Duration.{as_nanos}
 use Rattle.std.specs.declared.time.Duration.{Duration}
 use Rattle.acl.specs.History.{without_user}
@@ -53,13 +53,15 @@ pub record HasSettled (old : Books) (user : UserId) (cost : ℕ) (outcome : Outc
 
 -- ---- clients and windows
 
--- One more was counted, below the bound if there is one; or the user has as many as a user may have, or there is no
--- memory for one more.
+-- One more was counted, below the bound if there is one; or the user has as many as a user may have, or there was no
+-- room for one more.
 pub record HasAdded (old : Tally) (user : UserId) (most : Option ℕ) (new : Tally) : Type 0 where
   pub unbounded : old.most ≡ None → (most ≡ None) × (new.guests.items ≡ old.guests.items)
   pub counted : (bound : ℕ) → old.most ≡ Some bound → most ≡ None
       → (guests_of old.guests.items user < bound) × (new.guests.items ≡ old.guests.items ++ user ∷ [])
   pub refused : IfSome most (λ bound. (old.most ≡ Some bound) × (new.guests.items ≡ old.guests.items))
+  pub full : IfSome most
+      (λ bound. vec_len old.guests < vec_capacity old.guests → bound ≤ guests_of old.guests.items user)
   pub bound_is : new.most ≡ old.most
 
 abbrev pub Adds : Books → UserId → GuestKind → Option ℕ → Books → Type 0

@@ -203,10 +203,7 @@ impl Counting for Books {
 
     fn open(&mut self, calls: &mut Calls, window: u32) -> bool {
         calls.note();
-        match self.loads.open(window) {
-            Ok(()) => true,
-            Err(_) => false,
-        }
+        self.loads.open(window).is_ok()
     }
 
     fn close(&mut self, calls: &mut Calls, window: u32) {

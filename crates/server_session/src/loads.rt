@@ -36,10 +36,8 @@ impl Loads {
         ensures err { OnErr result (typed_into self.new window ≡ typed_into self.old window) }
         ensures others { SameBut window self.old self.new }
     {
-        match self.typed.insert(window, 0) {
-            Ok(_) => Ok(()),
-            Err(_) => Err(AllocError),
-        }
+        self.typed.insert(window, 0)?;
+        Ok(())
     }
 
     /// A window is gone.
@@ -78,9 +76,6 @@ impl Loads {
     pub fn is_full(&self, window: u32) -> bool
         ensures { IsTrue result ↔ IsFull (typed_into self.now window) }
     {
-        match self.typed.get(&window) {
-            Some(typed) => *typed > MOST,
-            None => false,
-        }
+        self.typed.get(&window).is_some_and(|typed| *typed > MOST)
     }
 }

@@ -41,6 +41,12 @@ pub enum LoopsFault {
 
 /// Runs the loops. Each is given a place of type `P` to begin with.
 pub trait LoopBody<P: Drop, R> {
+    ghost use Rattle.std.specs.Prelude.{Option};
+    ghost use Rattle.server_trail.specs.declared.recorder.Recorder.{Recorder as Lines};
+
+    // Only a call of `recorder` shows what it answered.
+    ghost records: { Self → Option Lines → Type 0 } = { λ _ _. Unit {0} };
+
     /// Runs one loop to its end, and gives its seat back if it ended well.
     fn run<L: Begun>(
         &self,
@@ -57,9 +63,8 @@ pub trait LoopBody<P: Drop, R> {
     fn stand_by(&self, _rt: &R) {}
 
     /// What takes the trail's lines from this number of loops; None if no file is written.
-    fn recorder(&self, _alloc: Global, _loops: usize) -> Option<Recorder> {
-        None
-    }
+    fn recorder(&self, alloc: Global, loops: usize) -> Option<Recorder>
+        ensures { records self.now result };
 
     /// Writes the trail's lines, in a thread of its own, until the loops have ended.
     fn write_trail(&self, _rt: &R, _recorder: &Recorder) {}
@@ -141,18 +146,6 @@ fn new_session<L: Begun>(alloc: Global, owner: UserId) -> Result<Session, Refusa
     Session::new(alloc, owner)
 }
 
-// What writes the session's trail to a file, if there is one.
-fn recorder<P, K, R>(rt: &R, alloc: Global, loops: usize, loop_body: &K) -> Option<Recorder>
-where
-    P: Drop,
-    K: LoopBody<P, R>,
-    R: Clock,
-{
-    let recorder = loop_body.recorder(alloc, loops)?;
-    recorder.set_time(rt);
-    Some(recorder)
-}
-
 // The owner and the number of loops of a new session, and a blank of as many parts.
 #[derive(Drop)]
 struct Parts {
@@ -180,6 +173,7 @@ where
     requires session { (L.edition ≡ Second) × (L.owner ≡ parts.owner) }
     ensures seats { IfOk result (λ made. length made.1.items ≡ L.parts) }
     ensures users { IfOk result (λ made. made.0.shared.users ≡ users) }
+    ensures recorder { IfOk result (λ made. K.records loop_body.now made.0.shared.recorder) }
     ensures setup { IfOk result (λ made. made.2.file ≡ setup) }
     ensures set_up { IfOk result (λ made. HasBegun parts.owner setup.items made.1.items) }
 {
@@ -200,7 +194,10 @@ where
     let Ok((hub, mut seats)) = Hub::<L>::new(alloc, blank, session, loops) else {
         return Err(LoopsFault::NoMemory);
     };
-    let recorder = recorder::<P, K, R>(rt, alloc, loops, loop_body);
+    let recorder = loop_body.recorder(alloc, loops);
+    if let Some(recorder) = &recorder {
+        recorder.set_time(rt);
+    }
     let shared = SharedSession::new(hub, users, recorder);
     let first = &mut seats[0];
     first.ask_for_entries();

@@ -61,9 +61,8 @@ fn give<L: Begun, R: Wait>(
         line: command,
     };
     // Memory was refused. (The trail can't be full: that takes some four million lines.)
-    let answer = match shared.submit(rt, seat, event) {
-        Ok(answer) => answer,
-        Err(_) => return Err(LoopsFault::NoMemory),
+    let Ok(answer) = shared.submit(rt, seat, event) else {
+        return Err(LoopsFault::NoMemory);
     };
     match answer.reply() {
         Ok(_) => Ok(()),
@@ -120,10 +119,8 @@ pub fn set_up<L: Begun, R: Wait>(
     ensures done { OnOk result (IsSetUp giver.owner file.items seat.old seat.new) }
     ensures fails { IfErr result (λ fault. Fails giver.owner file.items fault seat.old seat.new) }
 {
-    match give_file(rt, giver, shared, seat, &file) {
-        Ok(()) => Ok(SetUp { file }),
-        Err(fault) => Err(fault),
-    }
+    give_file(rt, giver, shared, seat, &file)?;
+    Ok(SetUp { file })
 }
 
 /// Shows that all lines of this file were done in a session.

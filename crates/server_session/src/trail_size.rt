@@ -73,10 +73,16 @@ pub trait SharedSum {
     ghost use Rattle.std.specs.Prelude.{◌≡◌, ℕ};
     ghost use Rattle.server_session.specs.Counting.{once_more};
 
+    // What it begins with.
+    ghost begins: { Self → ℕ → Type 0 };
+
     // What was added, and the sum before that.
     ghost adds: { Self → ℕ → ℕ → Type 0 };
 
     ghost sums: { Self → ℕ → Type 0 };
+
+    fn begin(sum: u64) -> Self
+        ensures { begins result sum };
 
     /// Adds to the sum. Returns what it was before.
     fn add(&self, calls: &mut Calls, more: u64) -> u64
@@ -89,9 +95,15 @@ pub trait SharedSum {
 
 impl SharedSum for AtomicU64 {
     // What an atomic number is, no clause can say.
+    ghost begins = { λ sum now. Unit {0} };
+
     ghost adds = { λ sum more before. Unit {0} };
 
     ghost sums = { λ sum now. Unit {0} };
+
+    fn begin(sum: u64) -> AtomicU64 {
+        AtomicU64::new(sum)
+    }
 
     fn add(&self, calls: &mut Calls, more: u64) -> u64 {
         calls.note();
@@ -109,15 +121,13 @@ pub struct TrailSize<T = AtomicU64> {
     bytes: T,
 }
 
-impl TrailSize {
-    pub fn new() -> TrailSize {
-        TrailSize {
-            bytes: AtomicU64::new(0),
-        }
-    }
-}
-
 impl<T: SharedSum> TrailSize<T> {
+    pub fn new() -> TrailSize<T>
+        ensures { T.begins result.bytes 0 }
+    {
+        TrailSize { bytes: T::begin(0) }
+    }
+
     /// Counts the entry at this place. Returns the percentage of the most entries or bytes that the
     /// trail passes by it, if that is news.
     pub fn add(&self, calls: &mut Calls, place: usize, entry: Option<&TrailEntry>) -> Option<u8>
@@ -126,10 +136,7 @@ impl<T: SharedSum> TrailSize<T> {
     {
         let place = place as u64;
         let by_entries = mark_between(place, place.saturating_add(1), FULL as u64);
-        let size = match entry {
-            Some(entry) => entry_size(entry),
-            None => 0,
-        };
+        let size = entry.map_or(0, |entry| entry_size(entry));
         let before = self.bytes.add(calls, size);
         by_entries.or(mark_between(before, before.saturating_add(size), MOST))
     }
