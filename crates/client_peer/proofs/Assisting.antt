@@ -78,6 +78,7 @@ presses_read old new t reads times typed same p =
                 let h : ShowsHelp middle new = a.helps asks in record { shows = h.shows; stays = h.stays };
             other = a.other;
           };
+      plain = q.plain;
       lost = q.lost;
       ends = q.ends;
       lasts = q.lasts;

@@ -1,8 +1,7 @@
 -- What a peer hears, message after message.
-use Rattle.std.proofs.Common.{◌≡◌, ◌∙◌, List, [], ◌∷◌, ◌++◌, ℕ, ◌+◌, ◌<◌, length, take, drop, get_or, length-append}
+use Rattle.std.proofs.Common.{◌≡◌, ◌∙◌, List, [], ◌∷◌, ◌++◌, ℕ, length, length-append}
 use Rattle.std.proofs.Common.{Option, Some, None, IsSome, Result, Ok, Err, option_map, refl, sym, ap, subst, arith}
 use Rattle.std.proofs.Common.{◌⊎◌, inl, inr, MatchOption, append_assoc}
-use Rattle.std.proofs.lemmas.List.{take_more, take-append-drop}
 use Rattle.std.proofs.lemmas.Option.{none-some}
 use Rattle.attach_proto.specs.declared.fault.ProtoFault.{ProtoFault}
 use Rattle.attach_proto.specs.declared.fault.ProtoFault.TheVariants.{NoMemory}
@@ -27,41 +26,35 @@ unfolding why_or
 gone_is (Gone w) why e = ap Gone (sym (ap (why_or why) e))
 gone_is _ why e = absurd (none-some why (sym e))
 
-module _ (old middle : Peer) (messages : List Message) (i : ℕ) (m : Message) (few : i < length messages)
-    (is : get_or messages i m ≡ m) (all : HearsAll old (take i messages) middle) where
-  more : take (i + 1) messages ≡ take i messages ++ m ∷ []
-  more = take_more messages i m few ∙ ap (λ (x : Message). take i messages ++ x ∷ []) is
+pub came : (messages heard all later : List Message) (m : Message) → messages ≡ heard ++ all → all ≡ m ∷ later
+    → messages ≡ heard ++ m ∷ later
+came messages heard all later m whole is = whole ∙ ap (λ (l : List Message). heard ++ l) is
 
+-- these messages were heard, and then this one came
+module _ (old middle : Peer) (messages heard later : List Message) (m : Message) (whole : messages ≡ heard ++ m ∷ later)
+    (all : HearsAll old heard middle) where
   -- it isn't heard
   pub fails_at : (e : PeerFault) → FailsBy middle m e → FailsAt old messages e
   fails_at e f = record {
-    heard = take i messages;
+    heard = heard;
     at = m;
-    later = drop (i + 1) messages;
+    later = later;
     middle = middle;
-    whole =
-        sym (take-append-drop (i + 1) messages) ∙ ap (λ (l : List Message). l ++ drop (i + 1) messages) more
-        ∙ append_assoc (take i messages) (m ∷ []) (drop (i + 1) messages);
+    whole = whole;
     hears = all;
     fails = f;
   }
 
-module _ (old middle new : Peer) (messages : List Message) (i : ℕ) (m : Message) (few : i < length messages)
-    (is : get_or messages i m ≡ m) (all : HearsAll old (take i messages) middle) (one : Hears middle m new) where
-  -- one message more
-  pub heard_more : HearsAll old (take (i + 1) messages) new
-  heard_more =
-      subst (λ (ms : List Message). HearsAll old ms new) (sym (more old middle messages i m few is all)) (next m all one)
-
-  -- the last one
-  pub heard_last : (why : Why) → Some why ≡ gone_in m → HearsFirst old messages (Some why) new
-  heard_last why gone = record {
-    heard = take (i + 1) messages;
-    later = drop (i + 1) messages;
-    whole = sym (take-append-drop (i + 1) messages);
-    hears = heard_more;
+  -- it is the last one
+  pub heard_last : (new : Peer) → Hears middle m new → (why : Why) → Some why ≡ gone_in m
+      → HearsFirst old messages (Some why) new
+  heard_last new one why gone = record {
+    heard = heard ++ m ∷ [];
+    later = later;
+    whole = whole ∙ sym (append_assoc heard (m ∷ []) later);
+    hears = next m all one;
     all = λ n. absurd (none-some why (sym n));
-    last = (take i messages, more old middle messages i m few is all ∙ ap (λ (x : Message). take i messages ++ x ∷ []) (gone_is m why gone));
+    last = (heard, ap (λ (x : Message). heard ++ x ∷ []) (gone_is m why gone));
   }
 
 no_empty : (front later : List Message) (m : Message) → (front ++ m ∷ []) ++ later ≡ [] → ⊥

@@ -1,7 +1,6 @@
 pub mod Assisting
 pub mod Closing
 pub mod Ending
-pub mod Handing
 pub mod Hearing
 pub mod Passing
 pub mod Sending

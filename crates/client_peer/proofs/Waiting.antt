@@ -170,8 +170,6 @@ not_done p now end left (inr d) = not_none p.end end d.0
 
 -- ---- when standard input is begun
 
-}
-
 pub begins_end : (old third new : Peer) (now : ℕ) (next : PeerTask) → third ≡ beside old now third → IsSome third.end
     → new ≡ record third { times = record third.times { ended_at = new.times.ended_at } } → DoesNext new now next
     → BeginsInTime old now (Ok next) new

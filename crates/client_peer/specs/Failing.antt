@@ -23,6 +23,10 @@ IsNoDraw p bytes e =
 abbrev pub IsNotShown : Peer → List ℕ → PeerFault → Type 0
 IsNotShown p bytes e = (p.is_covered ≡ false) × IsNoDraw p bytes e
 
+-- why typing fails: for want of memory, or the help isn't what draws use
+abbrev pub FailsTyping : PeerFault → Type 0
+FailsTyping e = (e ≡ NoMemory) ⊎ (e ≡ NoDraw)
+
 -- a server of ours sends it to another kind of peer
 abbrev pub IsForeign : Subcommand → Message → Type 0
 IsForeign subcommand (message.Draw bytes) = subcommand ≢ Attach

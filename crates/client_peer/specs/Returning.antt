@@ -1,9 +1,11 @@
 -- When a peer comes back by itself after its connection has ended.
 use Rattle.std.specs.Prelude.{◌≡◌, ◌↔◌, ◌⊎◌, ℕ, ◌<◌, ◌≤◌, ◌-◌, ◌*◌, Bool, true, false, not, ◌&&◌}
-use Rattle.std.specs.Prelude.{◌==◌, codes, List, Result, Ok, Err, Option, Some, None, IfSome, IsSome, option_map, string_bytes}
+use Rattle.std.specs.Prelude.{◌==◌, codes, List, [], ◌∷◌, ◌++◌, Result, Ok, Err, Option, Some, None, IfSome, IsSome, option_map, string_bytes}
 use Rattle.attach_proto.specs.declared.why.Why.{Why}
 use Rattle.attach_proto.specs.declared.why.Why.TheVariants as why
 use Rattle.std.specs.List.{starts_with}
+use Rattle.client_notice.specs.declared.notice.NoticeStage.TheVariants.{Nothing}
+use Rattle.client_notice.specs.Notices.{PutsLine, noted}
 use Rattle.client_words.specs.declared.arguments.Subcommand.{Subcommand}
 use Rattle.client_words.specs.declared.arguments.Subcommand.TheVariants.{Attach}
 use Rattle.client_words.specs.declared.fault.PeerFault.{PeerFault}
@@ -45,6 +47,19 @@ pub record Tries (p : Peer) (is_planned has_place : Bool) : Type 0 where
   pub may : IfSome p.end (λ end. may_return end is_planned (is_refused p) ≡ true)
   pub place : has_place ≡ true
 
+-- nothing is put down for the terminal
+abbrev pub IsUntold : Peer → Peer → Type 0
+IsUntold old new = (new.bytes.items ≡ old.bytes.items) × (new.notice ≡ old.notice)
+
+abbrev pub loss_text : List ℕ
+loss_text = noted (codes "the server is gone; waiting for it to come back (C-c leaves)")
+
+-- On a client's terminal CAN ends what may have been cut, and the last line says that the server is gone.
+pub record TellsLoss (old new : Peer) : Type 0 where
+  pub client : old.subcommand ≡ Attach → (new.notice.stage ≡ Nothing)
+      × PutsLine loss_text old.rows old.columns (old.bytes.items ++ 0x18 ∷ []) new.bytes.items
+  pub other : (old.subcommand ≡ Attach → ⊥) → IsUntold old new
+
 -- The peer comes back exactly if it tries. The first loss counts: its cause and its time stay until a server lets the
 -- peer in. Otherwise it has ended for good.
 pub record ComesBack (old : Peer) (now : ℕ) (is_planned has_place comes_back : Bool) (new : Peer) : Type 0 where
@@ -54,7 +69,8 @@ pub record ComesBack (old : Peer) (now : ℕ) (is_planned has_place comes_back :
   pub final : IsSome old.end → new.is_final ≡ not comes_back
   pub out : comes_back ≡ true → new.is_welcome ≡ false
   pub end : new.end ≡ old.end
-  pub bytes : IsMore old.bytes.items new.bytes.items
+  pub tells : comes_back ≡ true → old.loss ≡ None → TellsLoss old new
+  pub untold : (comes_back ≡ true → IsSome old.loss) → IsUntold old new
   pub rest : new ≡ record old {
     bytes = new.bytes;
     notice = new.notice;
@@ -63,6 +79,11 @@ pub record ComesBack (old : Peer) (now : ℕ) (is_planned has_place comes_back :
     loss = new.loss;
     times = record old.times { lost_at = new.times.lost_at };
   }
+
+-- nothing was decided, though a part of the text may be put down
+pub record IsAsBefore (old new : Peer) : Type 0 where
+  pub bytes : IsMore old.bytes.items new.bytes.items
+  pub rest : new ≡ record old { bytes = new.bytes; notice = new.notice }
 
 -- so many seconds have passed since the loss
 abbrev pub IsOver : Peer → ℕ → Type 0

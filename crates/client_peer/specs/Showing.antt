@@ -46,6 +46,7 @@ StopsAt old new = IfClient old (Passed old new)
 
 -- CAN ends what may have been begun on the terminal, and the check has read nothing since
 pub record CutsOff (old new : Peer) : Type 0 where
+  pub drawn : (old.has_drawn ≡ true) × (new.has_drawn ≡ false)
   pub subcommand : new.subcommand ≡ old.subcommand
   pub draws : new.draws ≡ place_after []
   pub added : new.bytes.items ≡ old.bytes.items ++ 0x18 ∷ []
@@ -55,7 +56,7 @@ cutting old new = record old { bytes = new.bytes; draws = new.draws; has_drawn =
 
 -- the check begins anew only after CAN; else it goes on where it was
 abbrev pub BeginsAnew : Peer → Peer → Type 0
-BeginsAnew old new = CutsOff old new ⊎ Keeps old new
+BeginsAnew old new = CutsOff old new ⊎ (Keeps old new × (new.has_drawn ≡ old.has_drawn))
 
 -- ---- what a client writes to its terminal of its own
 
@@ -76,7 +77,8 @@ helping old new = record old {
 -- nothing is put down, and the terminal shows the help, or doesn't, as before
 abbrev pub IsUncovered : Peer → Peer → Type 0
 IsUncovered old new =
-    (new.bytes.items ≡ old.bytes.items) × (new.is_helping ≡ old.is_helping) × (new.is_covered ≡ old.is_covered)
+    (new.bytes.items ≡ old.bytes.items) × (new.draws ≡ old.draws)
+    × (new.is_helping ≡ old.is_helping) × (new.is_covered ≡ old.is_covered)
 
 -- the last line has the text, or as much of it as there is room for
 abbrev pub ShowsNotice : Peer → Peer → Type 0

@@ -42,18 +42,20 @@ pub record SendsAssisted (old new : Peer) (typed : List ℕ) : Type 0 where
 
 -- What a client's user types is put down whole and in order. With --fit it is followed, so that `fit` comes between
 -- two keys. While no server is there, it is dropped, and C-c ends the client; while the help is shown, the page is
--- asked for instead, and the help goes.
+-- asked for instead, and the help goes. Only a client with keys of its own puts something on the terminal.
 pub record Presses (old new : Peer) (typed : List ℕ) : Type 0 where
   pub sends : IsSeated old → old.typing.assists ≡ false → Sends old.frames.items new.frames.items Keys typed
   pub follows : IsSeated old → old.typing.assists ≡ false → old.fits ≡ true
       → Follows old.typing.keys typed new.typing.keys
   pub assisted : IsSeated old → old.typing.assists ≡ true → SendsAssisted old new typed
-  pub lost : IsSome old.loss → new.frames ≡ old.frames
+  pub plain : old.typing.assists ≡ false → old.is_helping ≡ false → IsUncovered old new × (new.notice ≡ old.notice)
+  pub lost : IsSome old.loss → (new.frames ≡ old.frames) × IsUncovered old new × (new.notice ≡ old.notice)
   pub ends : IsSome old.loss → Contains typed 3 → (new.is_final ≡ true) × (new.end ≡ old.loss)
   pub lasts : ((IsSome old.loss × Contains typed 3) → ⊥) → (new.is_final ≡ old.is_final) × (new.end ≡ old.end)
   pub helped : old.loss ≡ None → old.is_helping ≡ true
       → (new.is_helping ≡ false) × (new.is_covered ≡ old.is_cut)
       × (new.frames.items ≡ old.frames.items ++ spelling (Resize old.rows old.columns))
+      × (new.bytes.items ≡ old.bytes.items) × (new.draws ≡ old.draws) × (new.notice ≡ old.notice)
 
 -- a peer with what typing may have changed of it
 abbrev pub typed_in : Peer → Peer → Peer
@@ -82,7 +84,7 @@ assisted_in old new = pressed_in old (record new { is_final = old.is_final; end 
 pub record TypesIn (old new : Peer) (input : List ℕ) : Type 0 where
   pub typed : List ℕ
   pub through : LetsThrough old.typing.leave input typed new.typing.leave
-  pub prints : old.subcommand ≡ Window → Prints (record old { typing = new.typing }) new typed
+  pub prints : old.subcommand ≡ Window → Prints (record old { typing = new.typing }) new typed × IsUncovered old new
   pub none : (old.subcommand ≡ Window → ⊥) → typed ≡ [] → new ≡ record old { typing = new.typing }
   pub presses : (old.subcommand ≡ Window → ⊥) → (typed ≡ [] → ⊥)
       → Presses old new typed × (new.times.has_typed ≡ true)

@@ -7,7 +7,6 @@ mod meeting;
 mod notice;
 mod outgoing;
 mod peer;
-mod returning;
 mod taking;
 mod typing;
 

@@ -1,9 +1,9 @@
 //! What a client writes to its terminal of its own: a text on the last line, and its help.
 
-ghost use Rattle.std.specs.Prelude.{◌≡◌, true, false, OnErr, OnOk};
+ghost use Rattle.std.specs.Prelude.{◌≡◌, true, false, IfErr, OnErr, OnOk};
+ghost use Rattle.client_peer.specs.Failing.{FailsTyping};
 ghost use Rattle.client_peer.specs.Showing.{IsUncovered, Keeps, KeepsNotice, ShowsHelp, ShowsNotice, helping, is_free};
 ghost use Rattle.client_peer.specs.Showing.{noticing};
-ghost use Rattle.client_peer.specs.Sending.{IsMore};
 
 use crate::peer::Peer;
 use client_notice::{NoticeStage, help_page};
@@ -47,13 +47,13 @@ impl Peer {
         ensures helps { self.old.typing.asks_help ≡ true → OnOk result (ShowsHelp self.old self.new) }
         ensures other { self.old.typing.asks_help ≡ false → OnOk result (IsUncovered self.old self.new) }
         ensures same { self.new ≡ helping self.old self.new }
-        ensures adds { OnOk result (IsMore self.old.bytes.items self.new.bytes.items) }
+        ensures fault { IfErr result FailsTyping }
     {
         if !self.typing.asks_help || !self.is_free() {
             return Ok(());
         }
         let page = help_page(self.alloc, self.rows, self.columns)?;
-        self.put_draw(&page)?;
+        self.put_draw(page)?;
         self.is_helping = true;
         self.is_covered = true;
         Ok(())

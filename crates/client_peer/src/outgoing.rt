@@ -1,9 +1,10 @@
 //! Frames for the server, in their order and whole.
 
 ghost use Rattle.std.specs.Prelude.{◌≡◌, ◌≤◌, ◌<◌, ◌-◌, ◌++◌, ◌↔◌, length, drop, [], IsTrue};
-ghost use Rattle.std.specs.Prelude.{OnOk, OnErr, IfSome, IsNone, IsSome};
+ghost use Rattle.std.specs.Prelude.{OnOk, OnErr, IfErr, IfSome, IsNone, IsSome};
 ghost use Rattle.attach_proto.specs.Spelling.{frame, spelling};
 ghost use Rattle.attach_proto.specs.declared.kind.Kind.TheVariants.{Keys, Detach};
+ghost use Rattle.client_peer.specs.Failing.{FailsTyping};
 ghost use Rattle.client_peer.specs.Reopening.{Sends};
 ghost use Rattle.client_peer.specs.Sending.{Puts, SendsFirst, MaySend, HandsOut, HasBack};
 ghost use Rattle.client_peer.specs.Sending.{HasServer, IsFull, Prints, unsent, left};
@@ -86,6 +87,7 @@ impl Peer {
         ensures ok { OnOk result (Puts self.old self.new
             (spelling (Message.Resize self.old.rows self.old.columns))) }
         ensures err { OnErr result (self.new.frames.items ≡ self.old.frames.items) }
+        ensures fault { IfErr result FailsTyping }
         ensures same { self.new ≡ record self.old { frames = self.new.frames } }
     {
         let (rows, columns) = (self.rows, self.columns);

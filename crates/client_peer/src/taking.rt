@@ -19,7 +19,7 @@ use crate::peer::Peer;
 use crate::typing::ReadPiece;
 use attach_proto::{Kind, LONGEST, Message, ProtoFault, Reader, Told, Why};
 use client_words::{PeerFault, Subcommand, put_visible};
-use std::alloc::{AllocError, Global};
+use std::alloc::AllocError;
 
 // While more bytes than this wait for standard output, the server isn't read.
 const MOST_WAITING: usize = 65_536;
@@ -36,23 +36,28 @@ fn ended(subcommand: Subcommand, why: Why) -> Result<Why, PeerFault>
 }
 
 impl Peer {
-    pub(crate) fn put(&mut self, bytes: &[u8]) -> Result<(), AllocError>
-        ensures ok { OnOk result (Adds self.old self.new bytes.now) }
+    // (what finds nothing waiting isn't copied)
+    fn put(&mut self, bytes: Vec<u8>) -> Result<(), AllocError>
+        ensures ok { OnOk result (Adds self.old self.new bytes.items) }
         ensures err { OnErr result (Keeps self.old self.new) }
         ensures same { self.new ≡ record self.old { bytes = self.new.bytes } }
     {
-        self.bytes.extend_from_slice(bytes)
+        if self.bytes.is_empty() {
+            self.bytes = bytes;
+            return Ok(());
+        }
+        self.bytes.extend_from_slice(&bytes)
     }
 
     // The bytes of a draw for a client's terminal. They are passed on only if all that came is what draws use.
-    pub(crate) fn put_draw(&mut self, bytes: &[u8]) -> Result<(), PeerFault>
+    pub(crate) fn put_draw(&mut self, bytes: Vec<u8>) -> Result<(), PeerFault>
         ensures ok { OnOk result (PassesOn self.old self.new) }
         ensures err { OnErr result (StopsAt self.old self.new) }
-        ensures fault { IfErr result (IsNoDraw self.old bytes.now) }
-        ensures added { OnOk result (self.new.bytes.items ≡ self.old.bytes.items ++ bytes.now) }
+        ensures fault { IfErr result (IsNoDraw self.old bytes.items) }
+        ensures added { OnOk result (self.new.bytes.items ≡ self.old.bytes.items ++ bytes.items) }
         ensures same { self.new ≡ record self.old { bytes = self.new.bytes; draws = self.new.draws } }
     {
-        if !self.draws.feed(bytes) {
+        if !self.draws.feed(&bytes) {
             return Err(PeerFault::NoDraw);
         }
         self.put(bytes)?;
@@ -60,12 +65,12 @@ impl Peer {
     }
 
     // Puts down a draw, unless the terminal shows the help: then a whole draw follows it.
-    fn show(&mut self, bytes: &[u8]) -> Result<(), PeerFault>
+    fn show(&mut self, bytes: Vec<u8>) -> Result<(), PeerFault>
         ensures ok { OnOk result (PassesOn self.old self.new) }
         ensures err { OnErr result (StopsAt self.old self.new) }
-        ensures fault { IfErr result (IsNotShown self.old bytes.now) }
+        ensures fault { IfErr result (IsNotShown self.old bytes.items) }
         ensures closed { self.old.subcommand ≡ Attach → StaysClosed self.old self.new }
-        ensures shows { OnOk result (Shows self.old.is_covered self.old bytes.now self.new) }
+        ensures shows { OnOk result (Shows self.old.is_covered self.old bytes.items self.new) }
     {
         self.is_cut = bytes.len() == LONGEST;
         if self.is_covered {
@@ -90,7 +95,7 @@ impl Peer {
 
     // A text for a command is its output. Once a client is let in, its status line has the texts. The
     // last text before that is the reason if the peer isn't let in.
-    fn hear(&mut self, alloc: Global, text: &str) -> Result<(), AllocError>
+    fn hear(&mut self, text: &str) -> Result<(), AllocError>
         ensures subcommand { self.new.subcommand ≡ self.old.subcommand }
         ensures keeps { self.old.subcommand ≡ Attach → Keeps self.old self.new }
         ensures closed { StaysClosed self.old self.new }
@@ -98,9 +103,9 @@ impl Peer {
     {
         if self.subcommand.is_command() {
             put_visible(text.as_bytes(), &mut self.bytes)?;
-            self.put(b"\n")?;
+            self.bytes.push(b'\n')?;
         }
-        self.said = Some(String::from_str(alloc, text)?);
+        self.said = Some(String::from_str(self.alloc, text)?);
         Ok(())
     }
 
@@ -187,40 +192,40 @@ impl Peer {
     }
 
     // Takes input for a window's program. If the window comes back, the session may be another one: the input waits.
-    fn take_input(&mut self, bytes: &[u8]) -> Result<(), AllocError>
-        ensures takes { OnOk result (TakesInput self.old bytes.now self.new) }
+    fn take_input(&mut self, bytes: Vec<u8>) -> Result<(), AllocError>
+        ensures takes { OnOk result (TakesInput self.old bytes.items self.new) }
         ensures closed { StaysClosed self.old self.new }
         ensures same { self.new ≡ record self.old { bytes = self.new.bytes; early = self.new.early } }
     {
         if self.was_welcome && !self.has_server() {
-            return self.early.extend_from_slice(bytes);
+            return self.early.extend_from_slice(&bytes);
         }
         self.put(bytes)
     }
 
     // Puts down what a message has for the files that the peer writes to. A server of ours sends draws to
     // clients, and input and sizes to windows.
-    fn put_message(&mut self, message: &Message) -> Result<(), PeerFault>
+    fn put_message(&mut self, message: Message) -> Result<(), PeerFault>
         ensures ok { OnOk result (PassesOn self.old self.new) }
         ensures err { OnErr result (StopsAt self.old self.new) }
-        ensures fault { IfErr result (FailsBy self.old message.now) }
+        ensures fault { IfErr result (FailsBy self.old message) }
         ensures closed { StaysClosed self.old self.new }
-        ensures delivers { OnOk result (Delivers self.old message.now self.new) }
+        ensures delivers { OnOk result (Delivers self.old message self.new) }
     {
         match message {
-            Message::Draw(bytes) if self.subcommand.is_attach() => self.show(bytes.as_slice()),
+            Message::Draw(bytes) if self.subcommand.is_attach() => self.show(bytes.into_vec()),
             Message::Say(text) if self.subcommand.is_attach() && self.is_welcome => Ok(
                 self.notice
                     .hear_later(self.alloc, text.as_str(), self.typing.assists)?,
             ),
             Message::Input(bytes) if self.subcommand.is_window() => Ok(self.take_input(
-                bytes.as_slice(),
+                bytes.into_vec(),
             )?),
             Message::Size { rows, columns } if self.subcommand.is_window() => Ok(self.resize_window(
-                *rows, *columns,
+                rows, columns,
             )?),
             Message::Welcome(number) => {
-                self.number = *number;
+                self.number = number;
                 Ok(())
             }
             Message::Draw(_) | Message::Input(_) | Message::Size { .. } => {
@@ -231,23 +236,23 @@ impl Peer {
     }
 
     // Sorts one message. Returns why the server lets the peer go, if it does.
-    fn take(&mut self, alloc: Global, message: &Message) -> Result<Option<Why>, PeerFault>
+    fn take(&mut self, message: Message) -> Result<Option<Why>, PeerFault>
         ensures ok { OnOk result (PassesOn self.old self.new) }
         ensures err { OnErr result (StopsAt self.old self.new) }
-        ensures fault { IfErr result (FailsBy self.old message.now) }
+        ensures fault { IfErr result (FailsBy self.old message) }
         ensures closed { StaysClosed self.old self.new }
-        ensures hears { IfOk result (λ gone. Hears self.old message.now self.new × (gone ≡ gone_in message.now)) }
+        ensures hears { IfOk result (λ gone. Hears self.old message self.new × (gone ≡ gone_in message)) }
     {
-        self.put_message(message)?;
         // A command is never let in here, so it hears each text.
         let mut told = Told::new();
         told.is_welcome = self.is_welcome;
-        told.note(alloc, message)?;
+        told.note(self.alloc, &message)?;
+        self.put_message(message)?;
         if told.is_welcome {
             self.welcome()?;
         }
         if let Some(text) = &told.refusal {
-            self.hear(alloc, text.as_str())?;
+            self.hear(text.as_str())?;
         }
         Ok(told.gone)
     }
@@ -255,19 +260,18 @@ impl Peer {
     // Sorts the messages of a read, after which there may be a fault.
     fn take_all(
         &mut self,
-        alloc: Global,
-        messages: &[Message],
+        messages: Vec<Message>,
         fed: Result<(), ProtoFault>,
     ) -> Result<Option<Why>, PeerFault>
         ensures ok { OnOk result (PassesOn self.old self.new) }
         ensures err { OnErr result (StopsAt self.old self.new) }
-        ensures fault { IfErr result (λ e. FailsAt self.old messages.now e ⊎ FailsAfter fed e) }
+        ensures fault { IfErr result (λ e. FailsAt self.old messages.items e ⊎ FailsAfter fed e) }
         ensures closed { StaysClosed self.old self.new }
-        ensures hears { IfOk result (λ gone. HearsFirst self.old messages.now gone self.new) }
+        ensures hears { IfOk result (λ gone. HearsFirst self.old messages.items gone self.new) }
         ensures fed { IfOk result (λ gone. gone ≡ None → fed ≡ Ok tt) }
     {
         for message in messages {
-            if let Some(why) = self.take(alloc, message)? {
+            if let Some(why) = self.take(message)? {
                 return Ok(Some(why));
             }
         }
@@ -291,7 +295,6 @@ impl Peer {
     /// is passed on. CAN comes before what the next connection draws (`begin`).
     pub fn take_read(
         &mut self,
-        alloc: Global,
         reader: &mut Reader,
         piece: ReadPiece<'_>,
     ) -> Result<Option<Result<Why, PeerFault>>, PeerFault>
@@ -313,9 +316,9 @@ impl Peer {
         if bytes.is_empty() {
             return Ok(Some(Err(PeerFault::Ended)));
         }
-        let mut messages = Vec::new(alloc);
+        let mut messages = Vec::new(self.alloc);
         let fed = reader.feed(bytes, &mut messages);
-        match self.take_all(alloc, messages.as_slice(), fed)? {
+        match self.take_all(messages, fed)? {
             Some(why) => Ok(Some(ended(self.subcommand, why))),
             None => Ok(None),
         }

@@ -1,9 +1,11 @@
 //! What is typed or printed, on its way to the server.
 
-ghost use Rattle.std.specs.Prelude.{◌≡◌, [], true, false, OnErr, OnOk, Ok, IfOk};
+ghost use Rattle.std.specs.Prelude.{◌≡◌, ◌++◌, [], true, false, OnErr, OnOk, Ok, IfOk, IfErr};
 ghost use Rattle.std.specs.Io.KnownBytes.{Consumes};
-ghost use Rattle.client_peer.specs.Ending.{EndsInput};
-ghost use Rattle.client_peer.specs.Sending.{IsMore};
+ghost use Rattle.attach_proto.specs.declared.kind.Kind.TheVariants.{Detach};
+ghost use Rattle.attach_proto.specs.Spelling.{frame};
+ghost use Rattle.client_peer.specs.Ending.{without_input};
+ghost use Rattle.client_peer.specs.Failing.{FailsTyping};
 ghost use Rattle.client_peer.specs.Typing.{TypesIn, Presses, SendsAssisted, TellsScrolled, typed_in};
 ghost use Rattle.client_peer.specs.Typing.{assisted_in, pressed_in};
 
@@ -42,7 +44,7 @@ impl Peer {
             → OnOk result (TypesIn self.old self.new piece.entry.bytes.now) }
         ensures more { (piece.entry.bytes.now ≡ [] → ⊥) → OnOk result (result ≡ Ok true) }
         ensures end { piece.entry.bytes.now ≡ [] → (result ≡ Ok false) × (self.new ≡ self.old) }
-        ensures adds { OnOk result (IsMore self.old.bytes.items self.new.bytes.items) }
+        ensures fault { IfErr result FailsTyping }
         ensures same { self.new ≡ typed_in self.old self.new }
     {
         let ReadPiece { bytes: input } = piece;
@@ -66,7 +68,7 @@ impl Peer {
     // Takes keys. They are dropped while no server is there, and one takes the help away.
     fn press(&mut self, keys: &[u8]) -> Result<(), PeerFault>
         ensures presses { OnOk result (Presses self.old self.new keys.now) }
-        ensures adds { OnOk result (IsMore self.old.bytes.items self.new.bytes.items) }
+        ensures fault { IfErr result FailsTyping }
         ensures leave { self.new.typing.leave ≡ self.old.typing.leave }
         ensures same { self.new ≡ pressed_in self.old self.new }
     {
@@ -98,7 +100,7 @@ impl Peer {
     fn assist(&mut self, keys: &[u8]) -> Result<(), PeerFault>
         ensures leave { self.new.typing.leave ≡ self.old.typing.leave }
         ensures sends { OnOk result (SendsAssisted self.old self.new keys.now) }
-        ensures adds { OnOk result (IsMore self.old.bytes.items self.new.bytes.items) }
+        ensures fault { IfErr result FailsTyping }
         ensures same { self.new ≡ assisted_in self.old self.new }
     {
         let mut out = Vec::new(self.alloc);
@@ -113,6 +115,7 @@ impl Peer {
     // Says how to come back, if the view was moved.
     fn tell_scrolled(&mut self, before: u16) -> Result<(), PeerFault>
         ensures tells { OnOk result (TellsScrolled self.old self.new before self.old.frames.items) }
+        ensures fault { IfErr result FailsTyping }
         ensures same { self.new ≡ record self.old { frames = self.new.frames; notice = self.new.notice } }
     {
         if self.typing.back == before {
@@ -128,7 +131,8 @@ impl Peer {
 
     /// Takes the end of standard input.
     pub fn end_input(&mut self, fault: Option<PeerFault>) -> Result<(), AllocError>
-        ensures { OnOk result (EndsInput self.old fault self.new) }
+        ensures ends { self.new ≡ without_input self.old fault self.new }
+        ensures tells { OnOk result (self.new.frames.items ≡ self.old.frames.items ++ frame Detach []) }
     {
         if fault.is_some() {
             self.fault = fault;

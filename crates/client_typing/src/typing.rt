@@ -7,7 +7,7 @@ ghost use Rattle.keys.specs.Kept.{rest_of};
 ghost use Rattle.client_typing.specs.Own.{IsPageKey, question, turned, view_keys};
 ghost use Rattle.client_typing.specs.Fitting.{IsLine, given_keys, fit_keys, awaits_key};
 
-use client_words::{Arguments, InputStage, LeaveReader, PeerFault};
+use client_words::{Arguments, InputStage, LeaveReader};
 use keys::KeyReader;
 use std::alloc::AllocError;
 use std::io::Write;
@@ -180,7 +180,7 @@ impl Typing {
     }
 
     // Moves the view this many lines back.
-    fn scroll(&mut self, back: u16, out: &mut Vec<u8>) -> Result<(), PeerFault>
+    fn scroll(&mut self, back: u16, out: &mut Vec<u8>) -> Result<(), AllocError>
         ensures given { OnOk result (out.new.items ≡ out.old.items ++ view_keys back) }
         ensures rests { Rests self.old → OnOk result (Rests self.new) }
         ensures back { OnOk result (self.new.back ≡ back) }
@@ -204,7 +204,7 @@ impl Typing {
     }
 
     // Brings lines that were moved back to the end, before a key.
-    fn come_to_end(&mut self, out: &mut Vec<u8>) -> Result<(), PeerFault>
+    fn come_to_end(&mut self, out: &mut Vec<u8>) -> Result<(), AllocError>
         ensures sends { OnOk result
             (out.new.items ≡ out.old.items ++ to_end (rest_of self.old.keys) self.old.back) }
         ensures back { OnOk result (self.new.back ≡ end_of (rest_of self.old.keys) self.old.back) }
@@ -218,7 +218,7 @@ impl Typing {
     }
 
     // Takes a key that isn't the client's own. Lines that were moved back come to the end first.
-    fn press(&mut self, key: u8, out: &mut Vec<u8>) -> Result<(), PeerFault>
+    fn press(&mut self, key: u8, out: &mut Vec<u8>) -> Result<(), AllocError>
         ensures sends { OnOk result (out.new.items
             ≡ (out.old.items ++ to_end (rest_of self.old.keys) self.old.back) ++ passed (rest_of self.old.keys) key) }
         ensures after { OnOk result (at self.new ≡ after_key (at self.old) key) }
@@ -229,7 +229,7 @@ impl Typing {
     }
 
     // Passes a key on. The command key waits for the one after it, which may ask for the help: that pair isn't sent.
-    fn pass(&mut self, key: u8, out: &mut Vec<u8>) -> Result<(), PeerFault>
+    fn pass(&mut self, key: u8, out: &mut Vec<u8>) -> Result<(), AllocError>
         ensures sends { OnOk result (out.new.items ≡ out.old.items ++ passed (rest_of self.old.keys) key) }
         ensures reads { (rest_step (rest_of self.old.keys) key).1 ≡ rest_of self.new.keys }
         ensures asks { self.new.asks_help ≡ (awaits_key (rest_of self.old.keys) && key == question) }
@@ -255,7 +255,7 @@ impl Typing {
         keys: &'k [u8],
         page: u16,
         out: &mut Vec<u8>,
-    ) -> Result<&'k [u8], PeerFault>
+    ) -> Result<&'k [u8], AllocError>
         requires { 0 < length keys.now }
         ensures takes { IfOk result (λ later. Takes page self.old keys.now out.old.items
             later.now self.new out.new.items) }
@@ -274,7 +274,7 @@ impl Typing {
     }
 
     /// Appends what is to be sent of some keys. `page` is how many lines a page has.
-    pub fn assist(&mut self, keys: &[u8], page: u16, out: &mut Vec<u8>) -> Result<(), PeerFault>
+    pub fn assist(&mut self, keys: &[u8], page: u16, out: &mut Vec<u8>) -> Result<(), AllocError>
         ensures assists { OnOk result (Assists page self.old keys.now out.old.items self.new out.new.items) }
         ensures same { IsSet self.old self.new }
     {

@@ -1,5 +1,5 @@
 -- What a connection takes, write after write.
-use Rattle.std.proofs.Common.{◌≡◌, ◌+◌, ◌∙◌, ℕ, List, [], ◌++◌, take, drop, Option, sym, ap, append_assoc}
+use Rattle.std.proofs.Common.{◌≡◌, ◌+◌, ◌∙◌, ℕ, List, ◌++◌, take, drop, Option, sym, ap, append_assoc}
 use Rattle.std.proofs.KnownBytes.{Appends-trans}
 use Rattle.std.proofs.lemmas.List.{drop-drop, take-append-drop}
 use Rattle.client_peer.specs.declared.outgoing.Batch.{Batch}

@@ -2,7 +2,7 @@
 use Rattle.std.specs.Prelude.{◌≡◌, ◌↔◌, ◌+◌, ◌<◌, Bool, true, false}
 use Rattle.client_peer.specs.declared.meeting.Meeting.{Meeting}
 use Rattle.client_peer.specs.declared.meeting.Meeting.TheVariants.{Older}
-use Rattle.server_client.specs.declared.comeback.Comeback.{Comeback}
+use Rattle.server_client.specs.declared.waiting.Comeback.{Comeback}
 
 -- A client lets at most 60 tries pass while windows are pending, and counts anew after that.
 pub record LetsPass (old : Comeback) (is_pending passes : Bool) (new : Comeback) : Type 0 where

@@ -11,12 +11,21 @@ abbrev pub IsAsNew : Option (ℤ × ℤ) → Option (ℤ × ℤ) → Type 0
 IsAsNew (Some it) (Some other) = IsNoEarlier it other
 IsAsNew it other = ⊥
 
+-- What files say: this was read of one, nothing was, and one was written at this time, if there is one.
+pub record Disk : Type 1 where
+  pub has : List ℕ → List ℕ → Type 0
+  pub lacks : List ℕ → Type 0
+  pub is_of : List ℕ → Option (ℤ × ℤ) → Type 0
+
+abbrev pub anything : Disk
+anything = record { has = λ path bytes. Unit {0}; lacks = λ path. Unit {0}; is_of = λ path time. Unit {0} }
+
 -- The answer is what the times say at which two files were written.
-pub record Compares (is_of : List ℕ → Option (ℤ × ℤ) → Type 0) (path other : List ℕ) (is_new : Bool) : Type 0 where
+pub record Compares (disk : Disk) (path other : List ℕ) (is_new : Bool) : Type 0 where
   pub it : Option (ℤ × ℤ)
   pub made : Option (ℤ × ℤ)
-  pub path_is : is_of path it
-  pub other_is : is_of other made
+  pub path_is : disk.is_of path it
+  pub other_is : disk.is_of other made
   pub says : MatchBool is_new (IsAsNew it made) (IsAsNew it made → ⊥)
 
 -- the file that names the session which is served at a socket
@@ -25,8 +34,7 @@ session_file socket = socket ++ codes ".session"
 
 -- The mark is what was read of that file of this socket. It is the server's own exactly if it was written no earlier
 -- than the socket was made; one that can't be read has no name and is no server's.
-pub record IsMarkOf (has : List ℕ → List ℕ → Type 0) (lacks : List ℕ → Type 0)
-    (is_of : List ℕ → Option (ℤ × ℤ) → Type 0) (socket : List ℕ) (mark : SessionMark)
-    : Type 0 where
-  pub is : (has (session_file socket) mark.name.items × Compares is_of (session_file socket) socket mark.is_current)
-      ⊎ (lacks (session_file socket) × (mark.name.items ≡ []) × (mark.is_current ≡ false))
+pub record IsMarkOf (disk : Disk) (socket : List ℕ) (mark : SessionMark) : Type 0 where
+  pub is : (disk.has (session_file socket) mark.name.items
+      × Compares disk (session_file socket) socket mark.is_current)
+      ⊎ (disk.lacks (session_file socket) × (mark.name.items ≡ []) × (mark.is_current ≡ false))

@@ -1,8 +1,10 @@
 -- The connection that a peer makes, and what it sends first.
-use Rattle.std.specs.Prelude.{◌≡◌, List, ℕ, [], is_some, string_bytes}
+use Rattle.std.specs.Prelude.{◌≡◌, ◌≢◌, List, ℕ, [], true, is_some, string_bytes}
 use Rattle.client_words.specs.Beginning.{first_message, IsFrameOf}
 use Rattle.client_words.specs.declared.arguments.Arguments.{Arguments}
 use Rattle.client_words.specs.declared.arguments.Subcommand.TheVariants.{Window}
+use Rattle.client_peer.specs.declared.meeting.SessionMark.{SessionMark}
+use Rattle.server_client.specs.Marks.{Disk, IsMarkOf}
 use Rattle.server_client.specs.declared.opening.Door.{Door}
 
 -- the frame of the first message that the arguments mean, with some token
@@ -20,3 +22,10 @@ pub record LeadsBack (a : Arguments) (session : List ℕ) (door : Door) : Type 0
   pub leads : LeadsTo a door
   pub window : a.subcommand ≡ Window → door.session.items ≡ session
   pub other : (a.subcommand ≡ Window → ⊥) → door.session.items ≡ []
+
+-- A window is at the session that it comes back to: the mark beside the socket names it, and is that of whoever made
+-- the socket.
+abbrev pub IsAtSession : Disk → Door → Type 0
+IsAtSession disk door =
+    door.session.items ≢ [] → (mark : SessionMark) × IsMarkOf disk (string_bytes door.socket) mark
+    × (mark.name.items ≡ door.session.items) × (mark.is_current ≡ true)

@@ -51,7 +51,7 @@ impl<I: Source> Sources<I> {
 }
 
 // Runs a peer to its end. A thread writes, one reads each connection, and one reads standard input.
-fn run<R: PeerHost + Threads + Wait + Files<File = File> + AllocGlobal, I: Source, O: Sink>(
+fn run<R: PeerHost + Threads + Wait + Files<File = File>, I: Source, O: Sink>(
     rt: &R,
     arguments: &Arguments<'_>,
     input: I,
@@ -96,12 +96,13 @@ fn print<O: Write, E: Write>(asked: &[u8], status: u8, output: &mut O, errors: &
 
 /// Runs `mux`. The first word is the program's name. Returns the exit status: 0, 1 for a fault, 2 for
 /// invalid arguments.
-pub fn client<
-    R: PeerHost + Threads + Wait + Files<File = File> + AllocGlobal,
-    I: Source,
-    O: Sink,
-    E: Write,
->(rt: &R, words: &[String], input: I, output: O, errors: &mut E) -> u8 {
+pub fn client<R: PeerHost + Threads + Wait + Files<File = File>, I: Source, O: Sink, E: Write>(
+    rt: &R,
+    words: &[String],
+    input: I,
+    output: O,
+    errors: &mut E,
+) -> u8 {
     let mut output = output;
     let mut asked = Vec::new(rt.alloc());
     let arguments = match arguments_of(rt.alloc(), words, &mut asked, errors) {

@@ -1,45 +1,51 @@
 //! The files beside a socket, and the mark that one of them makes.
 
-ghost use Rattle.std.specs.Prelude.{◌≡◌, ◌↔◌, ℕ, ℤ, List, Option, IfOk, IsTrue, MatchOption};
-ghost use Rattle.server_client.specs.Marks.{Compares, IsMarkOf, IsNoEarlier};
+ghost use Rattle.std.specs.Prelude.{◌↔◌, IfOk, IsTrue, MatchOption};
+ghost use Rattle.server_client.specs.Marks.{Compares, Disk, IsMarkOf, IsNoEarlier, anything};
 
 use client_peer::SessionMark;
 use client_words::Arguments;
 use std::alloc::{AllocError, Global};
-use std::fs;
 use std::fs::File;
 use std::io::Write;
 use std::os::unix::fs::MetadataExt;
+use std::os::unix::net::UnixStream;
+use std::{fs, io};
 
 // The most bytes of a file beside the socket that is read.
 const MOST_BESIDE: u64 = 65_536;
 
-/// Files that are read for what stands beside a socket.
-pub trait Beside {
-    /// This was read of a file.
-    ghost has: { Self → List ℕ → List ℕ → Type 0 };
+/// Something that connects to a server's socket, and looks at what stands beside it. (A thread can't be handed `Net` or
+/// `Files`, which have types of their own.)
+pub trait Connects {
+    /// What the files say.
+    ghost disk: { Self → Disk };
 
-    /// Nothing was read of a file.
-    ghost lacks: { Self → List ℕ → Type 0 };
+    fn reach(&self, socket: &str) -> io::Result<UnixStream>;
 
-    /// A file was written at this time, if there is one: seconds, and nanoseconds.
-    ghost is_of: { Self → List ℕ → Option (ℤ × ℤ) → Type 0 };
+    /// Whether there is a file.
+    fn is_there(&self, path: &str) -> bool;
 
     /// Reads a short plain file. None if there is none, or if it can't be read.
     fn read_beside(&self, path: &str) -> Option<Vec<u8>>
-        ensures { MatchOption result (lacks self.now path.now) (λ bytes. has self.now path.now bytes.items) };
+        ensures { MatchOption result ((disk self.now).lacks path.now)
+            (λ bytes. (disk self.now).has path.now bytes.items) };
 
     /// When a file was written.
     fn written(&self, path: &str) -> Option<(i64, i64)>
-        ensures { is_of self.now path.now result };
+        ensures { (disk self.now).is_of path.now result };
 }
 
-impl<R: fs::Files<File = File> + AllocGlobal> Beside for R {
-    ghost has = { λ _ _ _. Unit {0} };
+impl Connects for HostRuntime {
+    ghost disk = { λ _. anything };
 
-    ghost lacks = { λ _ _. Unit {0} };
+    fn reach(&self, socket: &str) -> io::Result<UnixStream> {
+        UnixStream::connect(self, socket)
+    }
 
-    ghost is_of = { λ _ _ _. Unit {0} };
+    fn is_there(&self, path: &str) -> bool {
+        fs::metadata(self, path).is_ok()
+    }
 
     fn read_beside(&self, path: &str) -> Option<Vec<u8>> {
         if is_unreadable(self, path) {
@@ -81,8 +87,11 @@ pub fn warn_of_mark<R: fs::Files<File = File> + AllocGlobal, E: Write>(
 
 /// What stands beside the socket about the session that is served there. A mark is made anew for each server, so one
 /// that is older than the socket isn't this server's.
-pub fn mark_of<F: Beside + AllocGlobal>(files: &F, socket: &str) -> Result<SessionMark, AllocError>
-    ensures { IfOk result (IsMarkOf (F.has files.now) (F.lacks files.now) (F.is_of files.now) socket.now) }
+pub fn mark_of<F: Connects + AllocGlobal>(
+    files: &F,
+    socket: &str,
+) -> Result<SessionMark, AllocError>
+    ensures { IfOk result (IsMarkOf (F.disk files.now) socket.now) }
 {
     let path = format!(in files.alloc(); "{socket}.session")?;
     Ok(match files.read_beside(path.as_str()) {
@@ -105,8 +114,8 @@ fn is_no_earlier(it: (i64, i64), other: (i64, i64)) -> bool
 }
 
 // Whether a file was written no earlier than another one.
-fn is_as_new<F: Beside>(files: &F, path: &str, other: &str) -> bool
-    ensures { Compares (F.is_of files.now) path.now other.now result }
+fn is_as_new<F: Connects>(files: &F, path: &str, other: &str) -> bool
+    ensures { Compares (F.disk files.now) path.now other.now result }
 {
     match (files.written(path), files.written(other)) {
         (Some(it), Some(other)) => is_no_earlier(it, other),

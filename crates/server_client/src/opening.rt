@@ -1,9 +1,10 @@
 //! The connection with its first frame, and the files that the arguments name.
 
-ghost use Rattle.std.specs.Prelude.{◌≡◌, [], IfOk};
-ghost use Rattle.server_client.specs.Opening.{BeginsWith, LeadsBack, LeadsTo};
+ghost use Rattle.std.specs.Prelude.{◌≡◌, [], true, IfOk};
+ghost use Rattle.server_client.specs.Opening.{BeginsWith, IsAtSession, LeadsBack, LeadsTo};
 
 use crate::PeerHost;
+use crate::beside::mark_of;
 use attach_proto::Token;
 use client_words::{Arguments, PeerFault, RefusedPart, Subcommand};
 use std::alloc::Global;
@@ -150,12 +151,13 @@ impl Door {
     }
 
     /// Makes the connection. A window that comes back shows itself to no other session.
-    pub fn open(&self, rt: &impl PeerHost) -> Result<UnixStream, PeerFault> {
+    pub fn open<R: PeerHost>(&self, rt: &R) -> Result<UnixStream, PeerFault>
+        ensures { IfOk result (λ stream. IsAtSession (R.disk rt.now) self.now) }
+    {
         match rt.reach(self.socket.as_str()) {
             Ok(stream) => {
                 // (the socket may have changed hands since its mark was read)
-                let is_any = self.session.is_empty();
-                if !is_any && !rt.has_session(self.socket.as_str(), &self.session) {
+                if !self.is_at_session(rt) {
                     return Err(PeerFault::NoServer);
                 }
                 thread::sleep(rt, Duration::from_millis(self.grace));
@@ -168,6 +170,19 @@ impl Door {
                 ErrorKind::NotFound | ErrorKind::ConnectionRefused => PeerFault::NoServer,
                 _ => PeerFault::Refused(RefusedPart::Socket, error),
             }),
+        }
+    }
+
+    // Whether the mark beside the socket is that of the server which made it, and names the session to come back to.
+    fn is_at_session<R: PeerHost>(&self, rt: &R) -> bool
+        ensures { result ≡ true → IsAtSession (R.disk rt.now) self.now }
+    {
+        if self.session.is_empty() {
+            return true;
+        }
+        match mark_of(rt, self.socket.as_str()) {
+            Ok(mark) => mark.is_current && mark.name.as_slice() == self.session.as_slice(),
+            Err(_) => false,
         }
     }
 }

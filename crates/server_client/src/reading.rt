@@ -39,7 +39,7 @@ fn take<R: Wait>(
     let mut guard = shared.seat.lock(rt);
     let PeerSeat { peer, reader, .. } = &mut *guard;
     let was_welcome = peer.is_welcome;
-    let end = peer.take_read(shared.alloc, reader, piece)?;
+    let end = peer.take_read(reader, piece)?;
     // Without memory the text comes with the next draw.
     let _ = peer.keep_notice();
     let is_news = peer.is_welcome != was_welcome || peer.has_notice();

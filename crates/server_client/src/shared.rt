@@ -1,5 +1,7 @@
 //! What the threads of a peer share, and how they begin.
 
+ghost use Rattle.server_client.specs.Marks.{IsMarkOf};
+
 use crate::PeerHost;
 use attach_proto::{Reader, Side};
 use client_peer::{Meeting, Peer, SessionMark};
@@ -56,7 +58,14 @@ impl SharedPeer {
     }
 
     /// Begins another connection, if the peer meets its session at the socket.
-    pub fn begin<R: Wait>(&self, rt: &R, mark: &SessionMark) -> Meeting {
+    pub fn begin<R: PeerHost + Wait>(
+        &self,
+        rt: &R,
+        arguments: &Arguments<'_>,
+        mark: &SessionMark,
+    ) -> Meeting
+        requires { IsMarkOf (R.disk rt.now) arguments.now.socket.now mark.now }
+    {
         let mut seat = self.seat.lock(rt);
         let met = seat.peer.begin(mark);
         if met == Meeting::Same {
@@ -67,7 +76,9 @@ impl SharedPeer {
     }
 
     /// Takes the session's name for the peer, as long as its server is there.
-    pub fn learn<R: Wait>(&self, rt: &R, mark: SessionMark) {
+    pub fn learn<R: PeerHost + Wait>(&self, rt: &R, arguments: &Arguments<'_>, mark: SessionMark)
+        requires { IsMarkOf (R.disk rt.now) arguments.now.socket.now mark }
+    {
         let mut seat = self.seat.lock(rt);
         let is_here = seat.is_here();
         seat.peer.learn(mark, is_here);

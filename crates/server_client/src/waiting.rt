@@ -1,25 +1,26 @@
 //! Waits for a peer's end, and does in time what it does by itself.
 
 ghost use Rattle.std.specs.Prelude.{◌≡◌};
+ghost use Rattle.server_client.specs.Comebacks.{LetsPass, WaitsForMark};
 ghost use Rattle.server_client.specs.Lines.{has_line};
+ghost use Rattle.server_client.specs.Marks.{IsMarkOf};
 
 use crate::attach::Sources;
-use crate::beside::{Beside, mark_of};
-use crate::comeback::Comeback;
+use crate::beside::mark_of;
 use crate::ending::PeerEnding;
 use crate::opening::{Door, another_door};
 use crate::reading::serve;
 use crate::shared::{SharedPeer, start_thread};
 use crate::writing::send;
 use crate::{PeerHost, Source};
-use client_peer::{Meeting, PeerTask};
+use client_peer::{Meeting, PeerTask, SessionMark};
 use client_words::{Arguments, PeerFault};
-use std::alloc::Global;
+use std::alloc::{AllocError, Global};
 use std::fs::{File, Files};
 use std::sync::{Arc, Wait};
+use std::thread;
 use std::thread::Threads;
 use std::time::{Duration, Instant};
-use std::{fs, thread};
 
 // How long to wait before the next look at the time, and before the next try to connect, in
 // milliseconds.
@@ -29,6 +30,45 @@ const PAUSE: u64 = 50;
 
 // How often a window looks for the mark of its first server.
 const LEARNING: u32 = 20;
+
+// How many tries a peer lets pass before it comes back: some three seconds.
+const MOST_TRIES: u32 = 60;
+
+/// How many tries a peer that comes back has let pass.
+#[derive(Clone, Copy)]
+pub struct Comeback {
+    // While windows come back.
+    held: u32,
+    // While the mark beside the socket may be that of an earlier server.
+    older: u32,
+}
+
+impl Comeback {
+    pub fn new() -> Comeback
+        ensures { (result.held ≡ 0) × (result.older ≡ 0) }
+    {
+        Comeback { held: 0, older: 0 }
+    }
+
+    /// Whether a client lets windows go first, which are pending: one that comes before them shows none.
+    pub fn lets_pass(&mut self, is_pending: bool) -> bool
+        ensures { LetsPass self.old is_pending result self.new }
+    {
+        let passes = is_pending && self.held < MOST_TRIES;
+        self.held = if passes { self.held + 1 } else { 0 };
+        passes
+    }
+
+    /// Whether the peer waits for a mark of the server that made the socket, after what it met. `is_here`: the socket
+    /// is there.
+    pub fn waits(&mut self, met: Meeting, is_here: bool) -> bool
+        ensures { WaitsForMark self.old met is_here result self.new }
+    {
+        let waits = met == Meeting::Older && self.older < MOST_TRIES;
+        self.older = if waits && is_here { self.older + 1 } else { 0 };
+        waits
+    }
+}
 
 // Milliseconds since the peer began. A clock that can't be read stands still.
 fn now<R: PeerHost>(rt: &R, began: Option<Instant>) -> u64 {
@@ -66,21 +106,17 @@ fn look<R: PeerHost + Wait>(rt: &R, shared: &SharedPeer, began: Option<Instant>)
 
 // Whether there is a file beside the socket: .again after a planned end of a server that starts again,
 // .pending while windows of the session before come back.
-fn is_beside<R: Files<File = File> + AllocGlobal>(
-    rt: &R,
-    arguments: &Arguments<'_>,
-    name: &str,
-) -> bool {
+fn is_beside<R: PeerHost>(rt: &R, arguments: &Arguments<'_>, name: &str) -> bool {
     match format!(in rt.alloc(); "{}{}", arguments.socket, name) {
-        Ok(path) => fs::metadata(rt, path.as_str()).is_ok(),
+        Ok(path) => rt.is_there(path.as_str()),
         Err(_) => false,
     }
 }
 
 // Whether the socket's folder is there. Without it no server comes back.
-fn has_place<R: Files<File = File>>(rt: &R, arguments: &Arguments<'_>) -> bool {
+fn has_place<R: PeerHost>(rt: &R, arguments: &Arguments<'_>) -> bool {
     match arguments.socket.rsplit_once('/') {
-        Some((folder, _)) if !folder.is_empty() => fs::metadata(rt, folder).is_ok(),
+        Some((folder, _)) if !folder.is_empty() => rt.is_there(folder),
         _ => true,
     }
 }
@@ -97,11 +133,7 @@ pub fn start<R: PeerHost + Threads + Wait>(
 
 // Whether the next server must not be told a window's page, since a command has cleared it, or this isn't known.
 // SOCKET.restoring has a line for each such window, with its user and the number that it had.
-fn is_hidden<R: Files<File = File> + AllocGlobal>(
-    rt: &R,
-    arguments: &Arguments<'_>,
-    number: u8,
-) -> bool {
+fn is_hidden<R: PeerHost>(rt: &R, arguments: &Arguments<'_>, number: u8) -> bool {
     let line = format!(in rt.alloc(); "{} {number}", arguments.user);
     let path = format!(in rt.alloc(); "{}.restoring", arguments.socket);
     let (Ok(line), Ok(path)) = (line, path) else {
@@ -122,7 +154,7 @@ fn has_line(lines: &[u8], wanted: &[u8]) -> bool
 }
 
 // What comes of what the peer met. A window waits for a mark of the server that made the socket, but not for long.
-fn judge<R: PeerHost + Wait + Files<File = File> + AllocGlobal>(
+fn judge<R: PeerHost + Wait>(
     rt: &R,
     shared: &SharedPeer,
     arguments: &Arguments<'_>,
@@ -136,7 +168,26 @@ fn judge<R: PeerHost + Wait + Files<File = File> + AllocGlobal>(
 }
 
 // Opens a window again in a server that has let it in, if what stands beside the socket is that server's.
-fn reopen<R: PeerHost + Wait + Files<File = File> + AllocGlobal>(
+fn open_again<R: PeerHost + Wait>(
+    rt: &R,
+    shared: &SharedPeer,
+    arguments: &Arguments<'_>,
+    mark: &SessionMark,
+) -> Result<Meeting, AllocError>
+    requires { IsMarkOf (R.disk rt.now) arguments.now.socket.now mark.now }
+{
+    let mut seat = shared.seat.lock(rt);
+    let is_hidden = is_hidden(rt, arguments, seat.peer.page_number);
+    let is_here = seat.is_here();
+    let opened = seat.peer.reopen(mark, is_here, is_hidden);
+    if opened.is_err() {
+        seat.peer.end_by(Err(PeerFault::NoMemory));
+    }
+    opened
+}
+
+// The same, and what comes of it.
+fn reopen<R: PeerHost + Wait>(
     rt: &R,
     shared: &SharedPeer,
     arguments: &Arguments<'_>,
@@ -145,15 +196,7 @@ fn reopen<R: PeerHost + Wait + Files<File = File> + AllocGlobal>(
     let Ok(mark) = mark_of(rt, arguments.socket) else {
         return thread::sleep(rt, Duration::from_millis(PAUSE));
     };
-    let mut seat = shared.seat.lock(rt);
-    let number = seat.peer.page_number;
-    let is_hidden = is_hidden(rt, arguments, number);
-    let is_here = seat.is_here();
-    let opened = seat.peer.reopen(&mark, is_here, is_hidden);
-    if opened.is_err() {
-        seat.peer.end_by(Err(PeerFault::NoMemory));
-    }
-    drop(seat);
+    let opened = open_again(rt, shared, arguments, &mark);
     shared.work.notify_all();
     if let Ok(met) = opened {
         judge(rt, shared, arguments, comeback, met);
@@ -165,7 +208,7 @@ fn reopen<R: PeerHost + Wait + Files<File = File> + AllocGlobal>(
 
 // Takes the session's name for the peer. The server's mark may come a moment after its socket. Returns whether no more
 // tries are needed.
-fn learn<R: PeerHost + Wait + Files<File = File> + AllocGlobal>(
+fn learn<R: PeerHost + Wait>(
     rt: &R,
     shared: &SharedPeer,
     arguments: &Arguments<'_>,
@@ -175,7 +218,7 @@ fn learn<R: PeerHost + Wait + Files<File = File> + AllocGlobal>(
         if let Ok(mark) = mark_of(rt, arguments.socket)
             && (arguments.subcommand.is_attach() || mark.is_current || mark.name.is_empty())
         {
-            shared.learn(rt, mark);
+            shared.learn(rt, arguments, mark);
             return true;
         }
         thread::sleep(rt, Duration::from_millis(PAUSE));
@@ -184,7 +227,7 @@ fn learn<R: PeerHost + Wait + Files<File = File> + AllocGlobal>(
 }
 
 // Comes back to a server of the same session.
-fn come_back<R: PeerHost + Threads + Wait + Files<File = File> + AllocGlobal>(
+fn come_back<R: PeerHost + Threads + Wait + Files<File = File>>(
     rt: &R,
     shared: &Arc<SharedPeer, Global>,
     arguments: &Arguments<'_>,
@@ -196,7 +239,7 @@ fn come_back<R: PeerHost + Threads + Wait + Files<File = File> + AllocGlobal>(
         return Ok(());
     }
     let mark = mark_of(rt, arguments.socket)?;
-    let met = shared.begin(rt, &mark);
+    let met = shared.begin(rt, arguments, &mark);
     judge(rt, shared, arguments, comeback, met);
     if met != Meeting::Same {
         return Ok(());
@@ -208,7 +251,7 @@ fn come_back<R: PeerHost + Threads + Wait + Files<File = File> + AllocGlobal>(
 }
 
 // Asks whether the peer comes back after its connection has ended, and lets it.
-fn ask<R: PeerHost + Threads + Wait + Files<File = File> + AllocGlobal>(
+fn ask<R: PeerHost + Threads + Wait + Files<File = File>>(
     rt: &R,
     shared: &Arc<SharedPeer, Global>,
     arguments: &Arguments<'_>,
@@ -219,6 +262,9 @@ fn ask<R: PeerHost + Threads + Wait + Files<File = File> + AllocGlobal>(
     let mut seat = shared.seat.lock(rt);
     let comes_back = seat.peer.comes_back(time, is_planned, has_place);
     drop(seat);
+    let Ok(comes_back) = comes_back else {
+        return thread::sleep(rt, Duration::from_millis(PAUSE));
+    };
     if !comes_back {
         return;
     }
@@ -229,7 +275,7 @@ fn ask<R: PeerHost + Threads + Wait + Files<File = File> + AllocGlobal>(
 }
 
 /// Waits for the peer's end.
-pub fn wait<R: PeerHost + Threads + Wait + Files<File = File> + AllocGlobal, I: Source>(
+pub fn wait<R: PeerHost + Threads + Wait + Files<File = File>, I: Source>(
     rt: &R,
     shared: &Arc<SharedPeer, Global>,
     arguments: &Arguments<'_>,

@@ -1,14 +1,16 @@
-use Rattle.std.proofs.Common.{refl}
+use Rattle.std.proofs.Common.{refl, sym, subst, ℕ, List}
 use Rattle.client_peer.specs.declared.peer.Peer.{Peer}
-use Rattle.client_peer.specs.Showing.{StopsAt}
+use Rattle.client_peer.specs.Showing.{Adds, StopsAt}
 use Rattle.client_peer.proofs.Passing.{on_err_given, passes_draw, stops_kept}
 use Rattle.client_peer.proofs.peer.Peer.put_draw.Goals as goal
 
 pub returns-clause-ok : goal.returns-clause-ok
 returns-clause-ok c =
     let old : Peer = c.args.self.now in
-    passes_draw old (record old { draws = c.feed.new.self }) c.put.new.self c.args.bytes.now refl refl c.feed.ensures.stands
-    (λ came stands. (c.if-not-feed.ensures.passes came stands).0 refl) c.in_ok-put.ensures.ok
+    let middle : Peer = record old { draws = c.feed.new.self } in
+    passes_draw old middle c.put.new.self c.deref.result.now refl refl c.feed.ensures.stands
+    (λ came stands. (c.if-not-feed.ensures.passes came stands).0 refl)
+    (subst (λ (l : List ℕ). Adds middle c.put.new.self l) (sym c.deref.ensures.value) c.in_ok-put.ensures.ok)
 
 pub returns-in_err-put-clause-err : goal.returns-in_err-put-clause-err
 returns-in_err-put-clause-err c =

@@ -9,12 +9,6 @@ returns-in_default-clause-ok c = passes_same c.args.self.now
 pub returns-in_default-clause-closed : goal.returns-in_default-clause-closed
 returns-in_default-clause-closed c = closed_same c.args.self.now
 
-pub returns-in_default-3-clause-ok : goal.returns-in_default-3-clause-ok
-returns-in_default-3-clause-ok c = passes_same c.args.self.now
-
-pub returns-in_default-3-clause-closed : goal.returns-in_default-3-clause-closed
-returns-in_default-3-clause-closed c = closed_same c.args.self.now
-
 pub returns-in-Welcome-clause-ok : goal.returns-in-Welcome-clause-ok
 returns-in-Welcome-clause-ok c =
     passes_keeps c.args.self.now _ (record { subcommand = refl; draws = refl; kept = refl })

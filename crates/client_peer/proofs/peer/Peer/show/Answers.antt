@@ -1,4 +1,4 @@
-use Rattle.std.proofs.Common.{refl, true, length, nat_eq}
+use Rattle.std.proofs.Common.{refl, true, nat_eq}
 use Rattle.std.proofs.lemmas.Result.{on_ok_weaker}
 use Rattle.client_peer.specs.declared.peer.Peer.{Peer}
 use Rattle.client_peer.specs.Showing.{PassesOn}
@@ -9,7 +9,7 @@ pub returns-clause-ok : goal.returns-clause-ok
 returns-clause-ok c =
     let old : Peer = c.args.self.now in
     let middle : Peer = record old {
-      is_cut = nat_eq (length c.args.bytes.now) 8192;
+      is_cut = nat_eq c.len.result 8192;
       has_drawn = true;
       notice = record old.notice { is_hidden = true };
     } in

@@ -12,13 +12,13 @@ pub returns-clause-ok : goal.returns-clause-ok
 returns-clause-ok c =
     let first : Peer = c.put_message.new.self in
     let second : Peer = c.if-told.self in
-    let last : Peer = c.match-told-3.self in
+    let last : Peer = c.match-told-4.self in
     let welcomed : PassesOn first second = elim c.if-told.branch [
       | then-told+in_ok-welcome w ↦
           subst (PassesOn first) (sym w.self-is) (passes_keeps first w.welcome.new.self w.welcome.ensures.keeps)
       | else-told w ↦ subst (PassesOn first) (sym w.self-is) (passes_same first)
     ] in
-    let heard : PassesOn second last = elim c.match-told-3.branch [
+    let heard : PassesOn second last = elim c.match-told-4.branch [
       | in-Some+in_ok-hear w ↦
           subst (PassesOn second) (sym w.self-is)
           (passes_heard second w.hear.new.self w.hear.ensures.subcommand w.hear.ensures.keeps)
@@ -31,12 +31,12 @@ pub returns-clause-closed : goal.returns-clause-closed
 returns-clause-closed c =
     let first : Peer = c.put_message.new.self in
     let second : Peer = c.if-told.self in
-    let last : Peer = c.match-told-3.self in
+    let last : Peer = c.match-told-4.self in
     let welcomed : StaysClosed first second = elim c.if-told.branch [
       | then-told+in_ok-welcome w ↦ subst (StaysClosed first) (sym w.self-is) w.welcome.ensures.closed
       | else-told w ↦ subst (StaysClosed first) (sym w.self-is) (closed_same first)
     ] in
-    let heard : StaysClosed second last = elim c.match-told-3.branch [
+    let heard : StaysClosed second last = elim c.match-told-4.branch [
       | in-Some+in_ok-hear w ↦ subst (StaysClosed second) (sym w.self-is) w.hear.ensures.closed
       | in_default w ↦ subst (StaysClosed second) (sym w.self-is) (closed_same second)
     ] in
@@ -46,6 +46,4 @@ returns-clause-closed c =
 pub returns-in_err-note-clause-err : goal.returns-in_err-note-clause-err
 returns-in_err-note-clause-err c =
     let old : Peer = c.args.self.now in
-    let new : Peer = c.put_message.new.self in
-    on_err_given {P = StopsAt old new} c.from_residual-in_err-note.result
-    (passes_stops old new c.in_ok-put_message.ensures.ok)
+    on_err_given {P = StopsAt old old} c.from_residual.result (passes_stops old old (passes_same old))

@@ -1,2 +1,0 @@
--- What comes back of the frames that were handed out.
-use Rattle.std.proofs.Common.{◌≡◌, ◌<◌, ◌≤◌, ◌++◌, ◌∙◌}
