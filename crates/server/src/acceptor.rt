@@ -5,8 +5,7 @@ use mio::Registry;
 use mio::net::{UnixListener, UnixStream};
 use server_turns::Backlog;
 use std::alloc::{AllocError, Global};
-use std::io;
-use std::io::ErrorKind;
+use std::io::{self, ErrorKind};
 use std::sync::Wait;
 
 // This many descriptors are kept for connections that don't stay, so that commands still work when

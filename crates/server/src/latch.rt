@@ -5,8 +5,7 @@ ghost use Rattle.std.specs.Io.KnownBytes.{Appends};
 
 use server_outcome::Unready;
 use server_trail::NeverReady;
-use std::io;
-use std::io::Write;
+use std::io::{self, Write};
 use std::sync::{Condvar, Mutex, Wait};
 
 // What is known of the loops.
@@ -93,10 +92,10 @@ pub struct NeverSaid(());
 
 impl NeverReady for NeverSaid {}
 
-// Where the line is written, and what came of it.
+// Where the line is written, if it may still be said, and what came of it.
 #[derive(Drop)]
 struct ReadyOutput<'a, O> {
-    output: &'a mut O,
+    output: Option<&'a mut O>,
     said: Option<io::Result<()>>,
 }
 
@@ -109,6 +108,7 @@ pub struct ReadyLine<'a, O> {
 impl<'a, O: Write> ReadyLine<'a, O> {
     /// It writes to this output, and has said nothing yet.
     pub fn new(output: &'a mut O) -> ReadyLine<'a, O> {
+        let output = Some(output);
         ReadyLine {
             output: Mutex::new(ReadyOutput { output, said: None }),
         }
@@ -117,24 +117,21 @@ impl<'a, O: Write> ReadyLine<'a, O> {
     /// Says that the server is ready, of which all loops are. None if it couldn't.
     pub fn say(&self, rt: &impl Wait, _all: AllReady) -> Option<ReadySaid> {
         let mut line = self.output.lock(rt);
-        let said = write_line(line.output);
+        let said = write_line(line.output.take()?);
         line.said = Some(said);
-        match said {
-            Ok(()) => Some(ReadySaid(())),
-            Err(_) => None,
-        }
+        said.is_ok().then_some(ReadySaid(()))
     }
 
-    /// What came of saying it, or None if it didn't get to that; and whether it was never said.
+    /// What came of saying it, or None if it didn't get to that; and whether it was never said. It isn't said later.
     pub fn said(&self, rt: &impl Wait) -> (Option<io::Result<()>>, Option<NeverSaid>)
         ensures { result.0 ≡ Some (Ok tt) → result.1 ≡ None }
     {
-        let said = self.output.lock(rt).said.take();
-        let never = match &said {
-            Some(Ok(())) => None,
-            _ => Some(NeverSaid(())),
-        };
-        (said, never)
+        let mut line = self.output.lock(rt);
+        line.output = None;
+        match line.said {
+            Some(Ok(())) => (line.said, None),
+            said => (said, Some(NeverSaid(()))),
+        }
     }
 }
 

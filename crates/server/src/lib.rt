@@ -12,6 +12,6 @@ mod turns;
 
 pub use server_connections::Turn;
 pub use server_loop::{Gate, Loop, Open};
-pub use server_users::{AuthFault, Users, UsersFault, authenticate};
+pub use server_users::{AuthFault, User, Users, UsersFault, authenticate};
 pub use serving::{Handles, serve, serve_through};
 pub use starting::SetupHost;

@@ -6,8 +6,7 @@ use server_loop::{Name, News};
 use server_session::Recorder;
 use server_system::Log;
 use server_trail::{DiskNews, DiskWatch, MOST};
-use std::fmt;
-use std::fmt::{Display, Formatter};
+use std::fmt::{self, Display, Formatter};
 use std::sync::Wait;
 use std::time::Clock;
 
