@@ -22,6 +22,20 @@ keys 2 \01:writelock on\0d
 keys 2 \01:select 0\0d
 keys 3 \01:select 2\0d
 keys 3 x => say 3 denied: window 2 locked by bob / ok
+= who comes back to a window whose lock is free takes it, also from the owner
+keys 0 \01:select 2\0d
+keys 3 \01:writelock auto\0d
+keys 3 \01:select 0\0d
+keys 2 x => input 2 x / ok
+keys 2 \01:select 2\0d
+keys 0 y => say 0 denied: window 2 locked by bob / ok
+keys 0 \01:writelock off\0d => say 0 denied: window 2 locked by bob / ok
+= a lock goes where its holder may not write any more in all windows
+keys 3 \01:writelock on\0d
+keys 3 \01:select 0\0d
+keys 2 x => say 2 denied: window 2 locked by eve / ok
+command own - aclchg eve -w #
+keys 2 x => input 2 x / ok
 = a window that is opened where locks begin as on is locked by its opener
 command own - defwritelock on
 open own 24 80 0 new => opened 3 3
@@ -39,6 +53,13 @@ open own 24 80 0 new => opened 3 2
 command bob 2 stuff x => refused denied: w on window 2: entry bob -w
 command bob 2 title hi
 command bob - windows => text 0 zero  1 one  2 hi
+= a preset is what a user who becomes known later has on windows
+command own - aclumask ?-w
+command own - aclchg cat +x kill
+command cat 0 stuff x => refused denied: w on window 0: entry cat -w
+= a user without leaders has none, and a command types into its window
+command own - aclgrp bob => text bob: none
+command own 0 stuff hi => input 0 hi / ok
 = the owner can't be removed, and nothing changes
 command own - acldel own => refused acl: 2
 keys 0 x => input 0 x / ok

@@ -13,14 +13,16 @@ use Rattle.program_words.specs.declared.setup.SetupFault.TheVariants.{NoMemory, 
 use Rattle.server_session.specs.SettingUp.{agrees, setup_of}
 use Rattle.server_session.specs.declared.loop_body.LoopsFault.{LoopsFault}
 use Rattle.server_session.specs.declared.loop_body.LoopsFault.TheVariants as loops
-use Rattle.server_system.specs.Faults.{IsOfSetup}
-use Rattle.server_system.specs.Paths.{socket_path, users_path}
-use Rattle.server_system.specs.declared.fault.ServeFault.{ServeFault}
-use Rattle.server_system.specs.declared.fault.ServeFault.TheVariants as fault
-use Rattle.server_system.specs.declared.fault.SetupCause.TheVariants as cause
+use Rattle.server_outcome.specs.Faults.{IsOfSetup}
+use Rattle.server_system.specs.Looking.{IsReadOf}
+use Rattle.server_system.specs.Paths.{ListensAt, socket_path}
+use Rattle.server_system.specs.declared.host.Host.{Ghosts}
+use Rattle.server_outcome.specs.declared.fault.ServeFault.{ServeFault}
+use Rattle.server_outcome.specs.declared.fault.ServeFault.TheVariants as fault
+use Rattle.server_outcome.specs.declared.fault.SetupCause.TheVariants as cause
 use Rattle.server.specs.declared.loops.KeptSession.{KeptSession}
-use Rattle.server.specs.declared.options.Options.{Options}
-use Rattle.server.specs.declared.setup_file.Setup.{Setup}
+use Rattle.server.specs.declared.starting.Options.{Options}
+use Rattle.server.specs.declared.starting.Setup.{Setup}
 use Rattle.server.specs.declared.starting.ServerStart.{ServerStart}
 
 -- ---- options
@@ -52,6 +54,10 @@ pub record IsAskedFor (f : Found) (o : Options) : Type 0 where
   pub tells : one_text f (codes "log") ≡ Some (codes "true") → o.tells ≡ true
   pub quiet : one_text f (codes "log") ≡ Some (codes "false") → o.tells ≡ false
 
+-- the options that these arguments ask for
+abbrev pub AreOptionsOf : (List (List ℕ) → Found → Type 0) → List (List ℕ) → Options → Type 0
+AreOptionsOf means words o = (f : Found) × means words f × IsAskedFor f o
+
 -- from 1 to 8
 abbrev pub loops_of : ℕ → ℕ
 loops_of asked = max 1 (min asked 8)
@@ -70,12 +76,6 @@ module _ (reads : List ℕ → Result (Vec ℕ Global) Error → Type 0) where
   IsUnread (Some path) (fault.Setup at (cause.NotRead why)) = (string_bytes at ≡ path) × reads path (Err why.0)
   IsUnread given other = ⊥
 
-  -- these users were read, this setup and this socket
-  pub record IsStartOf (o : Options) (b : ServerStart) : Type 0 where
-    pub users : users_path b.file ≡ o.users.now
-    pub socket : socket_path b.place.now ≡ o.socket.now
-    pub setup : IsSetupAt (text_of o.setup) b.setup
-
   -- what a server kept that started with these options and has ended well: a session that began with all lines of
   -- the setup, with a trail that has every answer; and its file, if one was asked for, was read back
   pub record IsKeptFor (o : Options) (kept : KeptSession) : Type 0 where
@@ -84,6 +84,15 @@ module _ (reads : List ℕ → Result (Vec ℕ Global) Error → Type 0) where
     pub began : setup_of kept.session ≡ setup.file.items
     pub agrees_with : agrees kept.session ≡ true
     pub trail : is_some kept.trail ≡ is_some o.trail
+
+-- these users were read, this setup, and this listens on the socket
+pub record IsStartOf {R A B C : Type 0} (system : Ghosts R A B C)
+    (reads : List ℕ → Result (Vec ℕ Global) Error → Type 0) (host : R) (o : Options) (b : ServerStart)
+    : Type 0 where
+  pub users : IsReadOf system host o.users.now b.users b.seen
+  pub socket : socket_path b.place.now ≡ o.socket.now
+  pub listens : ListensAt system host o.socket.now b.listener
+  pub setup : IsSetupAt reads (text_of o.setup) b.setup
 
 -- why a session with the setup at this path didn't begin: a line that can be no command, or that was refused
 abbrev pub IsStartFault : List ℕ → LoopsFault → ServeFault → Type 0

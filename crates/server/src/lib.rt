@@ -6,10 +6,7 @@ mod latch;
 mod log_lines;
 mod loop_handle;
 mod loops;
-mod options;
-mod ready;
 mod serving;
-mod setup_file;
 mod starting;
 mod turns;
 
@@ -17,4 +14,4 @@ pub use server_connections::Turn;
 pub use server_loop::{Gate, Loop, Open};
 pub use server_users::{AuthFault, Users, UsersFault, authenticate};
 pub use serving::{Handles, serve, serve_through};
-pub use setup_file::SetupHost;
+pub use starting::SetupHost;

@@ -7,20 +7,18 @@ ghost use Rattle.server_system.specs.Paths.{socket_path, watched_path};
 ghost use Rattle.server_trail.specs.Journals.{journal_path};
 ghost use Rattle.server.specs.Starting.{loops_of, text_of};
 
+use crate::latch::ReadyLine;
 use crate::log_lines::DiskLog;
 use crate::loop_handle::{LoopStart, Shared};
-use crate::options::Options;
-use crate::ready::ReadyLine;
-use crate::setup_file::start_fault;
+use crate::starting::{Options, start_fault};
 use crate::turns::run_loop;
 use server_loop::{Gate, ServerEnd};
+use server_outcome::{LastLine, ServeFault, Unready, cause_of, outcome_of, served};
 use server_session::{
     Accounts, Agreement, Begun, Books, LoopBody, Recorder, Seat, Seated, SharedSession, Start,
     Trail, keep,
 };
-use server_system::{
-    Host, LastLine, ServeFault, SocketPath, Unready, cause_of, outcome_of, served,
-};
+use server_system::{Host, SocketPath};
 use server_trail::{Journal, ReadBack};
 use std::alloc::Global;
 use std::io::Write;

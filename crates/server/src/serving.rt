@@ -1,25 +1,22 @@
 //! `muxd`: the session, its listener and its loops.
 
-ghost use Rattle.std.specs.Prelude.{◌≡◌, IfOk, is_some, option_map};
+ghost use Rattle.std.specs.Prelude.{◌≡◌, IfOk, is_some, map, option_map};
 ghost use Rattle.std.specs.Arc.{arc_value};
+ghost use Rattle.std.specs.String.{string_bytes};
 ghost use Rattle.server_trail.specs.Journals.{journal_path};
-ghost use Rattle.server.specs.Starting.{IsKeptFor, IsStartOf, text_of};
+ghost use Rattle.server.specs.Starting.{AreOptionsOf, IsKeptFor, IsStartOf, text_of};
 
-use crate::latch::Latch;
+use crate::latch::{Latch, ReadyLine};
 use crate::loop_handle::{LoopHandle, Shared, places, start_watching};
 use crate::loops::{KeptSession, Server};
-use crate::options::Options;
-use crate::ready::ReadyLine;
-use crate::setup_file::{Setup, SetupHost};
-use crate::starting::{ServerStart, listen, read_users};
+use crate::starting::{Options, ServerStart, Setup, SetupHost, listen, read_users};
 use acl::UserId;
 use clap::Error;
-use program_words::{SystemError, of_server, tell};
+use program_words::{SystemError, tell};
 use server_loop::{Gate, Open};
+use server_outcome::{LastLine, ServeFault, fill_closed};
 use server_session::{Accounts, Books, Start};
-use server_system::{
-    LastLine, LastLook, Log, ServeFault, Stamp, UsersFile, WatchedUsers, fill_closed,
-};
+use server_system::{LastLook, Log, Stamp, UsersFile, WatchedUsers};
 use server_trail::Journal;
 use std::alloc::Global;
 use std::io::Write;
@@ -53,13 +50,15 @@ fn refuse<O: Write, E: Write>(error: &Error, output: &mut O, errors: &mut E) -> 
 }
 
 // What the arguments ask for, or the status to exit with if they are invalid.
-fn options_of<'a, O: Write, E: Write>(
-    alloc: Global,
+fn options_of<'a, R: SetupHost, O: Write, E: Write>(
+    rt: &R,
     words: &'a [String],
     output: &mut O,
     errors: &mut E,
-) -> Result<Options<'a>, u8> {
-    match of_server(alloc, words) {
+) -> Result<Options<'a>, u8>
+    ensures { IfOk result (AreOptionsOf (R.means rt.now) (map string_bytes words.entry.now)) }
+{
+    match rt.matches_of(words) {
         Ok(matches) => Ok(Options::of(&matches)),
         Err(error) => Err(refuse(&error, output, errors)),
     }
@@ -127,12 +126,11 @@ where
     R: SetupHost + Threads + Wait,
     G: Gate + Copy + Sync + Drop,
     O: Write + Send,
-    requires { IsStartOf (R.reads rt.now) options.now beginning }
+    requires { IsStartOf R.Host (R.reads rt.now) rt.now options.now beginning }
     ensures { IfOk result (IsKeptFor (R.reads rt.now) options.now) }
 {
     let ServerStart {
         users,
-        file,
         seen,
         setup,
         place,
@@ -143,6 +141,7 @@ where
     let owner = users.owner();
     let loops = usize::from(options.loops.clamp(1, 8));
     let (places, loop_handles) = places(rt, loops, listener)?;
+    let file = UsersFile::new(handles.files, options.users)?;
     let watched = WatchedUsers::new(alloc, file, owner);
     let shared = shared(rt, options.tells, watched, seen, loop_handles)?;
     let journal = journal(handles.files, alloc, options.trail, owner)?;
@@ -181,12 +180,11 @@ where
     ensures { IfOk result (IsKeptFor (R.reads rt.now) options.now) }
 {
     let files = handles.files;
-    let (users, file, seen) = read_users(files, rt.alloc(), options.users, errors)?;
+    let (users, seen) = read_users(rt, options.users, errors)?;
     let setup = Setup::read(rt, options.setup)?;
     let (place, listener) = listen(rt, options.socket, errors)?;
     let beginning = ServerStart {
         users,
-        file,
         seen,
         setup,
         place: &place,
@@ -240,7 +238,7 @@ where
     O: Write + Send,
     E: Write,
 {
-    let options = match options_of(rt.alloc(), words, output, errors) {
+    let options = match options_of(rt, words, output, errors) {
         Ok(options) => options,
         Err(status) => return status,
     };

@@ -1,1 +1,2 @@
+mod Climbing
 mod Stamps

@@ -1,5 +1,4 @@
-pub mod Ending
-pub mod Faults
+pub mod Folders
 pub mod Logging
 pub mod Looking
 pub mod Paths

@@ -1,16 +1,17 @@
 -- The users' file: when it is read, and what is taken from it.
 use Rattle.std.specs.Prelude.{◌≡◌, ◌⊎◌, ◌==◌, ℕ, ◌+◌, ◌-◌, ◌^◌, ◌<◌, ◌≤◌, List, length, Option, Some, None}
 use Rattle.std.specs.Prelude.{Result, Ok, Err}
-use Rattle.std.specs.Prelude.{false, if◌then◌else◌, min, slice_get}
+use Rattle.std.specs.Prelude.{bit_and, false, if◌then◌else◌, min, slice_get}
 use Rattle.acl.specs.Names.{name_of}
 use Rattle.acl.specs.Same.{same_user}
 use Rattle.acl.specs.declared.user_id.UserId.{UserId}
 use Rattle.server_users.specs.Entries.{Entry, IsFileOf, names}
 use Rattle.server_users.specs.Stands.{Breaks}
 use Rattle.server_users.specs.Trust.{IsClosed, IsKept, IsOwn}
-use Rattle.server_users.specs.declared.trust.Access.{Access}
-use Rattle.server_system.specs.declared.fault.ServeFault.{ServeFault}
-use Rattle.server_system.specs.declared.fault.ServeFault.TheVariants as fault
+use Rattle.server_system.specs.Folders.{IsHeldFile, access_of}
+use Rattle.server_system.specs.declared.fault.UsersFileFault.{UsersFileFault}
+use Rattle.server_system.specs.declared.fault.UsersFileFault.TheVariants as fault
+use Rattle.server_system.specs.declared.host.Host.{Ghosts}
 use Rattle.server_system.specs.declared.users_file.LastLook.{LastLook}
 use Rattle.server_system.specs.declared.users_file.Stamp.{Stamp}
 use Rattle.server_system.specs.declared.watched.KnownUsers.{KnownUsers}
@@ -19,8 +20,9 @@ use Rattle.server_system.specs.declared.watched.UsersNews.TheVariants as news
 
 -- ---- what is read
 
-abbrev pub access_of : Stamp → Access
-access_of stamp = record { owner = stamp.owner; mode = stamp.mode }
+-- a plain file has this stamp
+abbrev pub IsPlain : Stamp → Type 0
+IsPlain stamp = bit_and stamp.mode 0o170000 ≡ 0o100000
 
 -- a file of at most 1,048,576 bytes, which only root and this account can change, is the file of these users
 pub record AreOf (account : ℕ) (stamp : Stamp) (file : List ℕ) (users : List Entry) : Type 0 where
@@ -28,7 +30,21 @@ pub record AreOf (account : ℕ) (stamp : Stamp) (file : List ℕ) (users : List
   pub small : length file ≤ 1048576
   pub lines : IsFileOf users file
 
-abbrev pub IsWrong : ℕ → Stamp → List ℕ → ServeFault → Type 0
+-- These users and this stamp were read of a file at a path: it was found to be a plain one which others can't replace,
+-- its first bytes were read, and they are the users.
+pub record IsReadOf {R A B C : Type 0} (system : Ghosts R A B C) (host : R) (path : List ℕ) (users : List Entry)
+    (stamp : Stamp)
+    : Type 0 where
+  pub held : IsHeldFile system host path
+  pub found : system.finds host path stamp
+  pub plain : IsPlain stamp
+  pub file : List ℕ
+  pub read : system.reads host path 1048577 file
+  pub account : ℕ
+  pub runs : system.runs_as host account
+  pub are : AreOf account stamp file users
+
+abbrev pub IsWrong : ℕ → Stamp → List ℕ → UsersFileFault → Type 0
 IsWrong account stamp file (fault.Foreign path number) = IsOwn account (access_of stamp) → ⊥
 IsWrong account stamp file (fault.Writable path) = IsClosed (access_of stamp) → ⊥
 IsWrong account stamp file (fault.TooLarge path) = 1048576 < length file
@@ -37,35 +53,36 @@ IsWrong account stamp file fault.NoMemory = Unit {0}
 IsWrong account stamp file other = ⊥
 
 -- what is remembered of a look, which found the file so, and this fault
-abbrev pub after_look : Option Stamp → Option ServeFault → LastLook → LastLook
+abbrev pub after_look : Option Stamp → Option UsersFileFault → LastLook → LastLook
 after_look found (Some fault.NoMemory) seen = seen
 after_look found (Some (fault.NoFile path error)) seen = record { stamp = None; failed = Some found }
 after_look found (Some (fault.Folder path folder)) seen = record { stamp = None; failed = Some found }
 after_look found other seen = record { stamp = found; failed = None }
 
 -- such a fault isn't news if it has been told
-abbrev pub MayBeTold : Option ServeFault → Type 0
+abbrev pub MayBeTold : Option UsersFileFault → Type 0
 MayBeTold (Some (fault.NoFile path error)) = Unit {0}
 MayBeTold (Some (fault.Folder path folder)) = Unit {0}
 MayBeTold other = ⊥
 
 -- the fault of what was read, if there is one
-abbrev pub fault_of : Result (List Entry) ServeFault → Option ServeFault
+abbrev pub fault_of : Result (List Entry) UsersFileFault → Option UsersFileFault
 fault_of (Ok users) = None
 fault_of (Err why) = Some why
 
 -- what was read is the news, unless it is a fault that has been told
-abbrev pub Tells : Option Stamp → LastLook → Result (List Entry) ServeFault
-    → Option (Result (List Entry) ServeFault) → Type 0
+abbrev pub Tells : Option Stamp → LastLook → Result (List Entry) UsersFileFault
+    → Option (Result (List Entry) UsersFileFault) → Type 0
 Tells found seen read None = MayBeTold (fault_of read) × (seen.failed ≡ Some found)
 Tells found seen read (Some news) = news ≡ read
 
-module _ {F : Type 0} (finds : F → Option Stamp → Type 0) (reads : F → Result (List Entry) ServeFault → Type 0) where
+module _ {F : Type 0} (finds : F → Option Stamp → Type 0)
+    (reads : F → Result (List Entry) UsersFileFault → Type 0) where
   -- The file was found as it was at the last look, and there is no news. Or it was read, and that is the news.
-  abbrev pub LooksAt : F → LastLook → Option (Result (List Entry) ServeFault) → LastLook → Type 0
+  abbrev pub LooksAt : F → LastLook → Option (Result (List Entry) UsersFileFault) → LastLook → Type 0
   LooksAt file old news new = (found : Option Stamp) × finds file found
       × (((found ≡ old.stamp) × (news ≡ None) × (new ≡ old))
-      ⊎ ((read : Result (List Entry) ServeFault) × reads file read
+      ⊎ ((read : Result (List Entry) UsersFileFault) × reads file read
       × (new ≡ after_look found (fault_of read) old) × Tells found old read news))
 
 -- ---- what is known
@@ -108,13 +125,13 @@ with_users owner first users looks =
     else record looks { news = Some news.OtherOwner }
 
 -- what is known after a file was read, or wasn't for this fault
-abbrev pub Takes : UserId → Result (List Entry) ServeFault → Looks → Looks → Type 0
+abbrev pub Takes : UserId → Result (List Entry) UsersFileFault → Looks → Looks → Type 0
 Takes owner (Ok users) old new =
     (first : UserId) × (slice_get (names users) 0 ≡ Some (name_of first))
     × (new ≡ with_users owner first users old)
 Takes owner (Err why) old new = new ≡ record old { news = Some (news.Faulty why) }
 
 -- the look that was begun is done; what it found is taken, if anything
-abbrev pub Ends : UserId → Option (Result (List Entry) ServeFault) → Looks → Looks → Type 0
+abbrev pub Ends : UserId → Option (Result (List Entry) UsersFileFault) → Looks → Looks → Type 0
 Ends owner None old new = new ≡ record old { done = old.begun }
 Ends owner (Some found) old new = Takes owner found (record old { done = old.begun }) new

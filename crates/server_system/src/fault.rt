@@ -1,19 +1,15 @@
-//! What can be wrong, and what to do about it.
+//! What can be wrong with a socket or with a users' file, and what to do about it.
 
-ghost use Rattle.server_system.specs.Faults.{IsOfSetup, IsOfTrail};
-
-use program_words::{RefusedLine, SetupFault, SystemError};
-use server_trail::JournalFault;
-use server_users::{OpenFolder, UsersFault};
-use std::alloc::{AllocError, AllocFailed, Global};
-use std::fmt::{Display, Formatter};
-use std::io::{self, ErrorKind};
-use std::{fmt, str};
+use crate::folders::OpenFolder;
+use program_words::SystemError;
+use server_users::UsersFault;
+use std::alloc::AllocError;
+use std::io;
 use thiserror::Error;
 
-/// Why a server can't listen on its socket.
+/// What is wrong with a socket on which a server is to listen.
 #[derive(Debug, Drop, Error)]
-pub enum SocketFault {
+pub enum SocketCause {
     #[error("a server listens there: end it with the command quit, or choose another path")]
     Taken,
     #[error("a file that is no socket is there: choose another path")]
@@ -33,131 +29,45 @@ pub enum SocketFault {
     NoMemory,
 }
 
-impl From<io::Error> for SocketFault {
-    fn from(error: io::Error) -> SocketFault {
-        SocketFault::NotMade(SystemError(error))
+impl From<io::Error> for SocketCause {
+    fn from(error: io::Error) -> SocketCause {
+        SocketCause::NotMade(SystemError(error))
     }
 }
 
-/// A line of a setup that the session refused, by its number, and the text of the refusal.
-#[derive(Debug, Drop)]
-pub struct RefusedCommand {
-    pub number: usize,
-    pub line: Vec<u8>,
-    pub said: Vec<u8>,
-}
-
-impl Display for RefusedCommand {
-    fn fmt<W: fmt::Write>(&self, f: &mut Formatter<W>) -> fmt::Result {
-        let refused = RefusedLine {
-            number: self.number,
-            line: str::from_utf8(&self.line).unwrap_or("?"),
-            said: str::from_utf8(&self.said).unwrap_or("?"),
-        };
-        write!(f, "{refused}")
-    }
-}
-
-/// What is wrong with a setup.
+/// Why a server can't listen on the socket at a path.
 #[derive(Debug, Drop, Error)]
-pub enum SetupCause {
-    #[error("{0} (set --setup)")]
-    NotRead(SystemError),
-    /// A line of it can be no command.
-    #[error("{0}")]
-    Wrong(SetupFault),
-    #[error("{0}")]
-    Refused(RefusedCommand),
-}
-
-/// Why `muxd` doesn't serve, or ended.
-#[derive(Debug, Drop, Error)]
-pub enum ServeFault {
-    /// The users' file at this path.
-    #[error("can't read users' file {0}: {1} (set --users)")]
-    NoFile(String, SystemError),
-    /// The users' file at this path.
-    #[error("others may write the users' file: chmod go-w {0}")]
-    Writable(String),
-    /// The users' file at this path, and the account that runs the server.
-    #[error("users' file {0} belongs to another account: chown {1} {0}")]
-    Foreign(String, u32),
-    /// The users' file at this path.
-    #[error("users' file {0}: {1}")]
-    Folder(String, OpenFolder),
-    /// What stands at this path.
-    #[error("users' file {0} is no plain file: set --users")]
-    NotPlain(String),
-    /// The users' file at this path.
-    #[error("users' file {0} has more than 1,048,576 bytes: remove lines, or set --users")]
-    TooLarge(String),
-    /// The users' file at this path.
-    #[error("users' file {0}, {1}")]
-    Users(String, UsersFault),
-    /// The setup at this path.
-    #[error("setup {0}: {1}")]
-    Setup(String, SetupCause),
-    /// The socket at this path.
+pub enum SocketFault {
     #[error("socket {0}: {1}")]
-    Socket(String, SocketFault),
+    At(String, SocketCause),
     #[error("out of memory")]
     NoMemory,
-    #[error("can't write to standard output: {0}")]
-    Untold(SystemError),
-    #[error("the system refused a loop: {0}")]
-    Other(SystemError),
-    #[error("the system refused a thread: raise TasksMax of the unit, or ulimit -u")]
-    NoThread,
-    #[error("the session's trail is full: start another session")]
-    TrailFull,
-    #[error("a loop failed: the session has ended")]
-    Loop,
-    #[error("the trail differs from what was answered: this is a fault of muxd")]
-    Trail,
-    /// The trail's file at this path.
-    #[error("trail {0}: {1}")]
-    Journal(String, JournalFault),
 }
 
-impl ServeFault {
-    /// The setup at this path can't be given.
-    pub fn of_setup(alloc: Global, path: &str, cause: SetupCause) -> ServeFault
-        ensures { IsOfSetup path.now cause result }
-    {
-        match String::from_str(alloc, path) {
-            Ok(path) => ServeFault::Setup(path, cause),
-            Err(_) => ServeFault::NoMemory,
-        }
-    }
-
-    /// The trail's file at this path has a fault.
-    pub fn of_trail(alloc: Global, path: &str, fault: JournalFault) -> ServeFault
-        ensures { IsOfTrail path.now fault result }
-    {
-        match String::from_str(alloc, path) {
-            Ok(path) => ServeFault::Journal(path, fault),
-            Err(_) => ServeFault::NoMemory,
-        }
-    }
+/// Why the users' file at a path isn't read.
+#[derive(Debug, Drop, Error)]
+pub enum UsersFileFault {
+    #[error("can't read users' file {0}: {1} (set --users)")]
+    NoFile(String, SystemError),
+    #[error("others may write the users' file: chmod go-w {0}")]
+    Writable(String),
+    /// It belongs to another account than this one, which runs the server.
+    #[error("users' file {0} belongs to another account: chown {1} {0}")]
+    Foreign(String, u32),
+    #[error("users' file {0}: {1}")]
+    Folder(String, OpenFolder),
+    #[error("users' file {0} is no plain file: set --users")]
+    NotPlain(String),
+    #[error("users' file {0} has more than 1,048,576 bytes: remove lines, or set --users")]
+    TooLarge(String),
+    #[error("users' file {0}, {1}")]
+    Users(String, UsersFault),
+    #[error("out of memory")]
+    NoMemory,
 }
 
-impl From<io::Error> for ServeFault {
-    fn from(error: io::Error) -> ServeFault {
-        match error.kind() {
-            ErrorKind::OutOfMemory => ServeFault::NoMemory,
-            _ => ServeFault::Other(SystemError(error)),
-        }
-    }
-}
-
-impl From<AllocError> for ServeFault {
-    fn from(_error: AllocError) -> ServeFault {
-        ServeFault::NoMemory
-    }
-}
-
-impl<T: Drop> From<AllocFailed<T>> for ServeFault {
-    fn from(_error: AllocFailed<T>) -> ServeFault {
-        ServeFault::NoMemory
+impl From<AllocError> for UsersFileFault {
+    fn from(_error: AllocError) -> UsersFileFault {
+        UsersFileFault::NoMemory
     }
 }

@@ -3,8 +3,9 @@
 ghost use Rattle.std.specs.Prelude.{◌≡◌, ◌⊎◌, ◌+◌, ◌-◌, ◌≤◌, ◌==◌, [], length, vec_len, vec_capacity};
 ghost use Rattle.server_system.specs.Logging.{IsKept, IsLeftOut};
 
-use crate::standard::{PIECE, has_room};
 use jiff::Timestamp;
+use libc::net as c;
+use libc::types::pollfd;
 use std::alloc::Global;
 use std::fmt::Display;
 use std::io::Write;
@@ -186,4 +187,17 @@ impl Log {
 fn time<R: Clock>(rt: &R) -> Option<Timestamp> {
     let now = rt.since_1970().ok()?;
     Timestamp::from_second(i64::try_from(now.as_secs()).ok()?).ok()
+}
+
+/// A pipe, a terminal or a socket that has room takes this many bytes without waiting.
+pub const PIECE: usize = 512;
+
+/// Waits at most this many milliseconds until a file has room, and returns whether it has, or is broken.
+pub fn has_room<F: AsRawFd>(file: &F, longest: i32) -> bool {
+    let mut asked = [pollfd {
+        fd: file.as_raw_fd(),
+        events: c::POLLOUT,
+        revents: 0,
+    }];
+    c::poll(&mut asked, longest) != 0
 }

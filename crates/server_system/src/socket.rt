@@ -1,14 +1,14 @@
 //! The socket that a server listens on.
 
 ghost use Rattle.std.specs.Prelude.{◌≡◌, IfOk};
-ghost use Rattle.server_system.specs.Paths.{socket_path};
+ghost use Rattle.server_system.specs.Paths.{ListensAt, socket_path};
 
-use crate::Host;
-use crate::fault::{ServeFault, SocketFault};
+use crate::fault::{SocketCause, SocketFault};
+use crate::folders::{OpenFolder, open_folder};
+use crate::host::Host;
 use mio::net::{UnixListener, UnixStream};
-use server_users::{OpenFolder, open_folder, own_account};
 use std::alloc::Global;
-use std::fs::{File, OpenOptions, TryLockError};
+use std::fs::{File, Files, OpenOptions, TryLockError};
 use std::io::ErrorKind;
 use std::os::unix::fs::{FileTypeExt, MetadataExt, OpenOptionsExt};
 use std::sync::{Mutex, Wait};
@@ -30,29 +30,29 @@ pub struct SocketPath<'a> {
 }
 
 // Whether there is a socket. Another file is a fault.
-fn is_there<R: Host>(rt: &R, path: &str) -> Result<bool, SocketFault> {
+fn is_there<R: Host>(rt: &R, path: &str) -> Result<bool, SocketCause> {
     match fs::symlink_metadata(rt, path) {
         Ok(found) if found.file_type().is_socket() => Ok(true),
-        Ok(_) => Err(SocketFault::NoSocket),
+        Ok(_) => Err(SocketCause::NoSocket),
         Err(error) if error.kind() == ErrorKind::NotFound => Ok(false),
-        Err(error) => Err(SocketFault::from(error)),
+        Err(error) => Err(SocketCause::from(error)),
     }
 }
 
 // Whether a server listens, even if it lets nobody in at the moment.
-fn is_served<R: Host>(rt: &R, path: &str) -> Result<bool, SocketFault> {
+fn is_served<R: Host>(rt: &R, path: &str) -> io::Result<bool> {
     match UnixStream::connect(rt, path) {
         Ok(_) => Ok(true),
         Err(error) => match error.kind() {
             ErrorKind::WouldBlock => Ok(true),
             ErrorKind::ConnectionRefused => Ok(false),
-            _ => Err(SocketFault::from(error)),
+            _ => Err(error),
         },
     }
 }
 
 // Whether the file is the one of this name, which is no link.
-fn is_its_file<R: Host>(rt: &R, file: &File, name: &str) -> io::Result<bool> {
+fn is_its_file<R: Files<File = File>>(rt: &R, file: &File, name: &str) -> io::Result<bool> {
     let named = fs::symlink_metadata(rt, name)?;
     let opened = file.metadata()?;
     let is_same = named.dev() == opened.dev() && named.ino() == opened.ino();
@@ -61,21 +61,21 @@ fn is_its_file<R: Host>(rt: &R, file: &File, name: &str) -> io::Result<bool> {
 
 // Opens the lock's file that is there, unless it is a link or another kind of file. Whatever takes its
 // place before it is opened isn't written to.
-fn open_there<R: Host>(rt: &R, name: String) -> Result<File, SocketFault> {
+fn open_there<R: Files<File = File>>(rt: &R, name: String) -> Result<File, SocketCause> {
     let found = fs::symlink_metadata(rt, name.as_str())?;
     if !found.file_type().is_file() {
-        return Err(SocketFault::NoLock(name));
+        return Err(SocketCause::NoLock(name));
     }
     let file = OpenOptions::new().write(true).open(rt, name.as_str())?;
     match is_its_file(rt, &file, name.as_str()) {
         Ok(true) => Ok(file),
-        Ok(false) => Err(SocketFault::NoLock(name)),
-        Err(error) => Err(SocketFault::from(error)),
+        Ok(false) => Err(SocketCause::NoLock(name)),
+        Err(error) => Err(SocketCause::from(error)),
     }
 }
 
 // Makes the lock's file, through no link, or opens the one that is there.
-fn open_lock<R: Host>(rt: &R, name: String) -> Result<File, SocketFault> {
+fn open_lock<R: Files<File = File>>(rt: &R, name: String) -> Result<File, SocketCause> {
     let made = OpenOptions::new()
         .write(true)
         .create_new(true)
@@ -84,44 +84,47 @@ fn open_lock<R: Host>(rt: &R, name: String) -> Result<File, SocketFault> {
     match made {
         Ok(file) => Ok(file),
         Err(error) if error.kind() == ErrorKind::AlreadyExists => open_there(rt, name),
-        Err(error) => Err(SocketFault::from(error)),
+        Err(error) => Err(SocketCause::from(error)),
     }
 }
 
-fn lock<R: Host>(rt: &R, alloc: Global, path: &str) -> Result<File, SocketFault> {
-    let Ok(name) = format!(in alloc; "{path}.lock") else {
-        return Err(SocketFault::NoMemory);
-    };
+/// Locks the lock's file of this name, which is made if it isn't there.
+pub fn lock<R: Files<File = File>>(rt: &R, name: String) -> Result<File, SocketCause> {
     let file = open_lock(rt, name)?;
     match file.try_lock() {
         Ok(()) => Ok(file),
-        Err(TryLockError::WouldBlock) => Err(SocketFault::Taken),
-        Err(TryLockError::Error(error)) => Err(SocketFault::from(error)),
+        Err(TryLockError::WouldBlock) => Err(SocketCause::Taken),
+        Err(TryLockError::Error(error)) => Err(SocketCause::from(error)),
     }
 }
 
 // Takes the lock beside the path, and makes a new socket there. One that nobody listens on is removed.
-fn listen<R: Host>(rt: &R, alloc: Global, path: &str) -> Result<(File, UnixListener), SocketFault> {
+fn listen<R: Host>(rt: &R, alloc: Global, path: &str) -> Result<(File, UnixListener), SocketCause>
+    ensures { IfOk result (λ made. ListensAt R.Host rt.now path.now made.1) }
+{
     // Without a path the system would choose an abstract name, which any account can connect to.
     if path.is_empty() {
-        return Err(SocketFault::NoPath);
+        return Err(SocketCause::NoPath);
     }
     if path.len() > LONGEST {
-        return Err(SocketFault::LongPath);
+        return Err(SocketCause::LongPath);
     }
-    match open_folder(rt, own_account(), path)? {
-        Some(folder) if !folder.is_above => return Err(SocketFault::Folder(folder)),
+    match open_folder(rt, path)? {
+        Some(folder) if !folder.is_above => return Err(SocketCause::Folder(folder)),
         _ => {}
     }
     is_there(rt, path)?;
-    let lock = lock(rt, alloc, path)?;
+    let Ok(name) = format!(in alloc; "{path}.lock") else {
+        return Err(SocketCause::NoMemory);
+    };
+    let lock = rt.lock(name)?;
     if is_there(rt, path)? {
         if is_served(rt, path)? {
-            return Err(SocketFault::Taken);
+            return Err(SocketCause::Taken);
         }
         fs::remove_file(rt, path)?;
     }
-    Ok((lock, UnixListener::bind(rt, path)?))
+    Ok((lock, rt.listen(path)?))
 }
 
 impl SocketPath<'_> {
@@ -131,21 +134,25 @@ impl SocketPath<'_> {
         rt: &R,
         alloc: Global,
         path: &'a str,
-    ) -> Result<(SocketPath<'a>, UnixListener), ServeFault>
-        ensures { IfOk result (λ made. socket_path made.0 ≡ path.entry.now) }
+    ) -> Result<(SocketPath<'a>, UnixListener), SocketFault>
+        ensures path { IfOk result (λ made. socket_path made.0 ≡ path.entry.now) }
+        ensures listens { IfOk result (λ made. ListensAt R.Host rt.now path.entry.now made.1) }
     {
         match listen(rt, alloc, path) {
             Ok((lock, listener)) => {
                 let lock = Mutex::new(Some(lock));
                 Ok((SocketPath { path, lock }, listener))
             }
-            Err(fault) => Err(ServeFault::Socket(String::from_str(alloc, path)?, fault)),
+            Err(cause) => match String::from_str(alloc, path) {
+                Ok(path) => Err(SocketFault::At(path, cause)),
+                Err(_) => Err(SocketFault::NoMemory),
+            },
         }
     }
 
     /// The first folder above the socket's own in which others could replace what is there.
     pub fn open_folder<R: Host>(&self, rt: &R) -> Option<OpenFolder> {
-        open_folder(rt, own_account(), self.path).ok().flatten()
+        open_folder(rt, self.path).ok().flatten()
     }
 
     /// Whether the socket's mode lets everybody on the machine connect.

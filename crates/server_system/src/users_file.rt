@@ -1,23 +1,34 @@
 //! The users' file, and whether it has changed.
 
-ghost use Rattle.std.specs.Prelude.{◌≡◌, Err, IfErr, IfOk, IfSome, List, None, Some, ℕ, false, take};
+ghost use Rattle.std.specs.Prelude.{◌≡◌, ◌↔◌, Err, IfErr, IfOk, IfSome, IsTrue, List, None, Some, ℕ, false, take};
+ghost use Rattle.std.specs.Prelude.{OnOk, true};
+ghost use Rattle.std.specs.Fs.{metadata_len, metadata_mode};
 ghost use Rattle.std.specs.Option.{option_copied};
-ghost use Rattle.server_system.specs.Looking.{AreOf, IsWrong, LooksAt, MayBeTold, access_of, after_look};
+ghost use Rattle.server_system.specs.Folders.{IsHeldFile, access_of, may_pass};
+ghost use Rattle.server_system.specs.Looking.{AreOf, IsPlain, IsReadOf, IsWrong, LooksAt, MayBeTold};
+ghost use Rattle.server_system.specs.Looking.{after_look};
 ghost use Rattle.server_system.specs.Paths.{users_path};
-ghost use Rattle.server_system.specs.declared.fault.ServeFault.TheVariants.{NoMemory};
+ghost use Rattle.server_system.specs.declared.fault.UsersFileFault.TheVariants.{NoMemory};
 
-use crate::fault::ServeFault;
+use crate::fault::UsersFileFault;
+use crate::folders::{OpenFolder, may_pass, open_folder};
+use crate::host::Host;
 use program_words::SystemError;
-use server_users::{Access, Flaw, OpenFolder, Users, UsersFault, open_folder, own_account};
+use server_users::{Access, Flaw, Users, UsersFault};
 use std::alloc::{AllocError, Global};
 use std::fs::Metadata;
+use std::io;
 use std::io::Read;
 use std::os::unix::fs::MetadataExt;
 use std::rt::HostRuntime;
-use std::{fs, io};
 
 // A file of more bytes isn't read.
 const MOST: usize = 1_048_576;
+
+// The bits of a mode that tell the kind of a file, and their value for a plain one.
+const KIND: u32 = 0o170000;
+
+const PLAIN: u32 = 0o100000;
 
 /// What tells a file from the one that was read.
 #[derive(Clone, Copy, Debug, PartialEq, Eq)]
@@ -34,8 +45,9 @@ pub struct Stamp {
 }
 
 impl Stamp {
-    fn of(found: &Metadata) -> Stamp {
-        let Access { owner, mode } = Access::of(found);
+    pub(crate) fn of(found: &Metadata) -> Stamp
+        ensures { (result.mode ≡ metadata_mode found.now) × (result.size ≡ metadata_len found.now) }
+    {
         Stamp {
             device: found.dev(),
             inode: found.ino(),
@@ -44,9 +56,16 @@ impl Stamp {
             written_nanos: found.mtime_nsec(),
             changed: found.ctime(),
             changed_nanos: found.ctime_nsec(),
-            owner,
-            mode,
+            owner: found.uid(),
+            mode: found.mode(),
         }
+    }
+
+    // Whether it is a plain file.
+    fn is_plain(&self) -> bool
+        ensures { IsTrue result ↔ IsPlain self.now }
+    {
+        self.mode & KIND == PLAIN
     }
 
     /// Whose the file is, and its mode.
@@ -60,8 +79,8 @@ impl Stamp {
     }
 }
 
-// The first bytes of a file, at most this many.
-fn first_bytes<R: Read + Drop>(alloc: Global, file: R, most: u64) -> io::Result<Vec<u8>>
+/// The first bytes of a file, at most this many.
+pub fn first_bytes<R: Read + Drop>(alloc: Global, file: R, most: u64) -> io::Result<Vec<u8>>
     ensures { IfOk result (λ bytes. IfSome (R.remaining file) (λ all. bytes.items ≡ take most all)) }
 {
     let mut bytes = Vec::new(alloc);
@@ -76,22 +95,32 @@ fn users_of(
     account: u32,
     stamp: &Stamp,
     file: &[u8],
-) -> Result<Users, ServeFault>
+) -> Result<Users, UsersFileFault>
     ensures ok { IfOk result (AreOf account stamp.now file.now) }
     ensures err { IfErr result (IsWrong account stamp.now file.now) }
 {
     match stamp.access().flaw(account) {
-        Some(Flaw::Owner) => return Err(ServeFault::Foreign(path, account)),
-        Some(Flaw::Mode) => return Err(ServeFault::Writable(path)),
+        Some(Flaw::Owner) => return Err(UsersFileFault::Foreign(path, account)),
+        Some(Flaw::Mode) => return Err(UsersFileFault::Writable(path)),
         None => {}
     }
     if file.len() > MOST {
-        return Err(ServeFault::TooLarge(path));
+        return Err(UsersFileFault::TooLarge(path));
     }
     match Users::read(alloc, file) {
         Ok(users) => Ok(users),
-        Err(UsersFault::NoMemory) => Err(ServeFault::NoMemory),
-        Err(fault) => Err(ServeFault::Users(path, fault)),
+        Err(UsersFault::NoMemory) => Err(UsersFileFault::NoMemory),
+        Err(fault) => Err(UsersFileFault::Users(path, fault)),
+    }
+}
+
+// A file whose folders were looked at is read unless others can replace it.
+fn passed(path: String, found: Option<OpenFolder>) -> Result<(), UsersFileFault>
+    ensures { OnOk result (may_pass found ≡ true) }
+{
+    match found {
+        Some(folder) if !folder.is_above => Err(UsersFileFault::Folder(path, folder)),
+        _ => Ok(()),
     }
 }
 
@@ -100,7 +129,7 @@ pub trait UsersSource {
     ghost use Rattle.std.specs.Prelude.{List, Option, Result};
     ghost use Rattle.server_users.specs.Entries.{Entry};
     ghost use Rattle.server_system.specs.declared.users_file.Stamp.{Stamp as Stamped};
-    ghost use Rattle.server_system.specs.declared.fault.ServeFault.{ServeFault as Faulty};
+    ghost use Rattle.server_system.specs.declared.fault.UsersFileFault.{UsersFileFault as Faulty};
 
     // Its stamp; None if there is no file.
     ghost finds: { Self → Option Stamped → Type 0 };
@@ -114,72 +143,75 @@ pub trait UsersSource {
     fn find(&self) -> Option<Stamp>
         ensures { finds self.now result };
 
-    fn read(&self) -> Result<Users, ServeFault>
+    fn read(&self) -> Result<Users, UsersFileFault>
         ensures { reads self.now result };
 }
 
 /// A file of users.
 #[derive(Drop)]
-pub struct UsersFile {
-    files: HostRuntime,
-    alloc: Global,
+pub struct UsersFile<H = HostRuntime> {
+    host: H,
     path: String,
-    // The account that the server runs as.
-    account: u32,
 }
 
-impl UsersFile {
+impl<H: Host> UsersFile<H> {
     /// The users' file of this path.
-    pub fn new(files: HostRuntime, alloc: Global, path: &str) -> Result<UsersFile, AllocError>
-        ensures { IfOk result (λ file. users_path file ≡ path.now) }
+    pub fn new(host: H, path: &str) -> Result<UsersFile<H>, AllocError>
+        ensures path { IfOk result (λ file. users_path file ≡ path.now) }
+        ensures host { IfOk result (λ file. file.host ≡ host) }
     {
-        let path = String::from_str(alloc, path)?;
-        Ok(UsersFile {
-            files,
-            alloc,
-            path,
-            account: own_account(),
-        })
+        let path = String::from_str(host.alloc(), path)?;
+        Ok(UsersFile { host, path })
     }
 
-    /// The first folder in which others could replace the file: of those that hold it, or hold a link to
-    /// it.
-    pub fn open_folder(&self) -> io::Result<Option<OpenFolder>> {
-        let path = self.path.as_str();
-        let there = fs::canonicalize(&self.files, path)?;
-        match open_folder(&self.files, self.account, path)? {
-            None => open_folder(&self.files, self.account, there.as_str()),
-            folder => Ok(folder),
+    /// The first folder in which others could replace the file: of those that hold it, and of those that hold
+    /// what it is a link to. One that holds it, or that, comes before those above.
+    pub fn open_folder(&self) -> io::Result<Option<OpenFolder>>
+        ensures { IfOk result (λ found. may_pass found ≡ true
+            → IsHeldFile H.Host self.now.host (users_path self.now)) }
+    {
+        let named = open_folder(&self.host, self.path.as_str())?;
+        if !may_pass(&named) {
+            return Ok(named);
+        }
+        let there = self.host.place_of(self.path.as_str())?;
+        let linked = open_folder(&self.host, there.as_str())?;
+        if may_pass(&linked) {
+            Ok(named.or(linked))
+        } else {
+            Ok(linked)
         }
     }
 
-    // The file's bytes, of which at most one too many is read.
-    fn bytes(&self) -> io::Result<Vec<u8>> {
-        let file = fs::open(&self.files, self.path.as_str())?;
-        first_bytes(self.alloc, file, MOST as u64 + 1)
+    // Looks at the folders of the file.
+    fn look(&self) -> Result<(), UsersFileFault>
+        ensures { OnOk result (IsHeldFile H.Host self.now.host (users_path self.now)) }
+    {
+        let path = String::from_str(self.host.alloc(), self.path.as_str())?;
+        match self.open_folder() {
+            Ok(found) => passed(path, found),
+            Err(error) => Err(UsersFileFault::NoFile(path, SystemError(error))),
+        }
     }
 
     /// Reads the users, with the file's stamp. Only a plain file is read, of at most 1,048,576 bytes, and
     /// only if others can't write or replace it.
-    pub fn read(&self) -> Result<(Users, Stamp), ServeFault>
-        ensures ok { IfOk result (λ read. (file : List ℕ) × AreOf self.now.account read.1 file read.0) }
+    pub fn read(&self) -> Result<(Users, Stamp), UsersFileFault>
+        ensures ok { IfOk result (λ read. IsReadOf H.Host self.now.host (users_path self.now) read.0 read.1) }
     {
-        let path = String::from_str(self.alloc, self.path.as_str())?;
-        match self.open_folder() {
-            Ok(Some(folder)) if !folder.is_above => return Err(ServeFault::Folder(path, folder)),
-            Ok(_) => {}
-            Err(error) => return Err(ServeFault::NoFile(path, SystemError(error))),
-        }
-        let stamp = match fs::metadata(&self.files, self.path.as_str()) {
-            Ok(found) if found.is_file() => Stamp::of(&found),
-            Ok(_) => return Err(ServeFault::NotPlain(path)),
-            Err(error) => return Err(ServeFault::NoFile(path, SystemError(error))),
+        self.look()?;
+        let path = String::from_str(self.host.alloc(), self.path.as_str())?;
+        let stamp = match self.host.stamp(self.path.as_str()) {
+            Ok(stamp) if stamp.is_plain() => stamp,
+            Ok(_) => return Err(UsersFileFault::NotPlain(path)),
+            Err(error) => return Err(UsersFileFault::NoFile(path, SystemError(error))),
         };
-        let file = match self.bytes() {
+        let file = match self.host.first_bytes(self.path.as_str(), MOST as u64 + 1) {
             Ok(file) => file,
-            Err(error) => return Err(ServeFault::NoFile(path, SystemError(error))),
+            Err(error) => return Err(UsersFileFault::NoFile(path, SystemError(error))),
         };
-        match users_of(self.alloc, path, self.account, &stamp, &file) {
+        let account = self.host.account();
+        match users_of(self.host.alloc(), path, account, &stamp, &file) {
             Ok(users) => Ok((users, stamp)),
             Err(fault) => Err(fault),
         }
@@ -197,11 +229,10 @@ impl UsersSource for UsersFile {
     }
 
     fn find(&self) -> Option<Stamp> {
-        let found = fs::metadata(&self.files, self.path.as_str()).ok();
-        found.map(|found| Stamp::of(&found))
+        self.host.stamp(self.path.as_str()).ok()
     }
 
-    fn read(&self) -> Result<Users, ServeFault> {
+    fn read(&self) -> Result<Users, UsersFileFault> {
         UsersFile::read(self).map(|(users, _stamp)| users)
     }
 }
@@ -240,14 +271,14 @@ impl LastLook {
 
     // Takes what a look found: the file's stamp, and the fault for which it wasn't read. The answer is
     // whether that is news.
-    fn is_news(&mut self, found: Option<Stamp>, fault: Option<&ServeFault>) -> bool
+    fn is_news(&mut self, found: Option<Stamp>, fault: Option<&UsersFileFault>) -> bool
         ensures seen { self.new ≡ after_look found (option_copied fault.entry) self.old }
         ensures told { result ≡ false
             → MayBeTold (option_copied fault.entry) × (self.old.failed ≡ Some found) }
     {
         match fault {
-            Some(ServeFault::NoMemory) => true,
-            Some(ServeFault::NoFile(..) | ServeFault::Folder(..)) => self.fails(found),
+            Some(UsersFileFault::NoMemory) => true,
+            Some(UsersFileFault::NoFile(..) | UsersFileFault::Folder(..)) => self.fails(found),
             _ => {
                 self.stamp = found;
                 self.failed = None;
@@ -259,7 +290,10 @@ impl LastLook {
 
 /// Looks at the users' file. The answer is its users, or why they can't be read; None if the file is as it
 /// was at the last look, or if the fault has been told.
-pub fn look_at<F: UsersSource>(file: &F, seen: &mut LastLook) -> Option<Result<Users, ServeFault>>
+pub fn look_at<F: UsersSource>(
+    file: &F,
+    seen: &mut LastLook,
+) -> Option<Result<Users, UsersFileFault>>
     ensures looks { LooksAt F.finds F.reads file.now seen.old result seen.new }
     ensures memory { result ≡ Some (Err NoMemory) → seen.new ≡ seen.old }
 {

@@ -3,9 +3,9 @@
 ghost use Rattle.std.specs.Prelude.{◌≡◌, ◌&&◌, IfSome, List, None, Option, Result, nat_le, not, true};
 ghost use Rattle.server_users.specs.Entries.{Entry};
 ghost use Rattle.server_system.specs.Looking.{Asks, Ends, LooksAt, Takes, TellsOf, later, unlooked};
-ghost use Rattle.server_system.specs.declared.fault.ServeFault.{ServeFault as Faulty};
+ghost use Rattle.server_system.specs.declared.fault.UsersFileFault.{UsersFileFault as Faulty};
 
-use crate::fault::ServeFault;
+use crate::fault::UsersFileFault;
 use crate::log::Log;
 use crate::users_file::{LastLook, UsersSource, look_at};
 use acl::UserId;
@@ -24,7 +24,7 @@ const PAUSE: u64 = 20;
 pub enum UsersNews {
     Anew,
     OtherOwner,
-    Faulty(ServeFault),
+    Faulty(UsersFileFault),
 }
 
 // What a look found of the users' file at this path, as a line of the log.
@@ -54,12 +54,13 @@ pub trait SharedLooks {
     ghost use Rattle.std.specs.Prelude.{ℕ, Bool, List, Option, Result};
     ghost use Rattle.acl.specs.declared.user_id.UserId.{UserId as User};
     ghost use Rattle.server_users.specs.Entries.{Entry};
-    ghost use Rattle.server_system.specs.declared.fault.ServeFault.{ServeFault as Faulty};
+    ghost use Rattle.server_system.specs.declared.fault.UsersFileFault.{UsersFileFault as Faulty};
     ghost use Rattle.server_system.specs.declared.watched.KnownUsers.{KnownUsers as Known};
 
     // The number of the look that was asked for.
     ghost asks: { Self → ℕ → Self → Type 0 };
 
+    // Whether somebody may still ask for a look, once one begins.
     ghost begins: { Self → Bool → Self → Type 0 };
 
     ghost idles: { Self → Bool → Type 0 };
@@ -70,20 +71,15 @@ pub trait SharedLooks {
     // The count of the users that a loop has, and what it learns.
     ghost tells: { Self → ℕ → Option Known → Type 0 };
 
-    // Asks for a look that begins after this, and gives its number.
     fn ask(&mut self) -> u64
         ensures { asks self.old result self.new };
 
-    // A look begins. Returns whether somebody may still ask for one.
     fn begin(&mut self) -> bool
         ensures { begins self.old result self.new };
 
-    // Ends the look that was begun, which found this if anything is new.
-    fn end(&mut self, owner: UserId, found: Option<Result<Users, ServeFault>>)
+    fn end(&mut self, owner: UserId, found: Option<Result<Users, UsersFileFault>>)
         ensures { ends owner found self.old self.new };
 
-    // What is known now, for a loop that has the users of this count; None if there is no memory for a
-    // copy of the users.
     fn newest(&self, alloc: Global, count: u64) -> Option<KnownUsers>
         ensures { tells self.now count result };
 
@@ -130,7 +126,7 @@ impl Looks {
 
     // Takes the users of a sound file of this owner; after any other file they stay as they were.
     // Either is told.
-    fn take(&mut self, owner: UserId, found: Result<Users, ServeFault>)
+    fn take(&mut self, owner: UserId, found: Result<Users, UsersFileFault>)
         ensures { Takes owner found self.old self.new }
     {
         match found {
@@ -167,7 +163,7 @@ impl SharedLooks for Looks {
         !self.is_over
     }
 
-    fn end(&mut self, owner: UserId, found: Option<Result<Users, ServeFault>>) {
+    fn end(&mut self, owner: UserId, found: Option<Result<Users, UsersFileFault>>) {
         self.done = self.begun;
         if let Some(found) = found {
             self.take(owner, found);
@@ -263,7 +259,7 @@ impl<F: UsersSource, L: SharedLooks> WatchedUsers<F, L> {
     }
 
     // Ends a look, which found this if anything is new.
-    fn end(&self, rt: &impl Wait, found: Option<Result<Users, ServeFault>>)
+    fn end(&self, rt: &impl Wait, found: Option<Result<Users, UsersFileFault>>)
         ensures { (was : L) × (then : L) × L.ends self.now.owner found was then }
     {
         self.looks.lock(rt).end(self.owner, found);
@@ -274,12 +270,12 @@ impl<F: UsersSource, L: SharedLooks> WatchedUsers<F, L> {
         &self,
         rt: &R,
         seen: &mut LastLook,
-    ) -> Option<Result<Users, ServeFault>>
+    ) -> Option<Result<Users, UsersFileFault>>
         ensures { LooksAt F.finds F.reads self.now.file seen.old result seen.new }
     {
         'looks: for _ in rt.forever() {
             let found = look_at(&self.file, seen);
-            if !matches!(&found, Some(Err(ServeFault::NoMemory))) {
+            if !matches!(&found, Some(Err(UsersFileFault::NoMemory))) {
                 return found;
             }
             thread::sleep(rt, Duration::from_millis(PAUSE));

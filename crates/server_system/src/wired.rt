@@ -24,17 +24,13 @@ const LEAST: i32 = 1;
 // The system takes the most that it allows, which is some 400 KB on Linux.
 const MOST: i32 = 1_048_576;
 
+// Lets the system keep at most this much of what is written and not yet read, so that a slow reader isn't far
+// behind. If the system refuses that, it keeps what it likes.
 fn set_unread<S: AsRawFd>(stream: &S, bytes: i32) {
     let mut value = [0u8; 16];
     value[..4].copy_from_slice(&bytes.to_ne_bytes());
     let fd = stream.as_raw_fd();
     let _ = unsafe { c::setsockopt(fd, c::SOL_SOCKET, c::SO_SNDBUF, &value, 4) };
-}
-
-/// Lets the system keep as little as it can of what is written and not yet read, so that a slow reader
-/// isn't far behind. If the system refuses that, it keeps what it likes.
-pub fn bound_unread<S: AsRawFd>(stream: &S) {
-    set_unread(stream, LEAST);
 }
 
 /// A stream that a loop waits for.
@@ -97,11 +93,7 @@ impl PolledStream for PeerSocket<'_> {
     }
 
     fn widen(&mut self, is_large: bool) {
-        if is_large {
-            set_unread(&self.stream, MOST);
-        } else {
-            bound_unread(&self.stream);
-        }
+        set_unread(&self.stream, if is_large { MOST } else { LEAST });
     }
 }
 
@@ -136,7 +128,7 @@ impl<'a> Wired<PeerSocket<'a>> {
     ) -> io::Result<Wired<PeerSocket<'a>>>
         ensures { IfOk result (λ wired. wired.stream.token ≡ token) }
     {
-        bound_unread(&stream);
+        set_unread(&stream, LEAST);
         registry.register(&mut stream, token, Interest::READABLE)?;
         Ok(Wired {
             stream: PeerSocket {

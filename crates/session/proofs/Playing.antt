@@ -52,10 +52,6 @@ none_played h s known st = record {
   prints = appends_none known;
 }
 
-}
-
-}
-
 -- lines after others
 plays_on : (h : Trace) (xs ys : List (List ℕ)) (before behind : List Entry) → Plays h xs before
     → Plays (with_steps h before) ys behind → Plays h (xs ++ ys) (before ++ behind)

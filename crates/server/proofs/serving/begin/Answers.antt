@@ -7,8 +7,8 @@ use Rattle.server_session.specs.SettingUp.{agrees, setup_of}
 use Rattle.server_system.specs.declared.fault.ServeFault.{ServeFault}
 use Rattle.server.specs.Starting.{IsKeptFor, IsSetupAt, text_of}
 use Rattle.server.specs.declared.loops.KeptSession.{KeptSession}
-use Rattle.server.specs.declared.options.Options.{Options}
-use Rattle.server.specs.declared.setup_file.Setup.{Setup}
+use Rattle.server.specs.declared.starting.Options.{Options}
+use Rattle.server.specs.declared.starting.Setup.{Setup}
 use Rattle.server.proofs.serving.begin.Goals as goal
 
 kept_for : (reads : List ℕ → Result (Vec ℕ Global) Error → Type 0) (o : Options) (s : Setup)

@@ -1,13 +1,17 @@
 //! How a server ends.
 
 ghost use Rattle.std.specs.Prelude.{◌≡◌, IfOk, Ok, true};
-ghost use Rattle.server_system.specs.Ending.{cause_of, outcome_of, served, why_unready};
+ghost use Rattle.server_outcome.specs.Ending.{cause_of, outcome_of, served, why_unready};
 
 use crate::fault::ServeFault;
 use program_words::SystemError;
 use server_seat::ServerEnd;
+use server_system::{Host, PIECE, has_room};
 use server_trail::Cause;
-use std::io;
+use std::fs::{File, OpenOptions};
+use std::io::{self, ErrorKind, Write};
+use std::os::fd::AsRawFd;
+use std::rt::Stderr;
 
 /// Why a loop can't be started.
 #[derive(Clone, Copy, Debug, PartialEq, Eq)]
@@ -74,4 +78,41 @@ pub fn served<T: Drop>(
         (Ok(_), Some(Err(error))) => Err(ServeFault::Untold(SystemError(error))),
         (Ok(_), None) => Err(why_unready(missing)),
     }
+}
+
+// How many milliseconds a program's last line waits for its reader.
+const PATIENCE: i32 = 5_000;
+
+/// Standard error for a program's last line, which is given up if nobody reads it for five seconds.
+#[derive(Clone, Copy)]
+pub struct LastLine(pub Stderr);
+
+impl Write for LastLine {
+    fn write(&mut self, buf: &[u8]) -> io::Result<usize> {
+        if !has_room(&self.0, PATIENCE) {
+            return Err(io::Error::from(ErrorKind::TimedOut));
+        }
+        self.0.write(&buf[..buf.len().min(PIECE)])
+    }
+
+    fn flush(&mut self) -> io::Result<()> {
+        self.0.flush()
+    }
+}
+
+/// Opens /dev/null for each standard stream that is closed, so that no other file becomes one. It stays
+/// one as long as the list is kept.
+pub fn fill_closed<R: Host>(rt: &R) -> io::Result<Vec<File>> {
+    let mut filled = Vec::new(rt.alloc());
+    for _ in 0..3 {
+        let file = OpenOptions::new()
+            .read(true)
+            .write(true)
+            .open(rt, "/dev/null")?;
+        if file.as_raw_fd() > 2 {
+            break;
+        }
+        filled.push(file)?;
+    }
+    Ok(filled)
 }

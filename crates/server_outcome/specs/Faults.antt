@@ -2,9 +2,9 @@
 use Rattle.std.specs.Prelude.{◌≡◌, ℕ, List}
 use Rattle.std.specs.String.{string_bytes}
 use Rattle.server_trail.specs.declared.journal.JournalFault.{JournalFault}
-use Rattle.server_system.specs.declared.fault.ServeFault.{ServeFault}
-use Rattle.server_system.specs.declared.fault.ServeFault.TheVariants as fault
-use Rattle.server_system.specs.declared.fault.SetupCause.{SetupCause}
+use Rattle.server_outcome.specs.declared.fault.ServeFault.{ServeFault}
+use Rattle.server_outcome.specs.declared.fault.ServeFault.TheVariants as fault
+use Rattle.server_outcome.specs.declared.fault.SetupCause.{SetupCause}
 
 abbrev pub IsOfSetup : List ℕ → SetupCause → ServeFault → Type 0
 IsOfSetup path cause fault.NoMemory = Unit {0}

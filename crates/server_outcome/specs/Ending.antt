@@ -3,10 +3,10 @@ use Rattle.std.specs.Prelude.{Bool, true, false, Option, Some, None, Result, Ok,
 use Rattle.std.specs.declared.io.Error.{Error}
 use Rattle.server_seat.specs.declared.seat.ServerEnd.{ServerEnd}
 use Rattle.server_seat.specs.declared.seat.ServerEnd.TheVariants as end
-use Rattle.server_system.specs.declared.ending.Unready.{Unready}
-use Rattle.server_system.specs.declared.ending.Unready.TheVariants.{NoThread}
-use Rattle.server_system.specs.declared.fault.ServeFault.{ServeFault}
-use Rattle.server_system.specs.declared.fault.ServeFault.TheVariants as fault
+use Rattle.server_outcome.specs.declared.ending.Unready.{Unready}
+use Rattle.server_outcome.specs.declared.ending.Unready.TheVariants.{NoThread}
+use Rattle.server_outcome.specs.declared.fault.ServeFault.{ServeFault}
+use Rattle.server_outcome.specs.declared.fault.ServeFault.TheVariants as fault
 use Rattle.trail_lines.specs.declared.ending.Cause.{Cause}
 use Rattle.trail_lines.specs.declared.ending.Cause.TheVariants as cause
 

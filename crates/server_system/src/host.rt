@@ -1,0 +1,97 @@
+//! What the system gives to a server.
+
+use crate::fault::SocketCause;
+use crate::socket;
+use crate::users_file::{Stamp, first_bytes};
+use mio::net::UnixListener;
+use server_users::own_account;
+use std::fs::{File, Files};
+use std::net::Net;
+use std::path::PathBuf;
+use std::time::Clock;
+use std::{fs, io};
+
+/// A runtime with all that a server asks for, except to wait and to start threads: a function says these
+/// two itself, as they let it never return. Only a call shows what the system answered.
+pub trait Host: Net + Files<File = File> + Clock + AllocGlobal + Copy + Send + Sync + 'static {
+    ghost use Rattle.std.specs.Prelude.{ℕ, IfOk, List};
+    ghost use Rattle.std.specs.Path.{path_buf_bytes};
+    ghost use Rattle.std.specs.String.{string_bytes};
+    ghost use Rattle.mio.specs.declared.net.uds.listener.UnixListener.{UnixListener as Listener};
+    ghost use Rattle.server_system.specs.declared.users_file.Stamp.{Stamp as Stamped};
+
+    // The account that the program runs as.
+    ghost runs_as: { Self → ℕ → Type 0 };
+
+    // A path, and where it leads through all links.
+    ghost leads: { Self → List ℕ → List ℕ → Type 0 };
+
+    // A path, and the stamp of what is there.
+    ghost finds: { Self → List ℕ → Stamped → Type 0 };
+
+    // A path, the most bytes that are read, and the first bytes of its file.
+    ghost reads: { Self → List ℕ → ℕ → List ℕ → Type 0 };
+
+    // The name of a lock's file that is locked now.
+    ghost locks: { Self → List ℕ → Type 0 };
+
+    // A path, and what listens on a new socket there.
+    ghost binds: { Self → List ℕ → Listener → Type 0 };
+
+    fn account(&self) -> u32
+        ensures { runs_as self.now result };
+
+    fn place_of(&self, path: &str) -> io::Result<PathBuf>
+        ensures { IfOk result (λ there. leads self.now path.now (path_buf_bytes there)) };
+
+    fn stamp(&self, path: &str) -> io::Result<Stamp>
+        ensures { IfOk result (finds self.now path.now) };
+
+    fn first_bytes(&self, path: &str, most: u64) -> io::Result<Vec<u8>>
+        ensures { IfOk result (λ bytes. reads self.now path.now most bytes.items) };
+
+    fn lock(&self, name: String) -> Result<File, SocketCause>
+        ensures { IfOk result (λ file. locks self.now (string_bytes name)) };
+
+    fn listen(&self, path: &str) -> io::Result<UnixListener>
+        ensures { IfOk result (binds self.now path.now) };
+}
+
+impl<R: Net + Files<File = File> + Clock + AllocGlobal + Copy + Send + Sync + 'static> Host for R {
+    // What the system has, no clause can say.
+    ghost runs_as = { λ host account. Unit {0} };
+
+    ghost leads = { λ host path there. Unit {0} };
+
+    ghost finds = { λ host path stamp. Unit {0} };
+
+    ghost reads = { λ host path most bytes. Unit {0} };
+
+    ghost locks = { λ host name. Unit {0} };
+
+    ghost binds = { λ host path listener. Unit {0} };
+
+    fn account(&self) -> u32 {
+        own_account()
+    }
+
+    fn place_of(&self, path: &str) -> io::Result<PathBuf> {
+        fs::canonicalize(self, path)
+    }
+
+    fn stamp(&self, path: &str) -> io::Result<Stamp> {
+        Ok(Stamp::of(&fs::metadata(self, path)?))
+    }
+
+    fn first_bytes(&self, path: &str, most: u64) -> io::Result<Vec<u8>> {
+        first_bytes(self.alloc(), fs::open(self, path)?, most)
+    }
+
+    fn lock(&self, name: String) -> Result<File, SocketCause> {
+        socket::lock(self, name)
+    }
+
+    fn listen(&self, path: &str) -> io::Result<UnixListener> {
+        UnixListener::bind(self, path)
+    }
+}
