@@ -1,7 +1,8 @@
-use Rattle.std.proofs.Common.{◌≡◌, ◌∙◌, arith, inl, inr, List, Ok, Err, subst, sym, ℕ}
+use Rattle.std.proofs.Common.{◌≡◌, ◌∙◌, arith, inl, inr, rules, List, Ok, Err, subst, ℕ}
 use Rattle.std.proofs.lemmas.Bool.{cases_lt}
 use Rattle.web_streams.specs.declared.connections.WebListener.{WebListener}
-use Rattle.web_turn.specs.Waking.{WakesAt}
+use Rattle.web_turn.specs.Waking.{IsDeaf, WakesAt}
+use Rattle.web_turn.proofs.Waking.{if_err_given}
 use Rattle.web_turn.proofs.waiting.watch_all.Goals as goal
 
 pub listeners-preserved : goal.listeners-preserved
@@ -27,8 +28,10 @@ returns-clause-ok g c = λ q below.
     let before = c.listeners.invariant in before.so_far q (omega (arith, before.all, below))
 
 pub returns-in_err-watch_at-clause-err : goal.returns-in_err-watch_at-clause-err
-returns-in_err-watch_at-clause-err g c = (
-  c.listeners.number,
-  subst (λ (ls : List WebListener). WakesAt (g.P.Waits.wakes c.args.poll.now) ls c.listeners.number
-      (Err c.in_err-watch_at.error)) c.listeners.invariant.same c.in_err-watch_at.ensures.wakes,
-)
+returns-in_err-watch_at-clause-err g c =
+    if_err_given (IsDeaf (g.P.Waits.wakes c.args.poll.now) c.args.listeners.now) c.from_residual.result
+    c.in_err-watch_at.field-0.0 (
+      c.listeners.number,
+      subst (λ (ls : List WebListener). WakesAt (g.P.Waits.wakes c.args.poll.now) ls c.listeners.number
+          (Err c.in_err-watch_at.field-0.0)) c.listeners.invariant.same c.in_err-watch_at.ensures.wakes,
+    ) (search rules)
