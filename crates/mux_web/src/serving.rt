@@ -53,7 +53,7 @@ fn serve_at<R: Host + Threads + Wait + Eprint, O: Write>(
     rt: &R,
     options: WebOptions<'_>,
     site: Site,
-    listeners: Vec<WebListener>,
+    mut listeners: Vec<WebListener>,
     output: &mut O,
 ) -> Result<(), WebFault>
     ensures { IsErr result }
@@ -64,6 +64,7 @@ fn serve_at<R: Host + Threads + Wait + Eprint, O: Write>(
     let events = Events::with_capacity(rt.alloc(), EVENTS)?;
     writeln!(output, "mux-web: ready")?;
     output.flush()?;
+    let listeners = listeners.as_mut_slice();
     Err(WebFault::from(serve(rt, bridge, poll, events, listeners)))
 }
 

@@ -315,13 +315,13 @@ pub fn serve<R: WebHost + Wait, S: BridgeStream + WebStream + Drop, P: Waits + D
     mut bridge: Bridge<'_, S>,
     mut poll: P,
     mut events: Events,
-    mut listeners: Vec<WebListener>,
+    listeners: &mut [WebListener],
 ) -> io::Error
-    ensures { Serves S.WebStream S.BridgeStream (R.takes rt.now) P.wakes P.waits listeners.items poll bridge.entry
+    ensures { Serves S.WebStream S.BridgeStream (R.takes rt.now) P.wakes P.waits listeners.old poll bridge.entry
         result }
 {
-    match watch_all(&poll, listeners.as_mut_slice()) {
-        Ok(()) => bridge.go_on(rt, &mut poll, &mut events, &listeners),
+    match watch_all(&poll, listeners) {
+        Ok(()) => bridge.go_on(rt, &mut poll, &mut events, listeners),
         Err(error) => error,
     }
 }

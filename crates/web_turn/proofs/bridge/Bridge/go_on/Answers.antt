@@ -11,12 +11,12 @@ pub rounds-preserved : goal.rounds-preserved
 rounds-preserved g c = (
   suc c.rounds.invariant.0,
   (
-  c.rounds.poll,
-  c.rounds.self,
-  c.rounds.invariant.1,
-  subst (λ (r : Result ⊤ Error). GoesRound g.S.WebStream g.S.BridgeStream (g.R.TakesLinks.takes c.args.rt.now)
-      g.P.Waits.waits c.args.listeners.now c.rounds.poll c.rounds.self r c.go_round.new.poll c.go_round.new.self)
-      c.in-Ok.is c.go_round.ensures,
+    c.rounds.poll,
+    c.rounds.self,
+    c.rounds.invariant.1,
+    subst (λ (r : Result ⊤ Error). GoesRound g.S.WebStream g.S.BridgeStream (g.R.TakesLinks.takes c.args.rt.now)
+        g.P.Waits.waits c.args.listeners.now c.rounds.poll c.rounds.self r c.go_round.new.poll c.go_round.new.self)
+        c.in-Ok.is c.go_round.ensures,
   ),
 )
 
