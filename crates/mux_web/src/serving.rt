@@ -1,11 +1,17 @@
 //! `mux-web`, from its arguments to its status.
 
+ghost use Rattle.std.specs.Prelude.{IfOk, IsErr};
+ghost use Rattle.web_options.specs.Listening.{texts};
+ghost use Rattle.mux_web.specs.Serving.{DoesAsAsked, IsAsked};
+
+use mio::{Events, Poll};
 use program_words::{SystemError, of_web, tell};
 use server_system::{Host, SocketPath};
+use std::alloc::AllocGlobal;
 use std::io::{ErrorKind, Write};
 use std::sync::Wait;
 use std::thread::Threads;
-use web_options::{Listen, WebFault, WebOptions, look_for_paths, origins_of, site_of};
+use web_options::{Listen, ReadsFiles, WebFault, WebOptions, look_for_paths, origins_of, site_of};
 use web_requests::{Loopback, Site};
 use web_streams::{Stream, WebListener};
 use web_turn::{Bridge, BridgeOptions, serve, start_log};
@@ -13,15 +19,17 @@ use web_turn::{Bridge, BridgeOptions, serve, start_log};
 /// The system's number for a kind of addresses that it doesn't have.
 const EAFNOSUPPORT: i32 = 97;
 
-// Serves browsers that come in through these listeners.
-fn serve_at<R: Host + Threads + Wait + Eprint, O: Write>(
+/// How many events are taken at once.
+const EVENTS: usize = 1024;
+
+// A bridge that does what the arguments ask for.
+fn bridge_of<'a, R: Host + Threads + Wait + Eprint>(
     rt: &R,
-    options: WebOptions<'_>,
+    options: WebOptions<'a>,
     site: Site,
-    listeners: Vec<WebListener>,
-    output: &mut O,
-) -> Result<(), WebFault> {
-    look_for_paths(rt, options)?;
+) -> Result<Bridge<'a, Stream>, WebFault>
+    ensures { IfOk result (DoesAsAsked options.entry site) }
+{
     let log = if options.tells {
         Some(start_log(rt, rt.alloc())?)
     } else {
@@ -34,10 +42,30 @@ fn serve_at<R: Host + Threads + Wait + Eprint, O: Write>(
         choice: options.choice(rt.alloc())?,
         log,
     };
-    let bridge = Bridge::<Stream>::new(rt.alloc(), site, asked)?;
+    match Bridge::new(rt.alloc(), site, asked) {
+        Ok(bridge) => Ok(bridge),
+        Err(error) => Err(WebFault::from(error)),
+    }
+}
+
+// Serves browsers that come in through these listeners.
+fn serve_at<R: Host + Threads + Wait + Eprint, O: Write>(
+    rt: &R,
+    options: WebOptions<'_>,
+    site: Site,
+    mut listeners: Vec<WebListener>,
+    output: &mut O,
+) -> Result<(), WebFault>
+    ensures { IsErr result }
+{
+    look_for_paths(rt, options)?;
+    let bridge = bridge_of(rt, options, site)?;
+    let poll = Poll::new(rt)?;
+    let events = Events::with_capacity(rt.alloc(), EVENTS)?;
     writeln!(output, "mux-web: ready")?;
     output.flush()?;
-    Ok(serve(rt, bridge, listeners)?)
+    let listeners = listeners.as_mut_slice();
+    Err(WebFault::from(serve(rt, bridge, poll, events, listeners)))
 }
 
 // Listeners at an address of this machine, and at the other one that localhost may be: else another account could
@@ -74,7 +102,9 @@ fn serve_address<R: Host + Threads + Wait + Eprint, O: Write>(
     site: Site,
     address: &Loopback,
     output: &mut O,
-) -> Result<(), WebFault> {
+) -> Result<(), WebFault>
+    ensures { IsErr result }
+{
     let listeners = listeners_at(rt, options, address)?;
     serve_at(rt, options, site, listeners, output)
 }
@@ -87,7 +117,9 @@ fn serve_socket<R: Host + Threads + Wait + Eprint, O: Write>(
     site: Site,
     path: &str,
     output: &mut O,
-) -> Result<(), WebFault> {
+) -> Result<(), WebFault>
+    ensures { IsErr result }
+{
     match SocketPath::listen(rt, rt.alloc(), path) {
         Ok((place, listener)) => {
             let mut listeners = Vec::new(rt.alloc());
@@ -100,11 +132,14 @@ fn serve_socket<R: Host + Threads + Wait + Eprint, O: Write>(
     }
 }
 
-fn site_at<R: Host + Eprint>(
+// The site that the arguments ask for.
+fn site_at<R: ReadsFiles + AllocGlobal>(
     rt: &R,
     options: WebOptions<'_>,
     origins: &[&str],
-) -> Result<Site, WebFault> {
+) -> Result<Site, WebFault>
+    ensures { IfOk result (IsAsked (R.reads rt.now) (R.lies rt.now) options.entry (texts origins.now)) }
+{
     match options.listens(rt.alloc()) {
         Ok(listen) => match origins_of(rt.alloc(), origins, listen) {
             Ok(origins) => site_of(rt, options, origins),
@@ -119,7 +154,9 @@ fn serve_asked<R: Host + Threads + Wait + Eprint, O: Write>(
     options: WebOptions<'_>,
     origins: &[&str],
     output: &mut O,
-) -> Result<(), WebFault> {
+) -> Result<(), WebFault>
+    ensures { IsErr result }
+{
     let site = site_at(rt, options, origins)?;
     let listen = options.listens(rt.alloc())?;
     match &listen {

@@ -1,4 +1,4 @@
--- What a browser asks of the server.
+-- What a browser asks of the server, and what its client hears of it.
 use Rattle.std.specs.Prelude.{◌≡◌, ◌⊎◌, Bool, true, ℕ, ◌+◌, ◌-◌, ◌*◌, ◌%◌, max, min, List, [], ◌∷◌, ◌++◌}
 use Rattle.std.specs.Prelude.{length, take, drop, slice_index, None, IsUtf8}
 use Rattle.std.specs.List.{flat_map, AllByRecursion}
@@ -63,7 +63,7 @@ module _ {S : Type 0} (reads : S → List ℕ → ReadOutcome → S → Type 0) 
 
 -- ---- identities
 
--- a identity that has a client of its own, of which this holds
+-- an identity that has a client of its own, of which this holds
 abbrev pub IsOwn : Identity → (WebClient → Type 0) → Type 0
 IsOwn (Own c) P = P c
 IsOwn _ P = ⊥
@@ -73,7 +73,7 @@ abbrev pub IsWatcher : Identity → Type 0
 IsWatcher (Watching rows columns) = Unit {0}
 IsWatcher _ = ⊥
 
--- a fact of a identity's own client, if it has one
+-- a fact of an identity's own client, if it has one
 abbrev pub IfOwn : Identity → (WebClient → Type 0) → Type 0
 IfOwn (Own c) P = P c
 IfOwn _ P = Unit {0}
@@ -160,7 +160,7 @@ abbrev pub AddsFrames : List ℕ → List ℕ → Type 0
 AddsFrames before after =
     (ms : List Message) × AllByRecursion IsAskable ms × (after ≡ before ++ flat_map spelling ms)
 
--- a identity that never has a client
+-- an identity that never has a client
 abbrev pub IsApart : Identity → Type 0
 IsApart Nobody = ⊥
 IsApart (Own c) = ⊥

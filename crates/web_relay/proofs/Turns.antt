@@ -2,61 +2,58 @@
 use Rattle.web_relay.proofs.Vocabulary.{◌≡◌, ◌≢◌, ℕ, suc, ◌+◌, ◌≤◌, ◌<◌, List, [], refl, sym, subst, ◌∙◌, inl, inr}
 use Rattle.web_relay.proofs.Vocabulary.{Bool, true, false, Option, Some, None, ap, length, arith, Result, Ok, Err}
 use Rattle.web_relay.proofs.Vocabulary.{OnErr, count_by, IfSome, cases_lt, Slab, get, Hall, Renews, HallNumber, AtBoth}
-use Rattle.web_relay.proofs.Vocabulary.{Duration}
 use Rattle.std.proofs.Common.{◌∷◌, ◌==◌, if◌then◌else◌, get_or}
 use Rattle.std.specs.Prelude.{IfOk, OnSome, is_some}
 use Rattle.std.proofs.Common.{get_or-set_same}
 use Rattle.std.proofs.lemmas.List.{get_or_past}
 use Rattle.slab.specs.Slab.{Updates, with_value}
-use Rattle.web_relay.specs.Halls.{IsNewer, hall_of, with_serial}
-use Rattle.web_requests.specs.declared.site.Watcher.{Watcher}
+use Rattle.web_relay.specs.Halls.{IsNewer, Opening, hall_of, with_serial}
 
 -- ---- each place in its turn
 
-module _ {S : Type 0} (P : Option (Hall S) → Option (Hall S) → Type 0) (before now : Slab (Hall S)) (place : ℕ)
-    (done : (q : ℕ) → q < place → P (get before q) (get now q))
+module _ {S : Type 0} (P : ℕ → Option (Hall S) → Option (Hall S) → Type 0) (before now : Slab (Hall S)) (place : ℕ)
+    (done : (q : ℕ) → q < place → P q (get before q) (get now q))
     (rest : (q : ℕ) → place ≤ q → get now q ≡ get before q) where
-  pub done-more : (after : Slab (Hall S)) → P (get now place) (get after place)
+  pub done-more : (after : Slab (Hall S)) → P place (get now place) (get after place)
       → ((other : ℕ) → other ≢ place → get after other ≡ get now other)
-      → (q : ℕ) → q < place + 1 → P (get before q) (get after q)
+      → (q : ℕ) → q < place + 1 → P q (get before q) (get after q)
   done-more after here others q below =
       elim (cases_lt q place) [
         | inl low ↦
-            subst (λ (v : Option (Hall S)). P (get before q) v) (sym (others q (λ (e : q ≡ place). omega arith)))
+            subst (λ (v : Option (Hall S)). P q (get before q) v) (sym (others q (λ (e : q ≡ place). omega arith)))
             (done q low)
         | inr high ↦
             let e : q ≡ place = omega arith in
-            subst (λ (n : ℕ). P (get before n) (get after n)) (sym e)
-            (subst (λ (v : Option (Hall S)). P v (get after place)) (rest place (omega arith)) here)
+            subst (λ (n : ℕ). P n (get before n) (get after n)) (sym e)
+            (subst (λ (v : Option (Hall S)). P place v (get after place)) (rest place (omega arith)) here)
       ]
 
   pub rest-more : (after : Slab (Hall S)) → ((other : ℕ) → other ≢ place → get after other ≡ get now other)
       → (q : ℕ) → place + 1 ≤ q → get after q ≡ get before q
   rest-more after others q high = others q (λ (e : q ≡ place). omega arith) ∙ rest q (omega arith)
 
-  pub all-done : P None None → length before.slots ≤ place → (q : ℕ) → P (get before q) (get now q)
+  pub all-done : ((q : ℕ) → P q None None) → length before.slots ≤ place → (q : ℕ) → P q (get before q) (get now q)
   all-done none all q =
       elim (cases_lt q place) [
         | inl low ↦ done q low
         | inr high ↦
             let past : get before q ≡ None = get_or_past before.slots q None (omega arith) in
-            subst (λ (v : Option (Hall S)). P v (get now q)) (sym past)
-            (subst (λ (v : Option (Hall S)). P None v) (sym (rest q high ∙ past)) none)
+            subst (λ (v : Option (Hall S)). P q v (get now q)) (sym past)
+            (subst (λ (v : Option (Hall S)). P q None v) (sym (rest q high ∙ past)) (none q))
       ]
 
-newer-later : {S : Type 0} (w : Option Watcher) (now : Duration) (early late : ℕ) (old new : Option (Hall S))
-    → early ≤ late
-    → IsNewer w now late old new → IsNewer w now early old new
-newer-later w now early late None new le n = n
-newer-later w now early late (Some old) None le n = n
-newer-later w now early late (Some old) (Some new) le n = (n.0, omega (arith, n.1), n.2)
+module _ {S : Type 0} (reaches : List ℕ → ℕ → Option S → Type 0) (by : Opening) (early late place : ℕ) where
+  newer-later : (old new : Option (Hall S)) → early ≤ late → IsNewer reaches by late place old new
+      → IsNewer reaches by early place old new
+  newer-later None new le n = n
+  newer-later (Some old) None le n = n
+  newer-later (Some old) (Some new) le n = (n.0, omega (arith, n.1), n.2)
 
--- a hall that is newer than a later serial
-pub renews-later : {S : Type 0} (w : Option Watcher) (now : Duration) (early late : ℕ) (old new : Option (Hall S))
-    → early ≤ late
-    → Renews w now late old new → Renews w now early old new
-renews-later w now early late old new le (inl stays) = inl stays
-renews-later w now early late old new le (inr newer) = inr (newer-later w now early late old new le newer)
+  -- a hall that is newer than a later serial
+  pub renews-later : (old new : Option (Hall S)) → early ≤ late → Renews reaches by late place old new
+      → Renews reaches by early place old new
+  renews-later old new le (inl stays) = inl stays
+  renews-later old new le (inr newer) = inr (newer-later old new le newer)
 
 -- ---- a hall's number
 

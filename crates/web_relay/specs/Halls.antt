@@ -10,6 +10,9 @@ use Rattle.attach_proto.specs.Spelling.{spelling}
 use Rattle.web_client.specs.declared.client.SharedClient.{SharedClient}
 use Rattle.web_client.specs.Asking.{HearsRead}
 use Rattle.web_streams.specs.Streaming.{WritesOut}
+use Rattle.web_streams.specs.Tokens.{ReachesFor}
+use Rattle.web_streams.specs.declared.connections.BridgeContext.{BridgeContext}
+use Rattle.web_streams.specs.declared.connections.Woken.TheVariants as woken
 use Rattle.web_streams.specs.declared.stream.ReadOutcome.{ReadOutcome}
 use Rattle.web_streams.specs.declared.stream.ReadOutcome.TheVariants.{More, Nothing, End}
 use Rattle.web_streams.specs.declared.stream.WebStream.{Ghosts as Streams}
@@ -130,7 +133,8 @@ module _ {S : Type 0} where
   IsStuckAt now None = ⊥
   IsStuckAt now (Some hall) = IsStuck now hall
 
-  -- a hall that opens now, and was watched last at a time: its client attaches as the user as whom anybody may watch
+  -- a hall that opens at a time, and was watched last at another one: its client attaches as the user as whom anybody
+  -- may watch
   pub record IsOpened (watcher : Watcher) (size : ℕ × ℕ) (now watched : Duration) (hall : Hall S) : Type 0 where
     pub asks : hall.client.client.outgoing
         ≡ spelling (Attach size.0 size.1 watcher.token (string_bytes watcher.name))
@@ -145,30 +149,53 @@ module _ {S : Type 0} where
       chosen = None;
     }
 
-  -- the same, if anybody may watch
-  abbrev pub OpensBy : Option Watcher → ℕ × ℕ → Duration → Duration → Hall S → Type 0
-  OpensBy watcher size now watched hall = IsSomeAnd watcher (λ w. IsOpened w size now watched hall)
+-- what a hall opens by
+pub record Opening : Type 0 where
+  pub socket : List ℕ
+  pub watcher : Option Watcher
+  pub now : Duration
+
+abbrev pub opening : BridgeContext → Opening
+opening around = record { socket = around.socket.now; watcher = around.site.now.watcher; now = around.now }
+
+module _ {S : Type 0} (reaches : List ℕ → ℕ → Option S → Type 0) (by : Opening) where
+  -- the same for a place, if anybody may watch: its client is connected to the server's socket
+  abbrev pub OpensAt : ℕ → ℕ × ℕ → Duration → Hall S → Type 0
+  OpensAt place size watched hall =
+      IsSomeAnd by.watcher (λ w. IsOpened w size by.now watched hall)
+      × ReachesFor reaches woken.Hall place by.socket (Some hall.stream)
 
   -- A hall opens where none was, with a serial that none had before `next`. If none can be opened, nothing is there.
-  pub record Opens (watcher : Option Watcher) (now : Duration) (size : ℕ × ℕ) (old : Halls S) (opened : Option ℕ)
-      (new : Halls S) : Type 0 where
+  pub record Opens (size : ℕ × ℕ) (old : Halls S) (opened : Option ℕ) (new : Halls S) : Type 0 where
     pub none : opened ≡ None → SameValues old.list new.list
     pub some : IfSome opened (λ place. (get old.list place ≡ None) × (hall : Hall S)
-        × (hall.serial ≡ old.next) × OpensBy watcher size now now hall
+        × (hall.serial ≡ old.next) × OpensAt place size by.now hall
         × Updates old.list new.list place (Some hall))
     pub next : old.next ≤ new.next
     pub rest : new ≡ record old { list = new.list; next = new.next }
 
   -- The hall of a size: the one that is there; or a stand-in, if all places are taken by others; or one that opens now.
-  pub record Enters (watcher : Option Watcher) (now : Duration) (size : ℕ × ℕ) (old : Halls S)
-      (found : Option HallNumber) (new : Halls S) : Type 0 where
+  pub record Enters (size : ℕ × ℕ) (old : Halls S) (found : Option HallNumber) (new : Halls S) : Type 0 where
     pub known : (place : ℕ) → HasSize size (get old.list place) → (new ≡ old) × (there : ℕ)
         × HasSize size (get old.list there) × (found ≡ number_at old.list there)
     pub full : HasNone size old.list → 8 ≤ slab_len old.list → (new ≡ old) × (there : ℕ)
         × IsStandIn size old.list there × (found ≡ number_at old.list there)
     pub opens : HasNone size old.list → slab_len old.list < 8 → (opened : Option ℕ)
-        × Opens watcher now size old opened new × (found ≡ number_of new.list opened)
+        × Opens size old opened new × (found ≡ number_of new.list opened)
 
+  -- a hall of the same size and place, which opens with a serial that none had before `next`
+  abbrev pub IsNewer : ℕ → ℕ → Option (Hall S) → Option (Hall S) → Type 0
+  IsNewer next place None new = ⊥
+  IsNewer next place (Some old) None = IsStuck by.now old
+  IsNewer next place (Some old) (Some new) =
+      IsStuck by.now old × (next ≤ new.serial) × OpensAt place old.size old.watched new
+
+  -- A hall that is stuck goes, and perhaps another one of its size comes for it. Every other one stays.
+  abbrev pub Renews : ℕ → ℕ → Option (Hall S) → Option (Hall S) → Type 0
+  Renews next place old new =
+      ((IsStuckAt by.now old → ⊥) × (new ≡ old)) ⊎ IsNewer next place old new
+
+module _ {S : Type 0} where
   -- who watches it is noted
   abbrev pub noted : Duration → Hall S → Hall S
   noted now hall = record hall { watched = if nat_lt 0 hall.audience then now else hall.watched }
@@ -185,18 +212,6 @@ module _ {S : Type 0} where
   Closes now (Some hall) new =
       (IsOver now (noted now hall) × (new ≡ None))
       ⊎ ((IsOver now (noted now hall) → ⊥) × (new ≡ Some (noted now hall)))
-
-  -- a hall of the same size, which opens now with a serial that none had before `next`
-  abbrev pub IsNewer : Option Watcher → Duration → ℕ → Option (Hall S) → Option (Hall S) → Type 0
-  IsNewer watcher now next None new = ⊥
-  IsNewer watcher now next (Some old) None = IsStuck now old
-  IsNewer watcher now next (Some old) (Some new) =
-      IsStuck now old × (next ≤ new.serial) × OpensBy watcher old.size now old.watched new
-
-  -- A hall that is stuck goes, and perhaps another one of its size comes for it. Every other one stays.
-  abbrev pub Renews : Option Watcher → Duration → ℕ → Option (Hall S) → Option (Hall S) → Type 0
-  Renews watcher now next old new =
-      ((IsStuckAt now old → ⊥) × (new ≡ old)) ⊎ IsNewer watcher now next old new
 
 -- ---- what is read and written, by what streams say of it
 

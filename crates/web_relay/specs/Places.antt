@@ -2,13 +2,16 @@
 use Rattle.std.specs.Prelude.{◌≡◌, ◌≢◌, ◌⊎◌, ◌&&◌, ◌==◌, ◌-◌, ◌/◌, ◌≤◌, ℕ, zero, suc, Bool, not, true, false}
 use Rattle.std.specs.Prelude.{if◌then◌else◌}
 use Rattle.std.specs.Prelude.{List, [], Option, Some, None, bytes_eq, IsTrue, ◌↔◌}
-use Rattle.std.specs.Prelude.{IsSomeAnd, ◌<◌}
+use Rattle.std.specs.Prelude.{IsSomeAnd, ◌<◌, Result, Ok, Err, ⊤}
+use Rattle.std.specs.declared.io.Error.{Error}
 use Rattle.std.specs.Duration.{as_nanos}
 use Rattle.std.specs.declared.time.Duration.{Duration}
-use Rattle.slab.specs.Slab.{Slab, SameValues, Updates, get, with_value, slab_len}
+use Rattle.slab.specs.Slab.{Slab, HasRoomFor, SameValues, Updates, get, with_value, slab_len}
 use Rattle.web_client.specs.declared.wire.Phase.{Phase}
 use Rattle.web_client.specs.declared.wire.Phase.TheVariants.{Request, Socket, Last}
 use Rattle.web_client.specs.Frames.{page, begun}
+use Rattle.web_streams.specs.Tokens.{WakesFor}
+use Rattle.web_streams.specs.declared.connections.Woken.TheVariants.{Browser}
 use Rattle.web_relay.specs.declared.relay.Relay.{Relay}
 use Rattle.web_relay.specs.declared.relay.Upstream.TheVariants.{Unasked}
 use Rattle.web_relay.specs.Relaying.{IsRefused}
@@ -37,11 +40,6 @@ module _ {S : Type 0} where
   abbrev pub IsSilent : Option (Relay S) → Type 0
   IsSilent None = ⊥
   IsSilent (Some relay) = relay.has_begun ≡ false
-
-  -- a browser that has said who it is
-  abbrev pub HasBegun : Option (Relay S) → Type 0
-  HasBegun None = ⊥
-  HasBegun (Some relay) = relay.has_begun ≡ true
 
   -- a browser that is let go
   abbrev pub IsOver : Option (Relay S) → Type 0
@@ -92,10 +90,6 @@ module _ {S : Type 0} where
 -- ---- who comes and goes
 
 module _ {S : Type 0} where
-  -- who is there stays, or goes if such a one may
-  abbrev pub MayGo : (Option (Relay S) → Type 0) → Option (Relay S) → Option (Relay S) → Type 0
-  MayGo P old new = (new ≡ old) ⊎ ((new ≡ None) × P old)
-
   -- it is over, and this is said of it: whether it was logged, and whether it was refused
   abbrev pub LeavesAs : (Bool × Bool) → Option (Relay S) → Type 0
   LeavesAs said None = ⊥
@@ -154,32 +148,21 @@ module _ {S : Type 0} where
     pub few : slab_len old < most → new ≡ old
     pub many : most ≤ slab_len old → OldestGoes old new
 
-  -- one who comes gets a place that is free after room was made
-  pub record LetsIn (most : ℕ) (browser : S) (now : Duration) (old new : Slab (Relay S)) : Type 0 where
+module _ {S : Type 0} (wakes : S → ℕ → Result ⊤ Error → Type 0) (most : ℕ) (browser : S) where
+  -- One who comes gets a place that is free after room was made. Its events are for this place.
+  pub record LetsIn (now : Duration) (old new : Slab (Relay S)) : Type 0 where
     pub room : Slab (Relay S)
     pub makes : MakesRoom most old room
     pub place : ℕ
     pub vacant : get room place ≡ None
+    pub woken : WakesFor wakes Browser place browser (Ok tt)
     pub relay : Relay S
     pub comes : IsNew browser now relay
     pub placed : Updates room new place (Some relay)
 
   -- one who comes is closed: there is no memory, or the system doesn't watch the connection
-  abbrev pub IsClosed : ℕ → Slab (Relay S) → Slab (Relay S) → Type 0
-  IsClosed most old new = (room : Slab (Relay S)) × MakesRoom most old room × SameValues room new
-
-  -- nobody, or a stranger: one who was told nothing and has said nothing
-  abbrev pub IsStranger : Option (Relay S) → Type 0
-  IsStranger None = Unit {0}
-  IsStranger (Some relay) =
-      (page relay.visitor ≡ begun) × (relay.has_begun ≡ false) × (relay.is_told ≡ false) × (relay.hall ≡ None)
-      × (relay.server ≡ Unasked)
-
-  -- nobody, or one who hasn't said who it is
-  abbrev pub MayBeReplaced : Option (Relay S) → Type 0
-  MayBeReplaced None = Unit {0}
-  MayBeReplaced (Some relay) = relay.has_begun ≡ false
-
-  -- who is there stays, or a stranger or nobody comes for one who hasn't said who it is
-  abbrev pub Comes : Option (Relay S) → Option (Relay S) → Type 0
-  Comes old new = (new ≡ old) ⊎ (MayBeReplaced old × IsStranger new)
+  pub record IsClosed (old new : Slab (Relay S)) : Type 0 where
+    pub room : Slab (Relay S)
+    pub makes : MakesRoom most old room
+    pub same : SameValues room new
+    pub cause : (HasRoomFor room 1 → ⊥) ⊎ ((place : ℕ) × (e : Error) × WakesFor wakes Browser place browser (Err e))

@@ -12,6 +12,8 @@ use Rattle.web_client.specs.Asking.{AsksFor, HearsFor, IsOwn}
 use Rattle.web_client.specs.Frames.{CanRead, TakesBytes}
 use Rattle.web_client.specs.Rows.{TellsAway, TellsHere}
 use Rattle.web_streams.specs.Streaming.{Receives, WritesOut}
+use Rattle.web_streams.specs.Tokens.{ReachesFor}
+use Rattle.web_streams.specs.declared.connections.Woken.TheVariants.{Server}
 use Rattle.web_streams.specs.declared.stream.ReadOutcome.{ReadOutcome}
 use Rattle.web_streams.specs.declared.stream.ReadOutcome.TheVariants.{More, Nothing, End}
 use Rattle.web_streams.specs.declared.stream.WebStream.{Ghosts as Streams}
@@ -130,9 +132,10 @@ module _ {S : Type 0} where
   ConnectsTo None old new = LosesPage NO_SERVER.now old new
   ConnectsTo (Some stream) old new = new ≡ record old { server = Connected stream }
 
-  -- the same, by what came of reaching the server's socket
-  abbrev pub Connects : (List ℕ → Option S → Type 0) → List ℕ → Relay S → Relay S → Type 0
-  Connects reaches socket old new = (reached : Option S) × reaches socket reached × ConnectsTo reached old new
+  -- the same, by what came of reaching the server's socket for the place of a browser
+  abbrev pub Connects : (List ℕ → ℕ → Option S → Type 0) → ℕ → List ℕ → Relay S → Relay S → Type 0
+  Connects reaches place socket old new =
+      (reached : Option S) × ReachesFor reaches Server place socket reached × ConnectsTo reached old new
 
   -- The connection of its client ended. The page is told that, unless the server said why.
   pub record LosesServer (old new : Relay S) : Type 0 where

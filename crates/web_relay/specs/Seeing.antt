@@ -1,19 +1,17 @@
 -- What browsers see: of their own client, or of a hall.
 use Rattle.std.specs.Prelude.{◌≡◌, ◌≢◌, ◌⊎◌, ◌+◌, ◌-◌, ◌^◌, ◌≤◌, ℕ, Bool, true, false, min, MatchBool}
-use Rattle.std.specs.Prelude.{Option, Some, None, is_none}
-use Rattle.std.specs.declared.time.Duration.{Duration}
+use Rattle.std.specs.Prelude.{List, Option, Some, None, is_none}
 use Rattle.slab.specs.Slab.{with_value}
 use Rattle.web_client.specs.declared.visitor.Visitor.{Visitor}
 use Rattle.web_client.specs.declared.identity.Identity.TheVariants.{Watching}
 use Rattle.web_client.specs.Asking.{IsOwn, IfOwn, IsWatcher, Keeps}
 use Rattle.web_client.specs.Rows.{IsDue, Shows, SendsAll}
-use Rattle.web_requests.specs.declared.site.Watcher.{Watcher}
 use Rattle.web_relay.specs.declared.hall.Hall.{Hall}
 use Rattle.web_relay.specs.declared.halls.Halls.{Halls}
 use Rattle.web_relay.specs.declared.halls.HallNumber.{HallNumber}
 use Rattle.web_relay.specs.declared.relay.Relay.{Relay}
 use Rattle.web_relay.specs.declared.relay.TheConstants.{NO_SERVER}
-use Rattle.web_relay.specs.Halls.{Enters, hall_of}
+use Rattle.web_relay.specs.Halls.{Enters, Opening, hall_of}
 use Rattle.web_relay.specs.Relaying.{HasClient, IsOpen, LosesPage}
 use Rattle.web_relay.specs.declared.upstream.TheConstants.{ENDED}
 
@@ -38,12 +36,12 @@ module _ {S : Type 0} where
       ⊎ ((found ≢ old.hall) × (new ≡ seated_afresh found mid) × (begins ≡ is_none old.hall)))
 
   -- Only an open page that watches sits, in a hall for its size.
-  pub record Seats (watcher : Option Watcher) (now : Duration) (halls : Halls S) (old : Relay S) (begins : Bool)
-      (after : Halls S) (new : Relay S) : Type 0 where
+  pub record Seats (reaches : List ℕ → ℕ → Option S → Type 0) (by : Opening) (halls : Halls S) (old : Relay S)
+      (begins : Bool) (after : Halls S) (new : Relay S) : Type 0 where
     pub apart : (IsWatcher old.visitor.identity × IsOpen old.visitor → ⊥)
         → (new ≡ old) × (after ≡ halls) × (begins ≡ false)
     pub sits : (rows columns : ℕ) → old.visitor.identity ≡ Watching rows columns → IsOpen old.visitor
-        → (found : Option HallNumber) × Enters watcher now (rows, columns) halls found after
+        → (found : Option HallNumber) × Enters reaches by (rows, columns) halls found after
         × SitsIn found old begins new
 
 -- ---- a page

@@ -4,8 +4,8 @@ ghost use Rattle.std.specs.Prelude.{◌≡◌, ◌≢◌, ◌⊎◌, ◌<◌, �
 ghost use Rattle.std.specs.String.{string_bytes};
 ghost use Rattle.slab.specs.Slab.{SameValues, Updates, get, slab_len};
 ghost use Rattle.web_relay.specs.Halls.{AtBoth, AtEach, Chooses, Closes, Enters, HallTurns, HasNone, HasSize};
-ghost use Rattle.web_relay.specs.Halls.{IsBetterOf, IsBusyHall, IsStandIn, IsStuck, IsStuckAt, Opens, OpensBy, Renews};
-ghost use Rattle.web_relay.specs.Halls.{heeds, number_at};
+ghost use Rattle.web_relay.specs.Halls.{IsBetterOf, IsBusyHall, IsStandIn, IsStuck, IsStuckAt, Opens, OpensAt, Renews};
+ghost use Rattle.web_relay.specs.Halls.{heeds, number_at, opening};
 ghost use Rattle.web_relay.specs.Places.{changed_at};
 
 use crate::hall::Hall;
@@ -55,10 +55,10 @@ fn turn_at<S: WebStream + Drop>(halls: &mut Slab<Hall<S>>, place: usize, buffer:
     }
 }
 
-// Puts a hall at a free place, if there is memory.
+// Puts a hall at the next free place, if there is memory.
 fn put<S: Drop>(halls: &mut Slab<Hall<S>>, hall: Hall<S>) -> Option<usize>
     ensures none { result ≡ None → SameValues halls.old halls.new }
-    ensures some { IfSome result (λ place. (get halls.old place ≡ None)
+    ensures some { IfSome result (λ place. (place ≡ halls.old.vacant_key) × (get halls.old place ≡ None)
         × Updates halls.old halls.new place (Some hall)) }
 {
     match halls.insert(hall) {
@@ -188,7 +188,7 @@ impl<S: BridgeStream + Drop> Halls<S> {
         ensures same { self.new ≡ record self.old { next = self.new.next } }
         ensures next { self.old.next ≤ self.new.next }
         ensures serial { IfSome result (λ hall. hall.serial ≡ self.old.next) }
-        ensures opens { IfSome result (OpensBy around.entry.site.now.watcher size around.entry.now around.entry.now) }
+        ensures opens { IfSome result (OpensAt S.reaches (opening around.entry) place size around.entry.now) }
     {
         let watcher = around.site.watcher.as_ref()?;
         let client = SharedClient::attach(self.alloc, size.0, size.1, watcher).ok()?;
@@ -211,7 +211,7 @@ impl<S: BridgeStream + Drop> Halls<S> {
 
     // Opens a hall of this size.
     fn open<R: Net>(&mut self, rt: &R, around: BridgeContext<'_>, size: (u16, u16)) -> Option<usize>
-        ensures { Opens around.entry.site.now.watcher around.entry.now size self.old result self.new }
+        ensures { Opens S.reaches (opening around.entry) size self.old result self.new }
     {
         let place = self.list.vacant_key();
         let hall = self.made(rt, around, size, place)?;
@@ -225,7 +225,7 @@ impl<S: BridgeStream + Drop> Halls<S> {
         around: BridgeContext<'_>,
         size: (u16, u16),
     ) -> Option<HallNumber>
-        ensures { Enters around.entry.site.now.watcher around.entry.now size self.old result self.new }
+        ensures { Enters S.reaches (opening around.entry) size self.old result self.new }
     {
         if let Some(place) = self.find(size) {
             return self.number(place);
@@ -250,8 +250,8 @@ impl<S: BridgeStream + Drop> Halls<S> {
 
     // Attaches the client of this place again, if it sees no window.
     fn renew_at<R: Net>(&mut self, rt: &R, around: BridgeContext<'_>, place: usize)
-        ensures renews { Renews around.entry.site.now.watcher around.entry.now self.old.next
-            (get self.old.list place) (get self.new.list place) }
+        ensures renews { Renews S.reaches (opening around.entry) self.old.next place (get self.old.list place)
+            (get self.new.list place) }
         ensures others { (other : ℕ) → other ≢ place → get self.new.list other ≡ get self.old.list other }
         ensures next { self.old.next ≤ self.new.next }
         ensures same { self.new ≡ record self.old { list = self.new.list; next = self.new.next } }
@@ -270,7 +270,7 @@ impl<S: BridgeStream + Drop> Halls<S> {
     /// Attaches the clients again whose window has closed. They then see the first window that there
     /// is.
     pub fn renew<R: Net>(&mut self, rt: &R, around: BridgeContext<'_>)
-        ensures renews { (place : ℕ) → Renews around.entry.site.now.watcher around.entry.now self.old.next
+        ensures renews { (place : ℕ) → Renews S.reaches (opening around.entry) self.old.next place
             (get self.old.list place) (get self.new.list place) }
         ensures same { self.new ≡ record self.old { list = self.new.list; next = self.new.next } }
     {

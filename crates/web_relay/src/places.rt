@@ -4,7 +4,7 @@ ghost use Rattle.std.specs.Prelude.{◌≡◌, ◌↔◌, ℕ, ◌+◌, ◌<◌,
 ghost use Rattle.std.specs.Prelude.{IsSome, IsTrue};
 ghost use Rattle.slab.specs.Slab.{get, Updates};
 ghost use Rattle.web_relay.specs.Places.{changed_at, heeds_browser, heeds_server, IsSilent, IsOver, IsTooMany};
-ghost use Rattle.web_relay.specs.Places.{MayGo, LeavesAs, count_below, holds_at, is_other, is_neighbour, IsOlderOf};
+ghost use Rattle.web_relay.specs.Places.{LeavesAs, count_below, holds_at, is_other, is_neighbour, IsOlderOf};
 ghost use Rattle.web_relay.specs.Places.{IsOldest, MakesRoom};
 ghost use Rattle.web_relay.specs.Halls.{heeds};
 
@@ -79,8 +79,7 @@ pub fn oldest_silent<S: Drop>(relays: &Slab<Relay<S>>) -> Option<usize>
 
 /// Makes room for one who comes: if that many are there, the oldest goes that hasn't said who it is.
 pub fn make_room<S: Drop>(relays: &mut Slab<Relay<S>>, most: usize)
-    ensures goes { (place : ℕ) → MayGo IsSilent (get relays.old place) (get relays.new place) }
-    ensures room { MakesRoom most relays.old relays.new }
+    ensures { MakesRoom most relays.old relays.new }
 {
     if relays.len() >= most {
         if let Some(place) = oldest_silent(relays) {

@@ -15,7 +15,7 @@ use std::alloc::Global;
 use std::net::Net;
 use std::time::Duration;
 use web_client::{Identity, Visitor};
-use web_streams::{BridgeContext, BridgeStream, ReadOutcome, WebStream};
+use web_streams::{BridgeContext, BridgeStream, ReadOutcome, WebStream, server_token};
 
 /// How often a connection is read in one turn.
 const READS: usize = 16;
@@ -339,11 +339,11 @@ impl<S: WebStream + Drop> Relay<S> {
 }
 
 impl<S: BridgeStream + Drop> Relay<S> {
-    /// Connects its own client.
-    pub fn connect<R: Net>(&mut self, rt: &R, around: BridgeContext<'_>, token: mio::Token)
-        ensures { Connects S.reaches around.entry.socket.now self.old self.new }
+    /// Connects its own client, for its place.
+    pub fn connect<R: Net>(&mut self, rt: &R, around: BridgeContext<'_>, place: usize)
+        ensures { Connects S.reaches place around.entry.socket.now self.old self.new }
     {
-        match S::reach(rt, around, token) {
+        match S::reach(rt, around, server_token(place)) {
             Some(stream) => self.server = Upstream::Connected(stream),
             None => self.lose(NO_SERVER),
         }

@@ -3,7 +3,7 @@
 ghost use Rattle.std.specs.Prelude.{◌≡◌, Some, None};
 ghost use Rattle.slab.specs.Slab.{with_value};
 ghost use Rattle.web_client.specs.Asking.{IsWatcher};
-ghost use Rattle.web_relay.specs.Halls.{hall_of};
+ghost use Rattle.web_relay.specs.Halls.{hall_of, opening};
 ghost use Rattle.web_relay.specs.Relaying.{LosesPage};
 ghost use Rattle.web_relay.specs.Seeing.{MissesHall, Seats, ShowsHall, ShowsPage, SitsIn, Watches};
 
@@ -56,7 +56,7 @@ impl<S: BridgeStream + Drop> Halls<S> {
     /// Seats an open page that watches in the hall of its size. Of the page of another hall it was sent nothing.
     /// Returns whether it has just begun to watch.
     pub fn seat<R: Net>(&mut self, rt: &R, around: BridgeContext<'_>, relay: &mut Relay<S>) -> bool
-        ensures { Seats around.entry.site.now.watcher around.entry.now self.old relay.old result self.new relay.new }
+        ensures { Seats S.reaches (opening around.entry) self.old relay.old result self.new relay.new }
     {
         let Identity::Watching(rows, columns) = *relay.visitor.identity() else {
             return false;

@@ -1,8 +1,8 @@
 //! Connections: of browsers, over an address of this machine or a socket that a web server connects to, and of clients
 //! to the server.
 
-ghost use Rattle.std.specs.Prelude.{◌≡◌, ◌<◌, ◌^◌};
-ghost use Rattle.web_streams.specs.Tokens.{IsAccepted, woken};
+ghost use Rattle.std.specs.Prelude.{◌≡◌};
+ghost use Rattle.web_streams.specs.Tokens.{IsAccepted, IsTokenOf, woken};
 ghost use Rattle.web_streams.specs.declared.connections.Woken.{Woken};
 
 use mio::net::{TcpListener, TcpStream, UnixListener, UnixStream};
@@ -37,28 +37,28 @@ pub fn woken_by(token: Token) -> Woken
 
 /// The token of the listener of this number.
 pub fn listener_token(number: usize) -> Token
-    ensures { number < 2 ^ 62 → woken result.0 ≡ Woken.Listener number }
+    ensures { IsTokenOf Woken.Listener number result.0 }
 {
     Token(number.saturating_mul(4))
 }
 
 /// The token of the browser at this place.
 pub fn browser_token(place: usize) -> Token
-    ensures { place < 2 ^ 62 → woken result.0 ≡ Woken.Browser place }
+    ensures { IsTokenOf Woken.Browser place result.0 }
 {
     Token(place.saturating_mul(4).saturating_add(1))
 }
 
 /// The token of the own client of the browser at this place.
 pub fn server_token(place: usize) -> Token
-    ensures { place < 2 ^ 62 → woken result.0 ≡ Woken.Server place }
+    ensures { IsTokenOf Woken.Server place result.0 }
 {
     Token(place.saturating_mul(4).saturating_add(2))
 }
 
 /// The token of the hall at this place.
 pub fn hall_token(place: usize) -> Token
-    ensures { place < 2 ^ 62 → woken result.0 ≡ Woken.Hall place }
+    ensures { IsTokenOf Woken.Hall place result.0 }
 {
     Token(place.saturating_mul(4).saturating_add(3))
 }
@@ -94,7 +94,9 @@ impl WebListener {
     }
 
     /// Waits for connections.
-    pub fn register(&mut self, registry: &Registry, token: Token) -> io::Result<()> {
+    pub fn register(&mut self, registry: &Registry, token: Token) -> io::Result<()>
+        ensures { self.new ≡ self.old }
+    {
         match self {
             WebListener::Tcp(it) => registry.register(it, token, Interest::READABLE),
             WebListener::Unix(it) => registry.register(it, token, Interest::READABLE),
@@ -114,19 +116,23 @@ pub enum Accepted<S> {
 
 /// A connection that a bridge makes or takes. Each relation is shown by a call of its function alone.
 pub trait BridgeStream {
-    ghost use Rattle.std.specs.Prelude.{◌≡◌, ℕ, List, Option};
+    ghost use Rattle.std.specs.Prelude.{◌≡◌, ⊤, ℕ, List, Option, Result};
+    ghost use Rattle.std.specs.declared.io.Error.{Error};
     ghost use Rattle.web_streams.specs.declared.connections.Accepted.{Accepted as Came};
     ghost use Rattle.web_streams.specs.declared.connections.WebListener.{WebListener as Door};
 
-    // A socket's path, and the connection to it, if one was made.
-    ghost reaches: { List ℕ → Option Self → Type 0 };
+    // A socket's path, the token of a connection to it, and this connection, if one was made.
+    ghost reaches: { List ℕ → ℕ → Option Self → Type 0 };
 
     // A listener, and what came of asking it.
     ghost comes: { Door → Came Self → Type 0 };
 
+    // A connection, the token that its events are to have, and whether the system watches it.
+    ghost wakes: { Self → ℕ → Result ⊤ Error → Type 0 };
+
     /// A new connection to the server, if one can be made.
     fn reach<R: Net>(rt: &R, around: BridgeContext<'_>, token: Token) -> Option<Self>
-        ensures { reaches around.entry.socket.now result };
+        ensures { reaches around.entry.socket.now token.0 result };
 
     /// Takes the next connection of a listener.
     fn come(listener: &WebListener) -> Accepted<Self>
@@ -134,7 +140,8 @@ pub trait BridgeStream {
 
     /// Waits for bytes, and for room.
     fn register(&mut self, registry: &Registry, token: Token) -> io::Result<()>
-        ensures { self.new ≡ self.old };
+        ensures same { self.new ≡ self.old }
+        ensures wakes { wakes self.old token.0 result };
 }
 
 // A new connection to the socket at this path.
@@ -171,9 +178,11 @@ fn came_of(answer: io::Result<Stream>) -> Accepted<Stream>
 }
 
 impl BridgeStream for Stream {
-    ghost reaches = { λ path stream. Unit {0} };
+    ghost reaches = { λ path token stream. Unit {0} };
 
     ghost comes = { λ listener came. Unit {0} };
+
+    ghost wakes = { λ stream token watched. Unit {0} };
 
     fn reach<R: Net>(rt: &R, around: BridgeContext<'_>, token: Token) -> Option<Stream> {
         connect_at(rt, around, token).ok()

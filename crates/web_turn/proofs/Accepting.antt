@@ -2,7 +2,7 @@
 use Rattle.std.proofs.Common.{◌≡◌, ◌⊎◌, ◌↔◌, ◌||◌, Bool, true, false, IsTrue, List, [], ◌∷◌, length, refl, inl, inr}
 use Rattle.std.proofs.Common.{◌+◌, ◌<◌, ◌≤◌, ℕ, zero, suc, arith, drop, get_or, subst, sym}
 use Rattle.std.specs.declared.time.Duration.{Duration}
-use Rattle.web_streams.specs.declared.connections.Accepted.{Accepted}
+use Rattle.web_streams.specs.declared.connections.BridgeStream.{Ghosts as Makes}
 use Rattle.web_streams.specs.declared.connections.WebListener.{WebListener}
 use Rattle.web_turn.specs.declared.bridge.Bridge.{Bridge}
 use Rattle.web_turn.specs.Accepting.{AcceptsAll, AcceptsAt}
@@ -27,21 +27,21 @@ drop_all [] (suc i) l = refl
 drop_all (x ∷ xs) zero l = absurd (omega (arith, l))
 drop_all (x ∷ xs) (suc i) l = drop_all xs i (omega (arith, l))
 
-module _ {S : Type 0} (comes : WebListener → Accepted S → Type 0) (now : Duration) (ls : List WebListener) (i : ℕ) where
+module _ {S : Type 0} (makes : Makes S) (now : Duration) (ls : List WebListener) (i : ℕ) where
   -- those who come through one listener, and through the later ones
   pub one_listener : (d : WebListener) (a m n : Bridge S) (first rest : Bool) → i < length ls
-      → AcceptsAt comes (get_or ls i d) now a first m → AcceptsAll comes (drop (i + 1) ls) now m rest n
-      → AcceptsAll comes (drop i ls) now a (first || rest) n
+      → AcceptsAt makes (get_or ls i d) now a first m → AcceptsAll makes (drop (i + 1) ls) now m rest n
+      → AcceptsAll makes (drop i ls) now a (first || rest) n
   one_listener d a m n first rest l one all =
       let next : suc i ≡ i + 1 = omega arith in
-      let later : AcceptsAll comes (drop (suc i) ls) now m rest n =
-      subst (λ (k : ℕ). AcceptsAll comes (drop k ls) now m rest n) (sym next) all in
-      subst (λ (l : List WebListener). AcceptsAll comes l now a (first || rest) n) (sym (drop_at ls i d l))
+      let later : AcceptsAll makes (drop (suc i) ls) now m rest n =
+      subst (λ (k : ℕ). AcceptsAll makes (drop k ls) now m rest n) (sym next) all in
+      subst (λ (l : List WebListener). AcceptsAll makes l now a (first || rest) n) (sym (drop_at ls i d l))
       (m, first, rest, one, later, refl)
 
-  pub all_came : (a : Bridge S) → length ls ≤ i → AcceptsAll comes (drop i ls) now a false a
+  pub all_came : (a : Bridge S) → length ls ≤ i → AcceptsAll makes (drop i ls) now a false a
   all_came a l =
-      subst (λ (l : List WebListener). AcceptsAll comes l now a false a) (sym (drop_all ls i l)) (refl, refl)
+      subst (λ (l : List WebListener). AcceptsAll makes l now a false a) (sym (drop_all ls i l)) (refl, refl)
 
 pub busy_if : (more has_work : Bool) (HasWork : Type 0) → (IsTrue has_work ↔ HasWork)
     → (IsTrue (more || has_work) ↔ (HasWork ⊎ (more ≡ true)))

@@ -1,5 +1,6 @@
 -- What events change, one after another.
-use Rattle.std.proofs.Common.{◌≡◌, ℕ, List, [], ◌∷◌, length, refl, ap, ◌∙◌, arith}
+use Rattle.std.proofs.Common.{◌≡◌, ℕ, List, [], ◌∷◌, length, refl, ap, ◌∙◌, arith, Result, Err}
+use Rattle.std.specs.Result.{IfErr}
 use Rattle.mio.specs.declared.event.event.Event.{Event}
 use Rattle.slab.specs.Slab.{Slab}
 use Rattle.web_relay.specs.declared.halls.Halls.{Halls}
@@ -39,3 +40,6 @@ marks (Hall place) b relays halls other browser server hall =
 pub no_more : (events : List Event) → length events ≡ 0 → events ≡ []
 no_more [] none = refl
 no_more (event ∷ later) none = absurd (omega (arith, none))
+
+pub if_err_given : {T E : Type 0} (P : E → Type 0) (r : Result T E) (e : E) → P e → r ≡ Err e → IfErr r P
+if_err_given P r e p is = rw is p

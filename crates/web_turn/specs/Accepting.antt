@@ -5,6 +5,7 @@ use Rattle.slab.specs.Slab.{Slab}
 use Rattle.web_relay.specs.declared.relay.Relay.{Relay}
 use Rattle.web_streams.specs.declared.connections.Accepted.{Accepted}
 use Rattle.web_streams.specs.declared.connections.Accepted.TheVariants.{Came, Nothing, Refused}
+use Rattle.web_streams.specs.declared.connections.BridgeStream.{Ghosts as Makes}
 use Rattle.web_streams.specs.declared.connections.WebListener.{WebListener}
 use Rattle.web_relay.specs.Places.{IsClosed, LetsIn}
 use Rattle.web_turn.specs.declared.bridge.Bridge.{Bridge}
@@ -13,10 +14,11 @@ use Rattle.web_turn.specs.declared.bridge.Bridge.{Bridge}
 abbrev pub room_for : ℕ → ℕ
 room_for most = min (most + 256) 18446744073709551615
 
-module _ {S : Type 0} where
+module _ {S : Type 0} (makes : Makes S) where
   -- One browser is let in or closed. Each of both makes room first, and nobody else goes or changes.
   abbrev pub Accepts : ℕ → S → Duration → Slab (Relay S) → Slab (Relay S) → Type 0
-  Accepts most browser now old new = LetsIn most browser now old new ⊎ IsClosed most old new
+  Accepts most browser now old new =
+      LetsIn makes.wakes most browser now old new ⊎ IsClosed makes.wakes most browser old new
 
   -- One who waited came; nobody waits; or the listener is to be asked again soon.
   abbrev pub TakesComer : Accepted S → Duration → Bridge S → Bool → Bridge S → Type 0
@@ -26,11 +28,10 @@ module _ {S : Type 0} where
   TakesComer Nothing now old came new = (came ≡ false) × (new ≡ old)
   TakesComer Refused now old came new = (came ≡ false) × (new ≡ record old { has_comers = true })
 
-module _ {S : Type 0} (comes : WebListener → Accepted S → Type 0) where
   -- a listener was asked once
   abbrev pub AcceptsOne : WebListener → Duration → Bridge S → Bool → Bridge S → Type 0
   AcceptsOne listener now old came new =
-      (answer : Accepted S) × comes listener answer × TakesComer answer now old came new
+      (answer : Accepted S) × makes.comes listener answer × TakesComer answer now old came new
 
   -- that many browsers came in through a listener, one after another
   abbrev pub AcceptsEach : WebListener → Duration → ℕ → Bridge S → Bridge S → Type 0

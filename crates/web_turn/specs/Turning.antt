@@ -13,11 +13,10 @@ use Rattle.web_client.specs.Asking.{IsOwn}
 use Rattle.web_client.specs.Rows.{Refuses, TellsLast, handed}
 use Rattle.web_streams.specs.declared.stream.WebStream.{Ghosts as Streams}
 use Rattle.web_requests.specs.declared.site.Site.{Site}
-use Rattle.web_requests.specs.declared.site.Watcher.{Watcher}
 use Rattle.web_relay.specs.declared.halls.Halls.{Halls}
 use Rattle.web_relay.specs.declared.relay.Relay.{Relay}
 use Rattle.web_streams.specs.declared.connections.BridgeStream.{Ghosts as Makes}
-use Rattle.web_relay.specs.Halls.{AtEach, Chooses, Closes, HallTurns, IsBusyHall, Renews}
+use Rattle.web_relay.specs.Halls.{AtEach, Chooses, Closes, HallTurns, IsBusyHall, Opening, Renews}
 use Rattle.web_relay.specs.Places.{IsTooMany}
 use Rattle.web_relay.specs.Relaying.{Connects, EndsBy, HasPage, HearsServer, IsBusy, IsOpen, IsRefused, Looks}
 use Rattle.web_relay.specs.Relaying.{ReadsBrowser, TurnsAway, WantsServer, WritesAll}
@@ -121,6 +120,10 @@ module _ {S : Type 0} where
     pub told : IsSome old.log → IsToTellRefused now old → new ≡ record old { refused = 0; told_refused = now }
     pub early : IsSome old.log → (IsToTellRefused now old → ⊥) → new ≡ old
 
+  -- what a hall of it opens by
+  abbrev pub opening_of : Bridge S → Duration → Opening
+  opening_of b now = record { socket = b.socket.now; watcher = b.site.watcher; now = now }
+
   -- something is left to do for a browser without an event
   abbrev pub IsBusyRelay : Option (Relay S) → Type 0
   IsBusyRelay None = ⊥
@@ -145,8 +148,8 @@ module _ (takes : (folder secret : List ℕ) → Option (List ℕ × ℕ) → Ty
     pub other : (IsOpen old.visitor × IsLink old.visitor.identity → ⊥) → new ≡ old
 
 -- Its own client is connected if its page has said who it is, and only once.
-pub record MayConnect {S : Type 0} (makes : Makes S) (socket : List ℕ) (old new : Relay S) : Type 0 where
-  pub wants : WantsServer old → Connects makes.reaches socket old new
+pub record MayConnect {S : Type 0} (makes : Makes S) (place : ℕ) (socket : List ℕ) (old new : Relay S) : Type 0 where
+  pub wants : WantsServer old → Connects makes.reaches place socket old new
   pub other : (WantsServer old → ⊥) → new ≡ old
 
 module _ {S : Type 0} (streams : Streams S) where
@@ -187,34 +190,36 @@ module _ {S : Type 0} (streams : Streams S) where
     pub writes : WritesAll streams shown new
 
   -- The halls hear the server. One that is stuck attaches again, and clients are sent to the chosen window.
-  pub record BeginsHalls (watcher : Option Watcher) (now : Duration) (old new : Halls S) : Type 0 where
+  pub record BeginsHalls (makes : Makes S) (by : Opening) (old new : Halls S) : Type 0 where
     pub turned : Halls S
     pub turns : AtEach (HallTurns streams) old.list turned.list × (turned ≡ record old { list = turned.list })
     pub renewed : Halls S
-    pub renews : ((place : ℕ) → Renews watcher now turned.next (get turned.list place) (get renewed.list place))
+    pub renews : ((place : ℕ)
+        → Renews makes.reaches by turned.next place (get turned.list place) (get renewed.list place))
         × (renewed ≡ record turned { list = renewed.list; next = renewed.next })
     pub none : renewed.choice ≡ None → new ≡ renewed
-    pub chooses : IfSome renewed.choice (λ choice. AtEach (Chooses (string_bytes choice) now) renewed.list new.list)
+    pub chooses : IfSome renewed.choice (λ choice. AtEach (Chooses (string_bytes choice) by.now) renewed.list new.list)
     pub rest : new ≡ record renewed { list = new.list }
 
   module _ (makes : Makes S) (takes : (folder secret : List ℕ) → Option (List ℕ × ℕ) → Type 0) where
     -- Its client is connected, its link redeemed, and it sits in a hall if it watches.
-    pub record Joins (b : Bridge S) (now : Duration) (old : Relay S) (after : Halls S) (new : Relay S) : Type 0 where
+    pub record Joins (b : Bridge S) (now : Duration) (place : ℕ) (old : Relay S) (after : Halls S) (new : Relay S)
+        : Type 0 where
       pub connected : Relay S
-      pub connects : MayConnect makes b.socket.now old connected
+      pub connects : MayConnect makes place b.socket.now old connected
       pub redeemed : Relay S
       pub redeems : Redeems takes b.links connected redeemed
       pub begins : Bool
       pub seated : Relay S
-      pub seats : Seats b.site.watcher now b.halls redeemed begins after seated
+      pub seats : Seats makes.reaches (opening_of b now) b.halls redeemed begins after seated
       pub tells : TellsWatching begins seated new
 
     -- one turn of a browser
-    pub record TurnsRelay (b : Bridge S) (now : Duration) (old : Relay S) (after : Halls S) (new : Relay S)
-        : Type 0 where
+    pub record TurnsRelay (b : Bridge S) (now : Duration) (place : ℕ) (old : Relay S) (after : Halls S)
+        (new : Relay S) : Type 0 where
       pub entered : Halls S
       pub joined : Relay S
-      pub joins : Joins b now old entered joined
+      pub joins : Joins b now place old entered joined
       pub passed : Relay S
       pub passes : PassesOn joined passed
       pub shown : Relay S
@@ -223,7 +228,8 @@ module _ {S : Type 0} (streams : Streams S) where
 
     -- the browser at a place has its turn
     pub record TurnsAt (now : Duration) (place : ℕ) (old new : Bridge S) : Type 0 where
-      pub turns : ChangesAt place (λ before after. TurnsRelay old now before new.halls after) old.relays new.relays
+      pub turns : ChangesAt place (λ before after. TurnsRelay old now place before new.halls after) old.relays
+          new.relays
       pub nobody : get old.relays place ≡ None → new.halls ≡ old.halls
       pub rest : new ≡ record old { relays = new.relays; halls = new.halls; buffer = new.buffer }
 
@@ -243,7 +249,7 @@ module _ {S : Type 0} (streams : Streams S) where
     -- The halls begin, all places are visited, and halls that are over close.
     pub record Turns (now : Duration) (old new : Bridge S) : Type 0 where
       pub begun : Bridge S
-      pub begins : BeginsHalls old.site.watcher now old.halls begun.halls
+      pub begins : BeginsHalls makes (opening_of old now) old.halls begun.halls
           × (begun ≡ record old { halls = begun.halls; buffer = begun.buffer })
       pub visited : Bridge S
       pub visits : (places : ℕ) × (length begun.relays.slots ≤ places) × VisitsAll now places begun visited

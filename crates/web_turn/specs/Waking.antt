@@ -1,6 +1,6 @@
 -- Which places events concern, how long a bridge rests, and what a round of its loop does.
 use Rattle.std.specs.Prelude.{◌≡◌, ◌⊎◌, ◌↔◌, ◌||◌, ℕ, Bool, true, List, [], ◌∷◌, IsTrue, if◌then◌else◌, nat_lt}
-use Rattle.std.specs.Prelude.{Option, Some, None, Result, Ok, Err, ⊤}
+use Rattle.std.specs.Prelude.{Option, Some, None, Result, Ok, Err, ⊤, ◌<◌, get_or, length, zero, suc}
 use Rattle.std.specs.Duration.{as_nanos}
 use Rattle.std.specs.declared.io.Error.{Error}
 use Rattle.std.specs.declared.time.Duration.{Duration}
@@ -13,7 +13,7 @@ use Rattle.web_streams.specs.declared.connections.Woken.{Woken}
 use Rattle.web_streams.specs.declared.connections.Woken.TheVariants.{Listener, Browser, Server, Hall}
 use Rattle.web_relay.specs.Halls.{heeds}
 use Rattle.web_relay.specs.Places.{changed_at, heeds_browser, heeds_server}
-use Rattle.web_streams.specs.Tokens.{woken}
+use Rattle.web_streams.specs.Tokens.{WakesFor, woken}
 use Rattle.web_turn.specs.declared.bridge.Bridge.{Bridge}
 use Rattle.web_turn.specs.Accepting.{AcceptsIf}
 use Rattle.web_turn.specs.Turning.{HasWork, Turns}
@@ -37,6 +37,22 @@ module _ {S : Type 0} where
   longest_rest b =
       if b.is_busy then 0 else if b.has_comers || nat_lt 0 b.refused then 100000000 else 2000000000
 
+-- ---- whether listeners are watched, by what came of asking for it
+
+module _ (asks : WebListener → ℕ → Result ⊤ Error → Type 0) (listeners : List WebListener) where
+  -- the listener of this number was to be watched, under a token whose events are for it
+  abbrev pub WakesAt : ℕ → Result ⊤ Error → Type 0
+  WakesAt number watched =
+      (number < length listeners) × (listener : WebListener) × (get_or listeners number listener ≡ listener)
+      × WakesFor asks Listener number listener watched
+
+  abbrev pub WakesAll : Type 0
+  WakesAll = (number : ℕ) → number < length listeners → WakesAt number (Ok tt)
+
+  -- the system refused to watch one
+  abbrev pub IsDeaf : Error → Type 0
+  IsDeaf error = (number : ℕ) × WakesAt number (Err error)
+
 module _ {S : Type 0} (streams : Streams S) (makes : Makes S)
     (takes : (folder secret : List ℕ) → Option (List ℕ × ℕ) → Type 0) where
   -- Each event is noted, browsers are accepted, and all have their turn. The next round comes at once exactly if work
@@ -45,7 +61,7 @@ module _ {S : Type 0} (streams : Streams S) (makes : Makes S)
       : Type 0 where
     pub came : Bridge S
     pub more : Bool
-    pub accepts : AcceptsIf makes.comes listeners now (wakes_all events old) more came
+    pub accepts : AcceptsIf makes listeners now (wakes_all events old) more came
     pub turned : Bridge S
     pub turns : Turns streams makes takes now came turned
     pub busy : IsTrue new.is_busy ↔ (HasWork turned ⊎ (more ≡ true))
@@ -66,3 +82,26 @@ module _ {S : Type 0} (streams : Streams S) (makes : Makes S)
       (longest : Duration) × (as_nanos longest ≡ longest_rest old) × (came : Result (Option Duration) Error)
       × (events : List Event) × waits before longest came events after
       × RoundsAfter came events listeners old result new
+
+  module _ {P : Type 0} (waits : P → Duration → Result (Option Duration) Error → List Event → P → Type 0)
+      (listeners : List WebListener) where
+    -- this many rounds, one after another
+    abbrev pub GoesRounds : ℕ → P → Bridge S → P → Bridge S → Type 0
+    GoesRounds zero before old after new = (after ≡ before) × (new ≡ old)
+    GoesRounds (suc count) before old after new =
+        (between : P) × (mid : Bridge S) × GoesRounds count before old between mid
+        × GoesRound waits listeners between mid (Ok tt) after new
+
+    -- rounds, up to one in which the system refused to wait
+    abbrev pub GoesOn : P → Bridge S → Error → Type 0
+    GoesOn before old error =
+        (count : ℕ) × (between : P) × (mid : Bridge S) × GoesRounds count before old between mid
+        × (after : P) × (new : Bridge S) × GoesRound waits listeners between mid (Err error) after new
+
+  -- All listeners are watched, and the bridge goes round; or the system refused to watch one.
+  abbrev pub Serves : {P : Type 0} → (P → WebListener → ℕ → Result ⊤ Error → Type 0)
+      → (P → Duration → Result (Option Duration) Error → List Event → P → Type 0) → List WebListener → P → Bridge S
+      → Error → Type 0
+  Serves asks waits listeners poll bridge error =
+      IsDeaf (asks poll) listeners error
+      ⊎ (WakesAll (asks poll) listeners × GoesOn waits listeners poll bridge error)

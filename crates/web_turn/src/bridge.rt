@@ -1,29 +1,27 @@
 //! The loop of a bridge: one thread, and all connections.
 
-ghost use Rattle.std.specs.Prelude.{◌≡◌, ℕ, [], true, false, IfOk, OnErr, OnOk};
+ghost use Rattle.std.specs.Prelude.{◌≡◌, [], true, false, IfOk, OnErr, OnOk};
 ghost use Rattle.std.specs.Duration.{as_nanos};
 ghost use Rattle.std.specs.declared.time.Duration.{Duration};
-ghost use Rattle.slab.specs.Slab.{get};
 ghost use Rattle.mio.specs.Events.{items};
-ghost use Rattle.web_relay.specs.Places.{Comes, IsClosed, LetsIn};
+ghost use Rattle.web_relay.specs.Places.{IsClosed, LetsIn};
 ghost use Rattle.web_turn.specs.Accepting.{AcceptsAll, AcceptsAt, AcceptsIf, AcceptsOne, room_for};
-ghost use Rattle.web_turn.specs.Waking.{GoesRound, Rounds, RoundsAfter, longest_rest, wakes, wakes_all};
+ghost use Rattle.web_turn.specs.Waking.{GoesOn, GoesRound, Rounds, RoundsAfter, Serves, longest_rest, wakes};
+ghost use Rattle.web_turn.specs.Waking.{wakes_all};
 
 use crate::links::TakesLinks;
 use crate::log::WebLog;
-use mio::{Events, Poll, Registry};
+use crate::waiting::{Waits, watch_all};
+use mio::{Events, Registry};
 use slab::Slab;
 use std::alloc::{AllocError, AllocGlobal, Global};
 use std::io;
-use std::io::ErrorKind;
 use std::net::Net;
 use std::sync::{Arc, Wait};
 use std::time::{Clock, Duration};
 use web_relay::{Halls, Relay, make_room, mark};
 use web_requests::Site;
-use web_streams::{
-    Accepted, BridgeStream, WebListener, WebStream, Woken, browser_token, listener_token, woken_by,
-};
+use web_streams::{Accepted, BridgeStream, WebListener, WebStream, Woken, browser_token, woken_by};
 
 /// The size of a read.
 const CHUNK: usize = 16_384;
@@ -44,44 +42,6 @@ const SOON: u64 = 100;
 pub trait WebHost: Net + TakesLinks + Clock + AllocGlobal {}
 
 impl<R: Net + TakesLinks + Clock + AllocGlobal> WebHost for R {}
-
-/// What a bridge waits by. Its relation is shown by a wait alone.
-pub trait Waits {
-    ghost use Rattle.std.specs.Prelude.{List, Option, Result};
-    ghost use Rattle.std.specs.declared.io.Error.{Error};
-    ghost use Rattle.std.specs.declared.time.Duration.{Duration as Span};
-    ghost use Rattle.mio.specs.Events.{items};
-    ghost use Rattle.mio.specs.declared.event.event.Event.{Event};
-
-    // How long a wait was to last at most, the time after it, or none if it was interrupted, and the events.
-    ghost waits: { Self → Span → Result (Option Span) Error → List Event → Self → Type 0 };
-
-    /// Waits until something comes, and at most this long. Returns the time; none if it was interrupted.
-    fn wait<R: Clock>(
-        &mut self,
-        rt: &R,
-        events: &mut Events,
-        longest: Duration,
-    ) -> io::Result<Option<Duration>>
-        ensures { waits self.old longest result (items events.new) self.new };
-}
-
-impl Waits for Poll {
-    ghost waits = { λ poll longest now events left. Unit {0} };
-
-    fn wait<R: Clock>(
-        &mut self,
-        rt: &R,
-        events: &mut Events,
-        longest: Duration,
-    ) -> io::Result<Option<Duration>> {
-        match self.poll(events, Some(longest)) {
-            Ok(()) => Ok(Some(rt.monotonic()?)),
-            Err(error) if error.kind() == ErrorKind::Interrupted => Ok(None),
-            Err(error) => Err(error),
-        }
-    }
-}
 
 /// What a bridge is to do.
 #[derive(Drop)]
@@ -200,9 +160,8 @@ impl<S: BridgeStream + WebStream + Drop> Bridge<'_, S> {
     // Lets a browser in, if there is memory and the system watches its connection. If there are too many, the oldest
     // one goes that hasn't said who it is.
     fn let_in(&mut self, browser: S, registry: &Registry, now: Duration) -> io::Result<()>
-        ensures comes { (place : ℕ) → Comes (get self.old.relays place) (get self.new.relays place) }
-        ensures ok { OnOk result (LetsIn (room_for self.old.most) browser now self.old.relays self.new.relays) }
-        ensures err { OnErr result (IsClosed (room_for self.old.most) self.old.relays self.new.relays) }
+        ensures ok { OnOk result (LetsIn S.wakes (room_for self.old.most) browser now self.old.relays self.new.relays) }
+        ensures err { OnErr result (IsClosed S.wakes (room_for self.old.most) browser self.old.relays self.new.relays) }
         ensures same { self.new ≡ record self.old { relays = self.new.relays } }
     {
         let mut browser = browser;
@@ -219,7 +178,7 @@ impl<S: BridgeStream + WebStream + Drop> Bridge<'_, S> {
     // Asks a listener once: one who waits is let in or closed. Returns whether there was one. If the system refuses to
     // hand it over, the listener is asked again soon.
     fn accept_one(&mut self, listener: &WebListener, registry: &Registry, now: Duration) -> bool
-        ensures { AcceptsOne S.comes listener.now now self.old result self.new }
+        ensures { AcceptsOne S.BridgeStream listener.now now self.old result self.new }
     {
         match S::come(listener) {
             Accepted::Came(browser) => {
@@ -237,7 +196,7 @@ impl<S: BridgeStream + WebStream + Drop> Bridge<'_, S> {
 
     // Takes browsers that wait at a listener. Returns whether more may be taken at once: then as many as may be were.
     fn accept(&mut self, listener: &WebListener, registry: &Registry, now: Duration) -> bool
-        ensures { AcceptsAt S.comes listener.now now self.old result self.new }
+        ensures { AcceptsAt S.BridgeStream listener.now now self.old result self.new }
     {
         'comers: for _ in 0..COMERS {
             if !self.accept_one(listener, registry, now) {
@@ -250,7 +209,7 @@ impl<S: BridgeStream + WebStream + Drop> Bridge<'_, S> {
 
     // Takes browsers that wait at the listeners. Returns whether more may be taken at once.
     fn accept_each(&mut self, listeners: &[WebListener], registry: &Registry, now: Duration) -> bool
-        ensures { AcceptsAll S.comes listeners.now now self.old result self.new }
+        ensures { AcceptsAll S.BridgeStream listeners.now now self.old result self.new }
     {
         let mut has_more = false;
         for listener in listeners {
@@ -262,7 +221,7 @@ impl<S: BridgeStream + WebStream + Drop> Bridge<'_, S> {
 
     // The same if some may wait.
     fn accept_all(&mut self, listeners: &[WebListener], registry: &Registry, now: Duration) -> bool
-        ensures { AcceptsIf S.comes listeners.now now self.old result self.new }
+        ensures { AcceptsIf S.BridgeStream listeners.now now self.old result self.new }
     {
         if !self.has_comers {
             return false;
@@ -319,7 +278,6 @@ impl<S: BridgeStream + WebStream + Drop> Bridge<'_, S> {
         &mut self,
         rt: &R,
         poll: &mut P,
-        registry: &Registry,
         events: &mut Events,
         listeners: &[WebListener],
     ) -> io::Result<()>
@@ -328,26 +286,42 @@ impl<S: BridgeStream + WebStream + Drop> Bridge<'_, S> {
     {
         let longest = self.longest();
         let ended = poll.wait(rt, events, longest);
-        self.round_after(rt, registry, events, listeners, ended)
+        self.round_after(rt, poll.registry(), events, listeners, ended)
+    }
+
+    // Goes round until the system refuses to wait.
+    fn go_on<R: WebHost + Wait, P: Waits>(
+        &mut self,
+        rt: &R,
+        poll: &mut P,
+        events: &mut Events,
+        listeners: &[WebListener],
+    ) -> io::Error
+        ensures { GoesOn S.WebStream S.BridgeStream (R.takes rt.now) P.waits listeners.now poll.old self.old result }
+    {
+        'rounds: for _ in rt.forever() {
+            match self.go_round(rt, poll, events, listeners) {
+                Ok(()) => {}
+                Err(error) => return error,
+            }
+        }
+        unreachable!()
     }
 }
 
-/// Serves until the system refuses to wait.
-pub fn serve<R: WebHost + Wait, S: BridgeStream + WebStream + Drop>(
+/// Serves until the system refuses to wait. Returns why.
+pub fn serve<R: WebHost + Wait, S: BridgeStream + WebStream + Drop, P: Waits + Drop>(
     rt: &R,
-    bridge: Bridge<'_, S>,
-    listeners: Vec<WebListener>,
-) -> io::Result<()> {
-    let mut bridge = bridge;
-    let mut listeners = listeners;
-    let mut poll = Poll::new(rt)?;
-    let registry = poll.registry().try_clone()?;
-    for (number, listener) in listeners.iter_mut().enumerate() {
-        listener.register(&registry, listener_token(number))?;
+    mut bridge: Bridge<'_, S>,
+    mut poll: P,
+    mut events: Events,
+    listeners: &mut [WebListener],
+) -> io::Error
+    ensures { Serves S.WebStream S.BridgeStream (R.takes rt.now) P.wakes P.waits listeners.old poll bridge.entry
+        result }
+{
+    match watch_all(&poll, listeners) {
+        Ok(()) => bridge.go_on(rt, &mut poll, &mut events, listeners),
+        Err(error) => error,
     }
-    let mut events = Events::with_capacity(rt.alloc(), 1024)?;
-    for _ in rt.forever() {
-        bridge.go_round(rt, &mut poll, &registry, &mut events, &listeners)?;
-    }
-    Ok(())
 }

@@ -6,7 +6,9 @@ mod bridge;
 mod links;
 mod log;
 mod turning;
+mod waiting;
 
-pub use bridge::{Bridge, BridgeOptions, Waits, WebHost, serve};
+pub use bridge::{Bridge, BridgeOptions, WebHost, serve};
 pub use links::{LinkFiles, TakesLinks};
 pub use log::{WebLog, start_log};
+pub use waiting::Waits;

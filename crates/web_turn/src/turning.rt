@@ -5,7 +5,7 @@ ghost use Rattle.slab.specs.Slab.{get};
 ghost use Rattle.web_relay.specs.Places.{IsTooMany};
 ghost use Rattle.web_turn.specs.Turning.{Admits, BeginsHalls, ChangesAt, HasWork, Hears, IsBusyRelay, IsComing};
 ghost use Rattle.web_turn.specs.Turning.{IsShown, LetsGo, MayConnect, Reads, ReadsAt, TellsRefused, Turns, TurnsAt};
-ghost use Rattle.web_turn.specs.Turning.{Visits, VisitsAll};
+ghost use Rattle.web_turn.specs.Turning.{Visits, VisitsAll, opening_of};
 
 use crate::bridge::{Bridge, WebHost};
 use crate::links::redeem;
@@ -16,7 +16,7 @@ use std::net::Net;
 use std::sync::Wait;
 use std::time::Duration;
 use web_relay::{Halls, Relay, is_full, let_go};
-use web_streams::{BridgeContext, BridgeStream, WebStream, server_token};
+use web_streams::{BridgeContext, BridgeStream, WebStream};
 
 /// What a page is told that has said who it is when all places are taken.
 pub const FULL: &str = "All places are taken";
@@ -100,10 +100,10 @@ fn connect<R: Net, S: BridgeStream + Drop>(
     place: usize,
     relay: &mut Relay<S>,
 )
-    ensures { MayConnect S.BridgeStream around.entry.socket.now relay.old relay.new }
+    ensures { MayConnect S.BridgeStream place around.entry.socket.now relay.old relay.new }
 {
     if relay.wants_server() {
-        relay.connect(rt, around, server_token(place));
+        relay.connect(rt, around, place);
     }
 }
 
@@ -213,7 +213,8 @@ impl<S: BridgeStream + WebStream + Drop> Bridge<'_, S> {
 
     // Reads and writes for the halls, and sees to their windows.
     fn begin_halls<R: WebHost>(&mut self, rt: &R, registry: &Registry, now: Duration)
-        ensures begins { BeginsHalls S.WebStream self.old.site.watcher now self.old.halls self.new.halls }
+        ensures begins { BeginsHalls S.WebStream S.BridgeStream (opening_of self.old now) self.old.halls
+            self.new.halls }
         ensures same { self.new ≡ record self.old { halls = self.new.halls; buffer = self.new.buffer } }
     {
         self.halls.turn(self.buffer.as_mut_slice());

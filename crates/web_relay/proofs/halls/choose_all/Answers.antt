@@ -9,13 +9,14 @@ places-preserved g c =
     let now = c.places.halls in
     let then = c.choose_at.ensures in
     let before = c.places.invariant in record {
-      chosen = done-more P old now c.places.place before.chosen before.rest c.choose_at.new.halls then.at then.others;
-      rest = rest-more P old now c.places.place before.chosen before.rest c.choose_at.new.halls then.others;
+      chosen = done-more (λ _. P) old now c.places.place before.chosen before.rest c.choose_at.new.halls then.at
+          then.others;
+      rest = rest-more (λ _. P) old now c.places.place before.chosen before.rest c.choose_at.new.halls then.others;
       all = before.all;
     }
 
 pub returns : goal.returns
 returns g c =
     let before = c.places.invariant in
-    all-done (AtBoth (Chooses c.args.choice.now c.args.now)) c.args.halls.now c.places.halls c.places.place
-    before.chosen before.rest refl (omega (arith, before.all))
+    all-done (λ _. AtBoth (Chooses c.args.choice.now c.args.now)) c.args.halls.now c.places.halls c.places.place
+    before.chosen before.rest (λ _. refl) (omega (arith, before.all))

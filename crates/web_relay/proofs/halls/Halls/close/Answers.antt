@@ -10,8 +10,8 @@ places-preserved g c =
     let at = c.places.place in
     let then = c.close_at.ensures in
     let before = c.places.invariant in record {
-      closed = done-more (Closes c.args.now) old now at before.closed before.rest new then.closes then.others;
-      rest = rest-more (Closes c.args.now) old now at before.closed before.rest new then.others;
+      closed = done-more (λ _. Closes c.args.now) old now at before.closed before.rest new then.closes then.others;
+      rest = rest-more (λ _. Closes c.args.now) old now at before.closed before.rest new then.others;
       same = then.same ∙ ap (λ (h : Halls g.row.S.Denot). record h { list = new }) before.same;
       all = before.all;
     }
@@ -19,5 +19,5 @@ places-preserved g c =
 pub returns-clause-closes : goal.returns-clause-closes
 returns-clause-closes g c =
     let before = c.places.invariant in
-    all-done (Closes c.args.now) c.args.self.now.list c.places.self.list c.places.place before.closed before.rest refl
-    (omega (arith, before.all))
+    all-done (λ _. Closes c.args.now) c.args.self.now.list c.places.self.list c.places.place before.closed before.rest
+    (λ _. refl) (omega (arith, before.all))

@@ -10,9 +10,9 @@ places-preserved g c =
     let at = c.places.place in
     let then = c.turn_at.ensures in
     let before = c.places.invariant in record {
-      turned = done-more (AtBoth (HallTurns g.S.WebStream)) old now at before.turned before.rest new then.at
+      turned = done-more (λ _. AtBoth (HallTurns g.S.WebStream)) old now at before.turned before.rest new then.at
           then.others;
-      rest = rest-more (AtBoth (HallTurns g.S.WebStream)) old now at before.turned before.rest new then.others;
+      rest = rest-more (λ _. AtBoth (HallTurns g.S.WebStream)) old now at before.turned before.rest new then.others;
       same = ap (λ (h : Halls g.row.S.Denot). record h { list = new }) before.same;
       all = before.all;
     }
@@ -20,6 +20,6 @@ places-preserved g c =
 pub returns-clause-each : goal.returns-clause-each
 returns-clause-each g c =
     let before = c.places.invariant in
-    all-done (AtBoth (HallTurns g.S.WebStream)) c.args.self.now.list c.places.self.list c.places.place before.turned
-    before.rest refl
+    all-done (λ _. AtBoth (HallTurns g.S.WebStream)) c.args.self.now.list c.places.self.list c.places.place
+    before.turned before.rest (λ _. refl)
     (omega (arith, before.all))

@@ -11,7 +11,7 @@ comers-preserved g c =
     rw add-one (
       c.comers.self,
       c.comers.invariant,
-      subst (λ (b : Bool). AcceptsOne g.S.BridgeStream.comes c.args.listener.now c.args.now c.comers.self b
+      subst (λ (b : Bool). AcceptsOne g.S.BridgeStream c.args.listener.now c.args.now c.comers.self b
           c.accept_one.new.self) came c.accept_one.ensures,
     )
 
@@ -23,7 +23,7 @@ returns-then-not-accept_one g c =
       c.comers.invariant,
       (
         omega arith,
-        subst (λ (b : Bool). AcceptsOne g.S.BridgeStream.comes c.args.listener.now c.args.now c.comers.self b
+        subst (λ (b : Bool). AcceptsOne g.S.BridgeStream c.args.listener.now c.args.now c.comers.self b
             c.accept_one.new.self) none c.accept_one.ensures,
       ),
     )

@@ -8,19 +8,19 @@ loop-listener-init g c = λ more new all. all
 
 pub loop-listener-preserved : goal.loop-listener-preserved
 loop-listener-preserved g c = λ more new rest.
-    let comes = g.S.BridgeStream.comes in
+    let makes = g.S.BridgeStream in
     let old = c.loop-listener in
     let first : Bool = c.accept-has_first.result in
-    subst (λ (b : Bool). AcceptsAll comes c.args.listeners.now c.args.now c.args.self.now b new)
+    subst (λ (b : Bool). AcceptsAll makes c.args.listeners.now c.args.now c.args.self.now b new)
     (one_of old.has_more first more)
     (old.invariant (first || more) new
-    (one_listener comes c.args.now c.args.listeners.now old.listener-index _ old.self c.accept-has_first.new.self new
+    (one_listener makes c.args.now c.args.listeners.now old.listener-index _ old.self c.accept-has_first.new.self new
     first more (omega arith) c.accept-has_first.ensures rest))
 
 pub returns : goal.returns
 returns g c =
     let old = c.loop-listener in
-    subst (λ (b : Bool). AcceptsAll g.S.BridgeStream.comes c.args.listeners.now c.args.now c.args.self.now b old.self)
+    subst (λ (b : Bool). AcceptsAll g.S.BridgeStream c.args.listeners.now c.args.now c.args.self.now b old.self)
     (none_more old.has_more)
     (old.invariant false old.self
-    (all_came g.S.BridgeStream.comes c.args.now c.args.listeners.now old.listener-index old.self (omega arith)))
+    (all_came g.S.BridgeStream c.args.now c.args.listeners.now old.listener-index old.self (omega arith)))

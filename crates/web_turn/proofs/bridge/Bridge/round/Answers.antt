@@ -8,7 +8,7 @@ pub returns : goal.returns
 returns g c = record {
   came = c.accept_all-has_more.new.self;
   more = c.accept_all-has_more.result;
-  accepts = subst (λ (b : Bridge g.row.S.Denot). AcceptsIf g.S.BridgeStream.comes c.args.listeners.now c.args.now b
+  accepts = subst (λ (b : Bridge g.row.S.Denot). AcceptsIf g.S.BridgeStream c.args.listeners.now c.args.now b
       c.accept_all-has_more.result c.accept_all-has_more.new.self) c.wake_all.ensures c.accept_all-has_more.ensures;
   turned = c.turn.new.self;
   turns = c.turn.ensures;

@@ -15,7 +15,7 @@ returns g c =
       turns = record {
         at = both_there
             (λ (r s : Relay g.row.S.Denot). TurnsRelay g.S.WebStream g.S.BridgeStream
-            (g.R.TakesLinks.takes c.args.rt.now) b c.args.now r c.show.new.halls s)
+            (g.R.TakesLinks.takes c.args.rt.now) b c.args.now place r c.show.new.halls s)
             (get b.relays place) (get (with_value b.relays place after) place) before after there
             (written b.relays place before after there) (record {
               entered = c.seat-begins.new.self;
