@@ -102,8 +102,8 @@ pub struct Setup<'a> {
 impl<'a> Setup<'a> {
     /// Reads the setup at a path. Without a path it has no lines.
     pub fn read<R: SetupHost>(rt: &R, path: Option<&'a str>) -> Result<Setup<'a>, ServeFault>
-        ensures ok { IfOk result (IsSetupAt (R.reads rt.now) (text_of path.entry)) }
-        ensures fault { IfErr result (IsUnread (R.reads rt.now) (text_of path.entry)) }
+        ensures ok { IfOk result (IsSetupAt (R.SetupHost.reads rt.now) (text_of path.entry)) }
+        ensures fault { IfErr result (IsUnread (R.SetupHost.reads rt.now) (text_of path.entry)) }
     {
         let alloc = rt.alloc();
         let Some(path) = path else {

@@ -4,7 +4,7 @@ use Rattle.std.specs.declared.alloc.Global.{Global}
 use Rattle.std.specs.declared.io.Error.{Error}
 use Rattle.std.specs.declared.vec.Vec.{Vec}
 use Rattle.server_session.specs.SettingUp.{agrees, setup_of}
-use Rattle.server_system.specs.declared.fault.ServeFault.{ServeFault}
+use Rattle.server_outcome.specs.declared.fault.ServeFault.{ServeFault}
 use Rattle.server.specs.Starting.{IsKeptFor, IsSetupAt, text_of}
 use Rattle.server.specs.declared.loops.KeptSession.{KeptSession}
 use Rattle.server.specs.declared.starting.Options.{Options}
