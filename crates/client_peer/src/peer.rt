@@ -73,7 +73,7 @@ pub struct Peer {
     pub(crate) page: KeptPage,
     /// The number that the window had when a server let it in last.
     pub(crate) number: u8,
-    /// The same of the last server that the page was opened in.
+    /// The number that it had at the last server that the page was opened in.
     pub page_number: u8,
     /// The window is to be opened again: what it prints waits.
     pub(crate) is_reopening: bool,

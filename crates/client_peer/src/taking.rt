@@ -36,7 +36,7 @@ fn ended(subcommand: Subcommand, why: Why) -> Result<Why, PeerFault>
 }
 
 impl Peer {
-    // (what finds nothing waiting isn't copied)
+    // Passes bytes on. It copies them only if others wait before them.
     fn put(&mut self, bytes: Vec<u8>) -> Result<(), AllocError>
         ensures ok { OnOk result (Adds self.old self.new bytes.items) }
         ensures err { OnErr result (Keeps self.old self.new) }

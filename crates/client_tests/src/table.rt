@@ -64,7 +64,7 @@ pub enum Peer {
     Window,
     /// A window that would come back.
     Staying,
-    /// The same, after its program has printed something.
+    /// A window that would come back, after its program has printed something.
     Telling,
     Command,
 }

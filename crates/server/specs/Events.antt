@@ -6,7 +6,12 @@ use Rattle.mio.specs.declared.token.Token.{Token}
 use Rattle.server_turns.specs.Calls as calls
 use Rattle.server_turns.specs.Calls.{Call}
 use Rattle.server_turns.specs.declared.around.Backlog.{Backlog}
+use Rattle.server_turns.specs.declared.around.Learned.{Learned}
+use Rattle.server_system.specs.Looking.{Asks, TellsOf}
+use Rattle.server_system.specs.declared.watched.KnownUsers.{KnownUsers}
+use Rattle.server_system.specs.declared.watched.Looks.{Looks}
 use Rattle.server.specs.declared.acceptor.Acceptor.{Acceptor}
+use Rattle.server.specs.declared.loop_handle.HandedStream.{HandedStream}
 use Rattle.server.specs.declared.turns.Inlet.{Inlet}
 use Rattle.mio.specs.Event.{event_token, is_error, is_read_closed, is_readable, is_writable}
 use Rattle.mio.specs.declared.event.event.Event.{Event}
@@ -30,6 +35,14 @@ abbrev pub backlog_of : Option Acceptor → Backlog
 backlog_of None = record { has_more = false; is_stuck = false }
 backlog_of (Some acceptor) = acceptor.backlog
 
+-- what a loop learns of what is known of the looks at the users' file
+abbrev pub learned_of : KnownUsers → Learned
+learned_of known = record { look = known.look; users = known.users }
+
+abbrev pub count_after : ℕ → Option KnownUsers → ℕ
+count_after count None = count
+count_after count (Some known) = known.count
+
 -- What a call of a loop shows of what lies around it: the events of a wait come in turn, each once. What the other
 -- threads and the system see of a call lies in atomics, under locks and in the system.
 abbrev pub Shows : Inlet → Call → Inlet → Type 0
@@ -37,6 +50,13 @@ Shows inlet (calls.Event came) left = (came ≡ option_map came_by (slice_get (i
     × (left ≡ record inlet { seen = next inlet.seen })
 Shows inlet (calls.Wait longest waited) left = left.seen ≡ 0
 Shows inlet (calls.Pause waited) left = left.seen ≡ 0
+Shows inlet (calls.Hand None) left = left ≡ inlet
+Shows inlet (calls.Hand (Some is_extra)) left =
+    (handed : HandedStream) × (handed.is_extra ≡ is_extra) × (left ≡ record inlet { handed = Some handed })
+Shows inlet (calls.Ask look) left = (left ≡ inlet) × (was : Looks) × (then : Looks) × Asks was look then
+Shows inlet (calls.Know count learned next) left =
+    (left ≡ inlet) × (looks : Looks) × (known : Option KnownUsers) × TellsOf looks count known
+    × (learned ≡ option_map learned_of known) × (next ≡ count_after count known)
 Shows inlet (calls.Queue backlog) left = backlog ≡ backlog_of inlet.acceptor
 Shows inlet calls.Close left = left ≡ record inlet { acceptor = None }
 Shows inlet other left = Unit {0}

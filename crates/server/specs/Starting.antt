@@ -1,6 +1,6 @@
 -- What a server starts with: the options that its arguments ask for, and its setup.
 use Rattle.std.specs.Prelude.{◌≡◌, ◌<◌, ◌^◌, ℕ, List, [], Option, Some, None, Result, Ok, Err, true, false, codes}
-use Rattle.std.specs.Prelude.{is_some, max, min, option_map, unwrap_or}
+use Rattle.std.specs.Prelude.{Bool, ◌==◌, is_some, length, max, min, option_map, slice_get, unwrap_or}
 use Rattle.std.specs.Borrow.{Bor}
 use Rattle.std.specs.Str.Parse.{IsNumeral, digits_value, without_leading_plus}
 use Rattle.std.specs.String.{string_bytes}
@@ -10,7 +10,7 @@ use Rattle.std.specs.declared.vec.Vec.{Vec}
 use Rattle.clap.specs.Words.{first_value, one_text}
 use Rattle.clap.specs.declared.parser.matches.Found.{Found}
 use Rattle.program_words.specs.declared.setup.SetupFault.TheVariants.{NoMemory, NotText, TooLong}
-use Rattle.server_session.specs.SettingUp.{agrees, setup_of}
+use Rattle.server_session.specs.SettingUp.{agrees, setup_of, users_of}
 use Rattle.server_session.specs.declared.loop_body.LoopsFault.{LoopsFault}
 use Rattle.server_session.specs.declared.loop_body.LoopsFault.TheVariants as loops
 use Rattle.server_outcome.specs.Faults.{IsOfSetup}
@@ -20,6 +20,7 @@ use Rattle.server_system.specs.declared.host.Host.{Ghosts}
 use Rattle.server_outcome.specs.declared.fault.ServeFault.{ServeFault}
 use Rattle.server_outcome.specs.declared.fault.ServeFault.TheVariants as fault
 use Rattle.server_outcome.specs.declared.fault.SetupCause.TheVariants as cause
+use Rattle.server.specs.declared.loop_handle.LoopStart.{LoopStart}
 use Rattle.server.specs.declared.loops.KeptSession.{KeptSession}
 use Rattle.server.specs.declared.starting.Options.{Options}
 use Rattle.server.specs.declared.starting.Setup.{Setup}
@@ -62,6 +63,17 @@ AreOptionsOf means words o = (f : Found) × means words f × IsAskedFor f o
 abbrev pub loops_of : ℕ → ℕ
 loops_of asked = max 1 (min asked 8)
 
+-- ---- loops
+
+-- what the loop of this number begins with, and whether it has the listener
+abbrev pub IsStart : ℕ → Bool → LoopStart → Type 0
+IsStart me listens start = (start.me ≡ me) × (is_some start.acceptor ≡ listens)
+
+-- what n loops begin with, which are numbered from 0; the first one alone has the listener
+pub record AreStarts (n : ℕ) (starts : List LoopStart) : Type 0 where
+  pub all : length starts ≡ n
+  pub each : (k : ℕ) (start : LoopStart) → slice_get starts k ≡ Some start → IsStart k (k == 0) start
+
 -- ---- the setup
 
 -- no option names a setup, and it is empty; or it is what was read of the file at the path
@@ -76,23 +88,25 @@ module _ (reads : List ℕ → Result (Vec ℕ Global) Error → Type 0) where
   IsUnread (Some path) (fault.Setup at (cause.NotRead why)) = (string_bytes at ≡ path) × reads path (Err why.0)
   IsUnread given other = ⊥
 
-  -- what a server kept that started with these options and has ended well: a session that began with all lines of
-  -- the setup, with a trail that has every answer; and its file, if one was asked for, was read back
-  pub record IsKeptFor (o : Options) (kept : KeptSession) : Type 0 where
-    pub setup : Setup
-    pub is_its : IsSetupAt (text_of o.setup) setup
-    pub began : setup_of kept.session ≡ setup.file.items
+module _ {R A B C : Type 0} (system : Ghosts R A B C) (reads : List ℕ → Result (Vec ℕ Global) Error → Type 0)
+    (host : R) (o : Options) where
+  -- these users were read, this setup, and this listens on the socket
+  pub record IsStartOf (b : ServerStart) : Type 0 where
+    pub users : IsReadOf system host o.users.now b.users b.seen
+    pub socket : socket_path b.place.now ≡ o.socket.now
+    pub listens : ListensAt system host o.socket.now b.listener
+    pub setup : IsSetupAt reads (text_of o.setup) b.setup
+
+  -- what a server kept that started with these options and has ended well: a session of the users who were read, that
+  -- began with all lines of the setup, with a trail that has every answer; and its file, if one was asked for, was
+  -- read back
+  pub record IsKeptFor (kept : KeptSession) : Type 0 where
+    pub start : ServerStart
+    pub began_so : IsStartOf start
+    pub users : users_of kept.session ≡ start.users
+    pub setup : setup_of kept.session ≡ start.setup.file.items
     pub agrees_with : agrees kept.session ≡ true
     pub trail : is_some kept.trail ≡ is_some o.trail
-
--- these users were read, this setup, and this listens on the socket
-pub record IsStartOf {R A B C : Type 0} (system : Ghosts R A B C)
-    (reads : List ℕ → Result (Vec ℕ Global) Error → Type 0) (host : R) (o : Options) (b : ServerStart)
-    : Type 0 where
-  pub users : IsReadOf system host o.users.now b.users b.seen
-  pub socket : socket_path b.place.now ≡ o.socket.now
-  pub listens : ListensAt system host o.socket.now b.listener
-  pub setup : IsSetupAt reads (text_of o.setup) b.setup
 
 -- why a session with the setup at this path didn't begin: a line that can be no command, or that was refused
 abbrev pub IsStartFault : List ℕ → LoopsFault → ServeFault → Type 0

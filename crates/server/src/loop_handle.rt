@@ -1,6 +1,7 @@
 //! What a loop begins with, and how connections and news come to it.
 
-ghost use Rattle.std.specs.Prelude.{◌≡◌, IfOk, length};
+ghost use Rattle.std.specs.Prelude.{◌≡◌, IfOk, is_some, length};
+ghost use Rattle.server.specs.Starting.{AreStarts, IsStart};
 
 use crate::acceptor::Acceptor;
 use crate::latch::Latch;
@@ -59,20 +60,18 @@ impl LoopHandle {
     // Such a look is done: wakes the loop if it waits for one.
     fn tell_look(&self) -> io::Result<()> {
         if self.awaits_look.swap(false, Ordering::SeqCst) {
-            self.wake()
-        } else {
-            Ok(())
+            self.wake()?;
         }
+        Ok(())
     }
 
     /// Tells the loop that there is news. One that is awake finds it before it sleeps.
     pub fn wake(&self) -> io::Result<()> {
         self.has_news.store(true, Ordering::SeqCst);
         if self.is_asleep.swap(false, Ordering::SeqCst) {
-            self.waker.wake()
-        } else {
-            Ok(())
+            self.waker.wake()?;
         }
+        Ok(())
     }
 
     /// The loop is about to sleep, and is woken by news from now on. Returns whether it may sleep: no
@@ -136,16 +135,26 @@ fn acceptor(alloc: Global, mut listener: UnixListener, poll: &Poll) -> io::Resul
     Ok(Acceptor::new(alloc, listener, registry.try_clone()?)?)
 }
 
-// A loop of this number, and how others reach it.
-fn place(rt: &impl Host, me: usize) -> io::Result<(LoopStart, LoopHandle)> {
+// A loop of this number, which may have the listener, and how others reach it.
+fn place(
+    rt: &impl Host,
+    me: usize,
+    listener: Option<UnixListener>,
+) -> io::Result<(LoopStart, LoopHandle)>
+    ensures { IfOk result (λ made. IsStart me (is_some listener) made.0) }
+{
     let poll = Poll::new(rt)?;
     let waker = Waker::new(poll.registry(), WAKE)?;
     let registry = poll.registry().try_clone()?;
+    let acceptor = match listener {
+        Some(listener) => Some(acceptor(rt.alloc(), listener, &poll)?),
+        None => None,
+    };
     let start = LoopStart {
         me,
         poll,
         registry,
-        acceptor: None,
+        acceptor,
     };
     Ok((start, LoopHandle::new(waker, VecDeque::new(rt.alloc()))))
 }
@@ -156,18 +165,16 @@ pub fn places(
     loops: usize,
     listener: UnixListener,
 ) -> io::Result<(Vec<LoopStart>, Vec<LoopHandle>)>
-    ensures { IfOk result (λ made. (length made.0.items ≡ loops) × (length made.1.items ≡ loops)) }
+    ensures { IfOk result (λ made. AreStarts loops made.0.items × (length made.1.items ≡ loops)) }
 {
     let alloc = rt.alloc();
+    let mut listener = Some(listener);
     let mut starts = Vec::new(alloc);
     let mut loop_handles = Vec::new(alloc);
     for me in 0..loops {
-        let (start, loop_handle) = place(rt, me)?;
+        let (start, loop_handle) = place(rt, me, listener.take())?;
         starts.push(start)?;
         loop_handles.push(loop_handle)?;
-    }
-    if let Some(first) = starts.first_mut() {
-        first.acceptor = Some(acceptor(alloc, listener, &first.poll)?);
     }
     Ok((starts, loop_handles))
 }

@@ -2,7 +2,7 @@
 
 ghost use Rattle.std.specs.Prelude.{◌≡◌, IfOk, is_some, length, option_map, true};
 ghost use Rattle.std.specs.Arc.{arc_value};
-ghost use Rattle.server_session.specs.SettingUp.{agrees, setup_of};
+ghost use Rattle.server_session.specs.SettingUp.{agrees, setup_of, users_of};
 ghost use Rattle.server_system.specs.Paths.{socket_path, watched_path};
 ghost use Rattle.server_trail.specs.Journals.{journal_path};
 ghost use Rattle.server.specs.Starting.{loops_of, text_of};
@@ -103,6 +103,7 @@ impl<G: Gate + Copy + Sync + Drop, O: Write + Send> Server<'_, G, O> {
         start: Start<LoopStart>,
     ) -> Result<KeptSession, ServeFault>
         requires { length start.places.items ≡ loops_of self.now.options.loops }
+        ensures users { IfOk result (λ kept. users_of kept.session ≡ start.users) }
         ensures setup { IfOk result (λ kept. setup_of kept.session ≡ start.setup.items) }
         ensures agrees { IfOk result (λ kept. agrees kept.session ≡ true) }
         ensures trail { IfOk result (λ kept. is_some kept.trail ≡ is_some self.now.journal) }

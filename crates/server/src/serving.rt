@@ -127,7 +127,7 @@ where
     G: Gate + Copy + Sync + Drop,
     O: Write + Send,
     requires { IsStartOf R.Host (R.SetupHost.reads rt.now) rt.now options.now beginning }
-    ensures { IfOk result (IsKeptFor (R.SetupHost.reads rt.now) options.now) }
+    ensures { IfOk result (IsKeptFor R.Host (R.SetupHost.reads rt.now) rt.now options.now) }
 {
     let ServerStart {
         users,
@@ -177,7 +177,7 @@ where
     G: Gate + Copy + Sync + Drop,
     O: Write + Send,
     E: Write,
-    ensures { IfOk result (IsKeptFor (R.SetupHost.reads rt.now) options.now) }
+    ensures { IfOk result (IsKeptFor R.Host (R.SetupHost.reads rt.now) rt.now options.now) }
 {
     let files = handles.files;
     let (users, seen) = read_users(rt, options.users, errors)?;

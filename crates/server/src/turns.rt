@@ -5,12 +5,11 @@ ghost use Rattle.server.specs.Events.{Shows, came_by, token_of};
 
 use crate::acceptor::{Acceptor, NONE};
 use crate::log_lines::NewsLine;
-use crate::loop_handle::{LoopHandle, LoopStart, Shared};
+use crate::loop_handle::{HandedStream, LoopHandle, LoopStart, Shared};
 use mio::event::Event;
-use mio::net::UnixStream;
 use mio::{Events, Poll, Registry, Token};
 use server_loop::{Gate, Loop, News, ServerEnd, SessionSeat};
-use server_system::{PeerSocket, Wired};
+use server_system::{KnownUsers, PeerSocket, Wired};
 use server_turns::{Around, Backlog, Came, Learned, Turner};
 use std::io::{self, ErrorKind};
 use std::sync::Wait;
@@ -40,7 +39,7 @@ struct Inlet<'a> {
     registry: &'a Registry,
     acceptor: Option<Acceptor>,
     // The connection that was handed to the loop last.
-    handed: Option<UnixStream>,
+    handed: Option<HandedStream>,
 }
 
 // What came by an event.
@@ -105,10 +104,7 @@ impl<'a> Around<Wired<PeerSocket<'a>>> for Inlet<'a> {
     }
 
     fn backlog(&self) -> Backlog {
-        match &self.acceptor {
-            Some(acceptor) => acceptor.backlog,
-            None => NONE,
-        }
+        self.acceptor.as_ref().map_or(NONE, |it| it.backlog)
     }
 
     fn wait(&mut self, longest: Option<Duration>) -> io::Result<()> {
@@ -141,13 +137,14 @@ impl<'a> Around<Wired<PeerSocket<'a>>> for Inlet<'a> {
 
     fn next_handed<R: Wait>(&mut self, rt: &R) -> Option<bool> {
         let handed = self.loop_handle.handed.lock(rt).pop_front()?;
-        self.handed = Some(handed.stream);
-        Some(handed.is_extra)
+        let is_extra = handed.is_extra;
+        self.handed = Some(handed);
+        Some(is_extra)
     }
 
     fn wire(&mut self, key: usize) -> Option<Wired<PeerSocket<'a>>> {
         let token = Token(key.saturating_add(FIRST));
-        Wired::new(self.registry, token, self.handed.take()?).ok()
+        Wired::new(self.registry, token, self.handed.take()?.stream).ok()
     }
 
     fn note_peers(&mut self, count: usize) {
@@ -163,13 +160,9 @@ impl<'a> Around<Wired<PeerSocket<'a>>> for Inlet<'a> {
     }
 
     fn newest<R: Clock + Wait>(&mut self, rt: &R, count: &mut u64) -> Option<Learned> {
-        let Some(known) = self.shared.watched.newest(rt, &self.shared.log, count) else {
-            return None;
-        };
-        Some(Learned {
-            look: known.look,
-            users: known.users,
-        })
+        let watched = &self.shared.watched;
+        let KnownUsers { look, users, .. } = watched.newest(rt, &self.shared.log, count)?;
+        Some(Learned { look, users })
     }
 
     fn wake_others(&mut self) -> io::Result<()> {
@@ -236,7 +229,7 @@ impl Shared {
 pub fn run_loop<J: SessionSeat + Drop, G: Gate + Copy + Drop, R: Clock + Wait>(
     rt: &R,
     shared: &Shared,
-    gate: G,
+    mut gate: G,
     seat: J,
     start: LoopStart,
 ) -> io::Result<J> {
@@ -260,7 +253,6 @@ pub fn run_loop<J: SessionSeat + Drop, G: Gate + Copy + Drop, R: Clock + Wait>(
         acceptor,
         handed: None,
     };
-    let mut gate = gate;
     gate.stand_at(me);
     let loops = shared.loop_handles.len();
     let own: Loop<Wired<PeerSocket>, G, J> = Loop::new(shared.alloc, seat, gate, loops)?;

@@ -186,7 +186,7 @@ fn open_again<R: PeerHost + Wait>(
     opened
 }
 
-// The same, and what comes of it.
+// Tries to open the window again by the mark as it is now. While it may be an earlier server's mark, it rests a moment.
 fn reopen<R: PeerHost + Wait>(
     rt: &R,
     shared: &SharedPeer,

@@ -2,6 +2,7 @@
 use Rattle.std.specs.Prelude.{◌≡◌, ◌⊎◌, ◌==◌, ◌&&◌, ◌||◌, ◌<◌, ◌≤◌, ℕ, Bool, true, false, not, length}
 use Rattle.std.specs.Prelude.{[], Option, Some, None, is_none, IsSomeAnd}
 use Rattle.slab.specs.Slab.{Slab, get}
+use Rattle.attach_proto.specs.declared.kind.Side.TheVariants.{Server}
 use Rattle.server_inbox.specs.Asking.{Stands, is_empty}
 use Rattle.server_connections.specs.declared.peer.Awaits.{Awaits}
 use Rattle.server_connections.specs.declared.peer.Awaits.TheVariants as awaited
@@ -36,7 +37,7 @@ module _ {S : Type 0} where
     pub empty : is_empty peer.inbox ≡ true
     pub peer_is : peer ≡ record {
       stream = Some stream;
-      reader = peer.reader;
+      reader = record { side = Server; rest = []; fault = None };
       turn = record { unsent = []; typed = []; told = false; has_ended = false };
       role = role.Stranger;
       leaves = role.Stranger;

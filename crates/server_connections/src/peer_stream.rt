@@ -56,6 +56,7 @@ pub trait PeerStream {
     fn read_once(&mut self, buffer: &mut [u8]) -> (usize, Arrival)
         ensures within { result.0 ≤ length buffer.new }
         ensures none { result.0 ≡ 0 → result.1 ≢ Arrival.Much }
+        ensures end { result.1 ≡ Arrival.End → result.0 ≡ 0 }
         ensures read { reads self.old (take result.0 buffer.new) result.1 self.new };
 
     /// Writes once of what waits. What was taken doesn't wait any more.

@@ -1,5 +1,6 @@
 -- What a setup commands before anybody connects.
 use Rattle.std.specs.Prelude.{◌≡◌, ◌⊎◌, ℕ, zero, suc, Bool, true, List, [], length, Some, Ok, Err, slice_get}
+use Rattle.acl.specs.Names.{name_of}
 use Rattle.acl.specs.declared.user_id.UserId.{UserId}
 use Rattle.program_words.specs.SetupLines.{Line, commands_in, first_fault, numbered}
 use Rattle.program_words.specs.declared.setup.SetupFault.TheVariants.{NoMemory as OfMemory}
@@ -9,6 +10,7 @@ use Rattle.session.specs.Trace.{Reply}
 use Rattle.session.specs.event.Done.{Done}
 use Rattle.session.specs.refusal.Refusal.{Refusal}
 use Rattle.hub.specs.Seats.{Answers, Sitting, Told}
+use Rattle.server_users.specs.Entries.{Entry, names}
 use Rattle.server_session.specs.declared.loop_body.LoopsFault.{LoopsFault}
 use Rattle.server_session.specs.declared.loop_body.LoopsFault.TheVariants as fault
 use Rattle.server_session.specs.declared.setting_up.Agreement.{Agreement}
@@ -69,11 +71,19 @@ pub record HasBegun (owner : UserId) (file : List ℕ) (seats : List Sitting) : 
   pub is_first : slice_get seats 0 ≡ Some seat
   pub done : IsSetUp owner file first seat
 
+-- the first of these users owns the session
+abbrev pub IsOwnerOf : List Entry → UserId → Type 0
+IsOwnerOf users owner = slice_get (names users) 0 ≡ Some (name_of owner)
+
 -- ---- what is told of a session that is closed
 
 -- the file whose lines it began with
 abbrev pub setup_of : Agreement → List ℕ
 setup_of agreement = agreement.setup.items
+
+-- the users that it began with
+abbrev pub users_of : Agreement → List Entry
+users_of agreement = agreement.users
 
 -- every answer that a loop was given stands in its trail
 abbrev pub agrees : Agreement → Bool

@@ -2,7 +2,6 @@
 //! crate above has to prove anything of what a session holds.
 #![tactic(auto)]
 
-mod accounts;
 mod books;
 mod loads;
 mod loop_body;
@@ -11,11 +10,10 @@ mod setting_up;
 mod shared_session;
 mod trail_size;
 
-pub use accounts::Accounts;
 pub use books::{Books, Calls, Counting, Limits};
 pub use hub::{Begun, Seat, Trail};
 pub use loop_body::{LoopBody, LoopsFault, Start, keep};
-pub use seated::Seated;
+pub use seated::{Accounts, Seated};
 pub use server_trail::Recorder;
 pub use setting_up::Agreement;
 pub use shared_session::{LoopSession, SharedSession, TrailLines};

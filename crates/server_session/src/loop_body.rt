@@ -4,7 +4,7 @@ ghost use Rattle.std.specs.Prelude.{◌≡◌, ◌<◌, ◌≤◌, IfOk, length}
 ghost use Rattle.acl.specs.declared.leaders.Edition.TheVariants.{Second};
 ghost use Rattle.session.specs.Trace.{begun as run_begun};
 ghost use Rattle.hub.specs.Seats.{StandsFor};
-ghost use Rattle.server_session.specs.SettingUp.{HasBegun, setup_of};
+ghost use Rattle.server_session.specs.SettingUp.{HasBegun, IsOwnerOf, setup_of, users_of};
 
 use crate::setting_up::{Agreement, Giver, SetUp, close, set_up};
 use crate::shared_session::SharedSession;
@@ -170,7 +170,7 @@ where
     R: Clock + Wait,
     requires blank { (parts.blank.name ≡ L.name) × (parts.blank.parts ≡ L.parts)
         × (parts.loops ≡ L.parts) × (0 < parts.loops) × (parts.loops ≤ 8) }
-    requires session { (L.edition ≡ Second) × (L.owner ≡ parts.owner) }
+    requires session { (L.edition ≡ Second) × (L.owner ≡ parts.owner) × IsOwnerOf users parts.owner }
     ensures seats { IfOk result (λ made. length made.1.items ≡ L.parts) }
     ensures users { IfOk result (λ made. made.0.shared.users ≡ users) }
     ensures recorder { IfOk result (λ made. K.records loop_body.now made.0.shared.recorder) }
@@ -220,8 +220,9 @@ where
     R: Clock + Threads + Wait + Sync,
     requires blank { (parts.blank.name ≡ L.name) × (parts.blank.parts ≡ L.parts)
         × (parts.loops ≡ L.parts) × (0 < parts.loops) × (parts.loops ≤ 8) }
-    requires session { (L.edition ≡ Second) × (L.owner ≡ parts.owner) }
-    ensures { IfOk result (λ agreement. setup_of agreement ≡ start.setup.items) }
+    requires session { (L.edition ≡ Second) × (L.owner ≡ parts.owner) × IsOwnerOf start.users parts.owner }
+    ensures setup { IfOk result (λ agreement. setup_of agreement ≡ start.setup.items) }
+    ensures users { IfOk result (λ agreement. users_of agreement ≡ start.users) }
 {
     let Start {
         users,
@@ -232,7 +233,7 @@ where
     let (running, seats, set_up) = begin::<L, P, K, R>(rt, parts, users, setup, loop_body)?;
     run_all(rt, &running, seats, places, loop_body);
     let RunningSession { shared, left } = running;
-    let (trail, agreement) = close(shared.into_hub(), set_up, left.into_inner());
+    let (trail, agreement) = close(shared, set_up, left.into_inner());
     loop_body.compare(rt, &trail);
     Ok(agreement)
 }
@@ -244,7 +245,8 @@ where
     P: Send + Drop,
     K: LoopBody<P, R> + Sync,
     R: Clock + Threads + Wait + Sync,
-    ensures { IfOk result (λ agreement. setup_of agreement ≡ start.setup.items) }
+    ensures setup { IfOk result (λ agreement. setup_of agreement ≡ start.setup.items) }
+    ensures users { IfOk result (λ agreement. users_of agreement ≡ start.users) }
 {
     let loops = start.places.len().clamp(1, MOST);
     let parts = Parts {

@@ -11,17 +11,16 @@ ghost use Rattle.server_trail.specs.declared.waiting.Stopped.{Stopped as Stop};
 ghost use Rattle.server_session.specs.Seating.{AreClosed, IsClosed, IsCounted, Steps};
 ghost use Rattle.server_session.specs.Seating.{after_closings, calls_to_count, fault_of, if_called};
 
-use crate::accounts::Accounts;
 use crate::books::{Calls, Counting};
 use crate::shared_session::LoopSession;
-use crate::trail_size::SharedSum;
+use crate::trail_size::{SharedSum, TrailSize};
 use acl::UserId;
 use hub::{Answer, Begun, HubFault, Seat};
 use server_seat::{GuestKind, SeatAnswer, SeatFault, ServerEnd, SessionSeat};
 use server_users::{Outcome, Users};
 use session::{Effect, Event, Peer, Refusal, Reply};
-use std::sync::Wait;
 use std::sync::atomic::AtomicU64;
+use std::sync::{Mutex, Wait};
 use std::time::{Clock, Duration};
 
 // What came of a step that was done, from whether all its checks passed and whether one was for a command.
@@ -96,6 +95,24 @@ fn millis(now: Duration) -> u64
     ensures { result ≡ millis_of now }
 {
     u64::try_from(now.as_millis()).unwrap_or(u64::MAX)
+}
+
+/// What the loops count of users and windows, under a lock, and how large the trail is. What lies under
+/// a lock before and after a call isn't known to its caller, but that the call counts it, once.
+#[derive(Drop)]
+pub struct Accounts<B, T = AtomicU64> {
+    books: Mutex<B>,
+    trail: TrailSize<T>,
+}
+
+impl<B> Accounts<B> {
+    /// What is counted so by now, and a trail that takes nothing.
+    pub fn new(books: B) -> Accounts<B> {
+        Accounts {
+            books: Mutex::new(books),
+            trail: TrailSize::new(),
+        }
+    }
 }
 
 /// A seat in a session, with the session and its users' accounts, and the calls by which it counted.

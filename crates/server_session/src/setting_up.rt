@@ -11,9 +11,10 @@ ghost use Rattle.server_session.specs.SettingUp.{AreDone, Fails, IfRefused, IsGi
 use crate::loop_body::LoopsFault;
 use crate::shared_session::{LoopSession, SharedSession};
 use acl::UserId;
-use hub::{Begun, Hub, Seat, Trail};
+use hub::{Begun, Seat, Trail};
 use program_words::{SetupLine, read_setup};
 use server_trail::Recorder;
+use server_users::Users;
 use session::{Event, Refusal, spoken};
 use std::alloc::Global;
 use std::sync::Wait;
@@ -129,11 +130,12 @@ pub struct SetUp {
     file: Vec<u8>,
 }
 
-/// The setup's file that a session began with, and whether every answer that a loop was given stands in the
-/// session's trail. Only a session that was set up and is closed says so.
+/// The setup's file and the users that a session began with, and whether every answer that a loop was given stands in
+/// the session's trail. Only a session that was set up and is closed says so.
 #[derive(Debug, Drop)]
 pub struct Agreement {
     setup: Vec<u8>,
+    users: Users,
     is_so: bool,
 }
 
@@ -147,20 +149,29 @@ impl Agreement {
 }
 
 /// Closes a session that was set up, whose loops gave these seats back.
-pub fn close<L: Begun>(hub: Hub<L>, set_up: SetUp, left: Vec<Seat<L>>) -> (Trail, Agreement)
+pub fn close<L: Begun>(
+    shared: SharedSession<L, Recorder>,
+    set_up: SetUp,
+    left: Vec<Seat<L>>,
+) -> (Trail, Agreement)
     ensures legal { IsLegal result.0 }
     ensures setup { result.1.setup ≡ set_up.file }
+    ensures users { result.1.users ≡ shared.users }
     ensures agrees { result.1.is_so ≡ true
         → IsFirstWrong result.0.entries (receipts_of left.items) None }
     ensures differs { result.1.is_so ≡ false
         → (wrong : ℕ) × IsFirstWrong result.0.entries (receipts_of left.items) (Some wrong) }
 {
     let SetUp { file: setup } = set_up;
+    let (hub, users) = shared.into_parts();
     let (trail, wrong) = hub.close(left);
-    if let Some(_) = wrong {
-        let is_so = false;
-        return (trail, Agreement { setup, is_so });
-    }
-    let is_so = true;
-    (trail, Agreement { setup, is_so })
+    let is_so = wrong.is_none();
+    (
+        trail,
+        Agreement {
+            setup,
+            users,
+            is_so,
+        },
+    )
 }

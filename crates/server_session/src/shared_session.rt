@@ -176,9 +176,12 @@ impl<L: Begun, T> SharedSession<L, T> {
 }
 
 impl<L: Begun, T: Drop> SharedSession<L, T> {
-    pub(crate) fn into_hub(self) -> Hub<L> {
-        let SharedSession { hub, .. } = self;
-        hub
+    /// The hub, and the users who could connect.
+    pub(crate) fn into_parts(self) -> (Hub<L>, Users)
+        ensures { result.1 ≡ self.entry.users }
+    {
+        let SharedSession { hub, users, .. } = self;
+        (hub, users)
     }
 }
 

@@ -10,7 +10,7 @@ use std::marker::Model;
 pub enum Outcome {
     /// It was done, and the rights or locks that were checked for it allowed it.
     Granted,
-    /// The same, and it only typed into a window.
+    /// It was granted, and only typed into a window.
     Typed,
     /// It was done, and nothing was checked for it.
     Unchecked,

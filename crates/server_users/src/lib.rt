@@ -15,6 +15,6 @@ pub use allowances::Allowances;
 pub use fault::{AuthFault, UsersFault};
 pub use ration::Rations;
 pub use tally::Tally;
-pub use trust::{Access, Flaw, OpenFolder, open_folder, own_account};
+pub use trust::{Access, Flaw, own_account};
 pub use user::{Shown, User};
 pub use users::{Users, authenticate};

@@ -3,11 +3,8 @@
 ghost use Rattle.std.specs.Prelude.{◌≡◌, ◌↔◌, ◌==◌, IfSome, IsTrue, None, bit_and, not};
 ghost use Rattle.server_users.specs.Trust.{IsClosed, IsKept, IsKeptFolder, IsOwn, Lets, LetsInto};
 
-use std::fmt::{Display, Formatter};
-use std::fs::{Files, Metadata};
+use std::fs::Metadata;
 use std::os::unix::fs::MetadataExt;
-use std::path::Path;
-use std::{fmt, fs, io};
 
 /// Whose a file or a folder is, and its mode, as the system gives them.
 #[derive(Clone, Copy, Debug, PartialEq, Eq)]
@@ -91,60 +88,4 @@ impl Access {
 /// The account that the program runs as.
 pub fn own_account() -> u32 {
     libc::geteuid()
-}
-
-/// A folder in which others than the program's account and root could replace what is there.
-#[derive(Debug, Drop)]
-pub struct OpenFolder {
-    path: String,
-    flaw: Flaw,
-    account: u32,
-    /// It doesn't hold the file itself, but a folder above it.
-    pub is_above: bool,
-}
-
-impl Display for OpenFolder {
-    fn fmt<W: fmt::Write>(&self, f: &mut Formatter<W>) -> fmt::Result {
-        let (path, account) = (self.path.as_str(), self.account);
-        let place = if self.is_above {
-            "a folder above it"
-        } else {
-            "its folder"
-        };
-        match self.flaw {
-            Flaw::Owner => write!(
-                f,
-                "{place}, {path}, belongs to another account: chown {account} {path}"
-            ),
-            Flaw::Mode => write!(f, "others may write {place}, {path}: chmod go-w {path}"),
-        }
-    }
-}
-
-/// The first folder, from the one that holds this path up to the root, in which others than the account
-/// and root could replace what is there.
-pub fn open_folder<R: Files + AllocGlobal>(
-    rt: &R,
-    account: u32,
-    path: &str,
-) -> io::Result<Option<OpenFolder>> {
-    let holder = match Path::new(path).parent() {
-        Some(holder) if !holder.as_str().is_empty() => holder,
-        _ => Path::new("."),
-    };
-    let holder = fs::canonicalize(rt, holder)?;
-    let mut is_above = false;
-    for folder in holder.ancestors() {
-        let access = Access::of(&fs::metadata(rt, folder)?);
-        if let Some(flaw) = access.folder_flaw(account) {
-            return Ok(Some(OpenFolder {
-                path: String::from_str(rt.alloc(), folder.as_str())?,
-                flaw,
-                account,
-                is_above,
-            }));
-        }
-        is_above = true;
-    }
-    Ok(None)
 }

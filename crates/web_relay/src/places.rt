@@ -114,7 +114,7 @@ fn is_other<S: Drop>(relays: &Slab<Relay<S>>, place: usize, number: usize) -> bo
     }
 }
 
-// The same of a page of this address.
+// Whether a page of this address, of another browser than the one at a place, has this number.
 fn is_neighbour<S: Drop>(
     relays: &Slab<Relay<S>>,
     place: usize,

@@ -35,7 +35,7 @@ const COMERS: usize = 64;
 /// How many seconds pass at most between two looks at all connections.
 const LOOK: u64 = 2;
 
-/// The same if something waits that no event tells of, in milliseconds.
+/// How many milliseconds pass at most between them if something waits that no event tells of.
 const SOON: u64 = 100;
 
 /// What a bridge asks of the system, except to wait: a function says that itself, as it may then never return.
@@ -219,7 +219,7 @@ impl<S: BridgeStream + WebStream + Drop> Bridge<'_, S> {
         has_more
     }
 
-    // The same if some may wait.
+    // Takes browsers if some may wait at the listeners. Returns whether more may be taken at once.
     fn accept_all(&mut self, listeners: &[WebListener], registry: &Registry, now: Duration) -> bool
         ensures { AcceptsIf S.BridgeStream listeners.now now self.old result self.new }
     {
