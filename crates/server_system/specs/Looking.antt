@@ -1,7 +1,6 @@
 -- The users' file: when it is read, and what is taken from it.
-use Rattle.std.specs.Prelude.{◌≡◌, ◌⊎◌, ◌==◌, ℕ, ◌+◌, ◌-◌, ◌^◌, ◌<◌, ◌≤◌, List, length, Option, Some, None}
-use Rattle.std.specs.Prelude.{Result, Ok, Err}
-use Rattle.std.specs.Prelude.{bit_and, false, if◌then◌else◌, min, slice_get}
+use Rattle.std.specs.Prelude.{◌≡◌, ◌⊎◌, ◌==◌, ℕ, ◌+◌, ◌-◌, ◌^◌, ◌<◌, ◌≤◌, List, length, Option, Some, None, Result, Ok}
+use Rattle.std.specs.Prelude.{Err, bit_and, false, if◌then◌else◌, min, slice_get}
 use Rattle.acl.specs.Names.{name_of}
 use Rattle.acl.specs.Same.{same_user}
 use Rattle.acl.specs.declared.user_id.UserId.{UserId}
@@ -12,11 +11,12 @@ use Rattle.server_system.specs.Folders.{IsHeldFile, access_of}
 use Rattle.server_system.specs.declared.fault.UsersFileFault.{UsersFileFault}
 use Rattle.server_system.specs.declared.fault.UsersFileFault.TheVariants as fault
 use Rattle.server_system.specs.declared.host.Host.{Ghosts}
+use Rattle.server_system.specs.declared.looks.FoundLook.{FoundLook}
+use Rattle.server_system.specs.declared.looks.KnownUsers.{KnownUsers}
+use Rattle.server_system.specs.declared.looks.Looks.{Looks}
+use Rattle.server_system.specs.declared.looks.UsersNews.TheVariants as news
 use Rattle.server_system.specs.declared.users_file.LastLook.{LastLook}
 use Rattle.server_system.specs.declared.users_file.Stamp.{Stamp}
-use Rattle.server_system.specs.declared.watched.KnownUsers.{KnownUsers}
-use Rattle.server_system.specs.declared.watched.Looks.{Looks}
-use Rattle.server_system.specs.declared.watched.UsersNews.TheVariants as news
 
 -- ---- what is read
 
@@ -124,14 +124,14 @@ with_users owner first users looks =
     record looks { users = Some users; count = later looks.count; news = Some news.Anew }
     else record looks { news = Some news.OtherOwner }
 
--- what is known after a file was read, or wasn't for this fault
-abbrev pub Takes : UserId → Result (List Entry) UsersFileFault → Looks → Looks → Type 0
-Takes owner (Ok users) old new =
+-- what is known after a look: the users of a sound file are taken, and any other file is told
+abbrev pub Takes : UserId → Option (Result (List Entry) UsersFileFault) → Looks → Looks → Type 0
+Takes owner None old new = new ≡ old
+Takes owner (Some (Ok users)) old new =
     (first : UserId) × (slice_get (names users) 0 ≡ Some (name_of first))
     × (new ≡ with_users owner first users old)
-Takes owner (Err why) old new = new ≡ record old { news = Some (news.Faulty why) }
+Takes owner (Some (Err why)) old new = new ≡ record old { news = Some (news.Faulty why) }
 
--- the look that was begun is done; what it found is taken, if anything
-abbrev pub Ends : UserId → Option (Result (List Entry) UsersFileFault) → Looks → Looks → Type 0
-Ends owner None old new = new ≡ record old { done = old.begun }
-Ends owner (Some found) old new = Takes owner found (record old { done = old.begun }) new
+-- exactly this look is done, and what it found is taken
+abbrev pub Ends : UserId → FoundLook → Looks → Looks → Type 0
+Ends owner it old new = Takes owner it.found (record old { done = it.look.number }) new

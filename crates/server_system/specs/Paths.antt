@@ -4,9 +4,9 @@ use Rattle.std.specs.String.{string_bytes}
 use Rattle.mio.specs.declared.net.uds.listener.UnixListener.{UnixListener}
 use Rattle.server_system.specs.Folders.{IsHeld}
 use Rattle.server_system.specs.declared.host.Host.{Ghosts}
+use Rattle.server_system.specs.declared.looks.Looks.{Looks}
 use Rattle.server_system.specs.declared.socket.SocketPath.{SocketPath}
 use Rattle.server_system.specs.declared.users_file.UsersFile.{UsersFile}
-use Rattle.server_system.specs.declared.watched.Looks.{Looks}
 use Rattle.server_system.specs.declared.watched.WatchedUsers.{WatchedUsers}
 
 abbrev pub socket_path : SocketPath → List ℕ

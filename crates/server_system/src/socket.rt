@@ -20,8 +20,7 @@ const LONGEST: usize = 107;
 // The mode that lets everybody connect.
 const OTHERS_WRITE: u32 = 0o002;
 
-/// The path of a server's socket. Only the server that holds the lock beside it makes, replaces and
-/// removes the socket.
+/// The path of a server's socket. Only the server that holds the lock beside it makes, replaces and removes the socket.
 #[derive(Drop)]
 pub struct SocketPath<'a> {
     path: &'a str,
@@ -51,14 +50,6 @@ fn is_served<R: Host>(rt: &R, path: &str) -> io::Result<bool> {
     }
 }
 
-// Whether the file is the one of this name, which is no link.
-fn is_its_file<R: Files<File = File>>(rt: &R, file: &File, name: &str) -> io::Result<bool> {
-    let named = fs::symlink_metadata(rt, name)?;
-    let opened = file.metadata()?;
-    let is_same = named.dev() == opened.dev() && named.ino() == opened.ino();
-    Ok(is_same && named.file_type().is_file())
-}
-
 // Opens the lock's file that is there, unless it is a link or another kind of file. Whatever takes its
 // place before it is opened isn't written to.
 fn open_there<R: Files<File = File>>(rt: &R, name: String) -> Result<File, SocketCause> {
@@ -67,10 +58,13 @@ fn open_there<R: Files<File = File>>(rt: &R, name: String) -> Result<File, Socke
         return Err(SocketCause::NoLock(name));
     }
     let file = OpenOptions::new().write(true).open(rt, name.as_str())?;
-    match is_its_file(rt, &file, name.as_str()) {
-        Ok(true) => Ok(file),
-        Ok(false) => Err(SocketCause::NoLock(name)),
-        Err(error) => Err(SocketCause::from(error)),
+    let named = fs::symlink_metadata(rt, name.as_str())?;
+    let opened = file.metadata()?;
+    let is_same = named.dev() == opened.dev() && named.ino() == opened.ino();
+    if is_same && named.file_type().is_file() {
+        Ok(file)
+    } else {
+        Err(SocketCause::NoLock(name))
     }
 }
 

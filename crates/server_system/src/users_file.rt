@@ -1,12 +1,10 @@
 //! The users' file, and whether it has changed.
 
-ghost use Rattle.std.specs.Prelude.{◌≡◌, ◌↔◌, Err, IfErr, IfOk, IfSome, IsTrue, List, None, Some, ℕ, false, take};
-ghost use Rattle.std.specs.Prelude.{OnOk, true};
+ghost use Rattle.std.specs.Prelude.{◌≡◌, Err, IfErr, IfOk, IfSome, None, OnOk, Some, false, take, true};
 ghost use Rattle.std.specs.Fs.{metadata_len, metadata_mode};
 ghost use Rattle.std.specs.Option.{option_copied};
 ghost use Rattle.server_system.specs.Folders.{IsHeldFile, access_of, may_pass};
-ghost use Rattle.server_system.specs.Looking.{AreOf, IsPlain, IsReadOf, IsWrong, LooksAt, MayBeTold};
-ghost use Rattle.server_system.specs.Looking.{after_look};
+ghost use Rattle.server_system.specs.Looking.{AreOf, IsReadOf, IsWrong, LooksAt, MayBeTold, after_look};
 ghost use Rattle.server_system.specs.Paths.{users_path};
 ghost use Rattle.server_system.specs.declared.fault.UsersFileFault.TheVariants.{NoMemory};
 
@@ -61,13 +59,6 @@ impl Stamp {
         }
     }
 
-    // Whether it is a plain file.
-    fn is_plain(&self) -> bool
-        ensures { IsTrue result ↔ IsPlain self.now }
-    {
-        self.mode & KIND == PLAIN
-    }
-
     /// Whose the file is, and its mode.
     pub fn access(&self) -> Access
         ensures { result ≡ access_of self.now }
@@ -111,16 +102,6 @@ fn users_of(
         Ok(users) => Ok(users),
         Err(UsersFault::NoMemory) => Err(UsersFileFault::NoMemory),
         Err(fault) => Err(UsersFileFault::Users(path, fault)),
-    }
-}
-
-// A file whose folders were looked at is read unless others can replace it.
-fn passed(path: String, found: Option<OpenFolder>) -> Result<(), UsersFileFault>
-    ensures { OnOk result (may_pass found ≡ true) }
-{
-    match found {
-        Some(folder) if !folder.is_above => Err(UsersFileFault::Folder(path, folder)),
-        _ => Ok(()),
     }
 }
 
@@ -189,7 +170,9 @@ impl<H: Host> UsersFile<H> {
     {
         let path = String::from_str(self.host.alloc(), self.path.as_str())?;
         match self.open_folder() {
-            Ok(found) => passed(path, found),
+            Ok(None) => Ok(()),
+            Ok(Some(folder)) if folder.is_above => Ok(()),
+            Ok(Some(folder)) => Err(UsersFileFault::Folder(path, folder)),
             Err(error) => Err(UsersFileFault::NoFile(path, SystemError(error))),
         }
     }
@@ -202,7 +185,7 @@ impl<H: Host> UsersFile<H> {
         self.look()?;
         let path = String::from_str(self.host.alloc(), self.path.as_str())?;
         let stamp = match self.host.stamp(self.path.as_str()) {
-            Ok(stamp) if stamp.is_plain() => stamp,
+            Ok(stamp) if stamp.mode & KIND == PLAIN => stamp,
             Ok(_) => return Err(UsersFileFault::NotPlain(path)),
             Err(error) => return Err(UsersFileFault::NoFile(path, SystemError(error))),
         };
@@ -211,10 +194,8 @@ impl<H: Host> UsersFile<H> {
             Err(error) => return Err(UsersFileFault::NoFile(path, SystemError(error))),
         };
         let account = self.host.account();
-        match users_of(self.host.alloc(), path, account, &stamp, &file) {
-            Ok(users) => Ok((users, stamp)),
-            Err(fault) => Err(fault),
-        }
+        let users = users_of(self.host.alloc(), path, account, &stamp, &file)?;
+        Ok((users, stamp))
     }
 }
 

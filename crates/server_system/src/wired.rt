@@ -41,8 +41,7 @@ pub trait PolledStream: Read + Write {
     // call of `wake_for` shows it.
     ghost wakes: { Self → Bool → Self → Type 0 };
 
-    /// The loop is woken when there is something to read and, if that is asked for, when the stream takes
-    /// bytes again.
+    /// The loop is woken when there is something to read and, if that is asked for, when the stream takes bytes again.
     fn wake_for(&mut self, room: bool) -> io::Result<()>
         ensures wakes { OnOk result (wakes self.old room self.new) }
         ensures written { Self.contents self.new ≡ Self.contents self.old }
