@@ -8,8 +8,8 @@ use Rattle.server_turns.specs.Calls.{Call}
 use Rattle.server_turns.specs.declared.around.Backlog.{Backlog}
 use Rattle.server_turns.specs.declared.around.Learned.{Learned}
 use Rattle.server_system.specs.Looking.{Asks, TellsOf}
-use Rattle.server_system.specs.declared.watched.KnownUsers.{KnownUsers}
-use Rattle.server_system.specs.declared.watched.Looks.{Looks}
+use Rattle.server_system.specs.declared.looks.KnownUsers.{KnownUsers}
+use Rattle.server_system.specs.declared.looks.Looks.{Looks}
 use Rattle.server.specs.declared.acceptor.Acceptor.{Acceptor}
 use Rattle.server.specs.declared.loop_handle.HandedStream.{HandedStream}
 use Rattle.server.specs.declared.turns.Inlet.{Inlet}
