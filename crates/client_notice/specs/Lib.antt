@@ -1,2 +1,1 @@
-pub mod Help
 pub mod Notices

@@ -1,6 +1,6 @@
--- A text for the last line of a client's terminal.
+-- A text for the last line of a client's terminal, and the client's help.
 use Rattle.std.specs.Prelude.{◌≡◌, ◌⊎◌, ℕ, ◌+◌, ◌-◌, ◌≤◌, ◌==◌, ◌&&◌, ◌||◌, nat_le, Bool, true, false, MatchBool}
-use Rattle.std.specs.Prelude.{if◌then◌else◌, List, ◌∷◌, ◌++◌, take, codes, decimal}
+use Rattle.std.specs.Prelude.{if◌then◌else◌, List, [], ◌∷◌, ◌++◌, take, codes, decimal}
 use Rattle.std.specs.List.{starts_with}
 use Rattle.client_words.specs.Visible.{visible}
 use Rattle.client_notice.specs.declared.notice.Notice.{Notice}
@@ -55,7 +55,8 @@ turned (stage.Shown since) now has_typed is_free =
     if has_typed && nat_le 1000 (now - since) then (stage.Nothing, task.TakeAway)
     else (stage.Shown since, task.Nothing)
 
--- The beginning of a text that has room in so many bytes: all of it, or at most three bytes less than there is room for.
+-- The beginning of a text that has room in so many bytes: all of it, or at most three bytes less than there is room
+-- for.
 abbrev pub IsBeginning : List ℕ → ℕ → List ℕ → Type 0
 IsBeginning text most beginning =
     (count : ℕ) × (beginning ≡ take count text) × (count ≤ most) × (most ≤ count + 3)
@@ -70,3 +71,13 @@ notice_line rows text =
 abbrev pub PutsLine : List ℕ → ℕ → ℕ → List ℕ → List ℕ → Type 0
 PutsLine text rows columns old new =
     (shown : List ℕ) × IsBeginning text (columns - 1) shown × (new ≡ old ++ notice_line rows shown)
+
+-- each row but the first one begins after NEL
+abbrev pub next_row : ℕ → List ℕ
+next_row row = if row == 0 then [] else 0x1B ∷ codes "E"
+
+-- So many rows from the top have a text each, or as much of it as fits, and are erased after it.
+pub data IsHelp (columns : ℕ) : ℕ → List ℕ → Type 0 where
+  none : IsHelp columns 0 (0x1B ∷ codes "[m" ++ 0x1B ∷ codes "[H")
+  row : {row : ℕ} {page : List ℕ} (text line : List ℕ) → IsBeginning text (columns - 1) line → IsHelp columns row page
+      → IsHelp columns (row + 1) (((page ++ next_row row) ++ line) ++ 0x1B ∷ codes "[K")

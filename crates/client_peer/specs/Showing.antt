@@ -5,8 +5,7 @@ use Rattle.draw_check.specs.Functions.{BeginDraws}
 use Rattle.draw_check.specs.Places.{place_after}
 use Rattle.client_notice.specs.declared.notice.NoticeStage.{NoticeStage}
 use Rattle.client_notice.specs.declared.notice.NoticeStage.TheVariants.{Shown}
-use Rattle.client_notice.specs.Help.{IsHelp}
-use Rattle.client_notice.specs.Notices.{PutsLine}
+use Rattle.client_notice.specs.Notices.{IsHelp, PutsLine}
 use Rattle.client_peer.specs.declared.peer.Peer.{Peer}
 
 -- these bytes were added to those that wait for standard output
