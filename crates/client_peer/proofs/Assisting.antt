@@ -1,5 +1,5 @@
 -- What a client with keys of its own sends.
-use Rattle.std.proofs.Common.{◌≡◌, ◌∙◌, ℕ, ◌-◌, List, [], true, false, sym, ap, subst, Result, Ok, Err}
+use Rattle.std.proofs.Common.{◌≡◌, ◌∙◌, ℕ, ◌-◌, List, [], true, false, refl, sym, ap, subst, Result, Ok, Err}
 use Rattle.std.specs.Prelude.{OnOk}
 use Rattle.attach_proto.specs.declared.kind.Kind.TheVariants.{Keys}
 use Rattle.client_notice.specs.Notices.{IsNew, scrolled}
@@ -10,6 +10,27 @@ use Rattle.client_peer.specs.declared.peer.Peer.{Peer}
 use Rattle.client_peer.specs.Reopening.{Sends}
 use Rattle.client_peer.specs.Showing.{IsUncovered, ShowsHelp, helping}
 use Rattle.client_peer.specs.Typing.{SendsAssisted, TellsScrolled, Presses}
+use Rattle.client_peer.proofs.Passing.{passes_keeps, passes_then}
+
+-- the help is shown after what put nothing down for the terminal
+shows_after : (old other new : Peer) → ShowsHelp
+    (record old { typing = other.typing; frames = other.frames; notice = other.notice; times = other.times }) new
+    → ShowsHelp old new
+shows_after old other new h =
+    let middle : Peer =
+    record old { typing = other.typing; frames = other.frames; notice = other.notice; times = other.times } in record {
+      shows = λ free.
+          let s = h.shows free in (
+            s.0,
+            s.1,
+            passes_then old middle new
+                (passes_keeps old middle (record { subcommand = refl; draws = refl; kept = refl })) s.2,
+            s.3,
+            s.4,
+            s.5,
+          );
+      stays = h.stays;
+    }
 
 -- keys were put down, then it was told how far the view was moved, and then the help was shown, perhaps
 pub sends_assisted : {T E : Type 0} (r : Result T E) (old second third new : Peer) (t : Typing) (keys sent out : List ℕ)
@@ -28,9 +49,10 @@ sends_assisted (Ok x) old second third new t keys sent out a first sends is told
     let asks : third.typing.asks_help ≡ new.typing.asks_help = sym (ap (λ (p : Peer). p.typing.asks_help) last) in
     let framed : new.frames.items ≡ third.frames.items = ap (λ (p : Peer). p.frames.items) last in
     let noted : new.notice ≡ third.notice = ap (λ (p : Peer). p.notice) last in
-    let scrolls : TellsScrolled (record old { typing = t; frames = second.frames }) third old.typing.back second.frames.items =
+    let scrolls : TellsScrolled (record old { typing = t; frames = second.frames }) third old.typing.back
+    second.frames.items =
     subst (λ (p : Peer). TellsScrolled p third old.typing.back second.frames.items) first tells in
-    let shown : Peer = record old { typing = t; frames = third.frames; notice = third.notice } in record {
+    record {
       sent = a.sent;
       frames = second.frames.items;
       makes = subst (λ (s : Typing). Makes (old.rows - 3) (at old.typing) keys a.sent (at s)) (sym typing) a.makes;
@@ -49,8 +71,8 @@ sends_assisted (Ok x) old second third new t keys sent out a first sends is told
             );
       };
       helps = λ e.
-          let h : ShowsHelp shown new = subst (λ (p : Peer). ShowsHelp p new) whole (helps (asks ∙ e)) in
-          record { shows = h.shows; stays = h.stays };
+          shows_after old (record third { typing = t; times = old.times }) new
+          (subst (λ (p : Peer). ShowsHelp p new) whole (helps (asks ∙ e)));
       other = λ e.
           subst (λ (p : Peer). IsUncovered p new) whole (other (asks ∙ e));
     }
@@ -74,8 +96,7 @@ presses_read old new t reads times typed same p =
             makes = a.makes;
             sends = a.sends;
             tells = record { same = a.tells.same; end = a.tells.end; back = a.tells.back };
-            helps = λ asks.
-                let h : ShowsHelp middle new = a.helps asks in record { shows = h.shows; stays = h.stays };
+            helps = λ asks. shows_after old middle new (a.helps asks);
             other = a.other;
           };
       plain = q.plain;

@@ -111,10 +111,15 @@ module _ (old : Peer) (reader later : Reading) (piece : List ℕ) (first message
   abbrev Takes : Type 0
   Takes = (made : List Message) × (messages ≡ first ++ made) × TakesPiece reader piece made later
 
-  fails_got : Takes → FailsAt old all e ⊎ ((e ≡ NoServerOfOurs) × IsSome later.fault) → FailsRead old reader piece later e
+  fails_got : Takes → FailsAt old all e ⊎ ((e ≡ NoServerOfOurs) × IsSome later.fault)
+      → FailsRead old reader piece later e
   fails_got got fails =
       let is : all ≡ got.0 = same ∙ (got.1 ∙ ap (λ (l : List Message). l ++ got.0) none) in
-      inr (got.0, got.2, subst (λ (l : List Message). FailsAt old l e ⊎ ((e ≡ NoServerOfOurs) × IsSome later.fault)) is fails)
+      inr (
+        got.0,
+        got.2,
+        subst (λ (l : List Message). FailsAt old l e ⊎ ((e ≡ NoServerOfOurs) × IsSome later.fault)) is fails,
+      )
 
   -- a read fails by its first fault
   pub fails_read : (fed : Result (Prim.Unit {0}) ProtoFault) → FailsAt old all e ⊎ FailsAfter fed e

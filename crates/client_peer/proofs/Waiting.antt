@@ -1,6 +1,6 @@
 -- What a look does, step after step.
-use Rattle.std.proofs.Common.{◌≡◌, ◌∙◌, refl, sym, ap, subst, inl, inr, ◌⊎◌, ℕ, ◌≤◌, ◌-◌, true, false, Option, Some, None, IsSome, [], ◌++◌}
-use Rattle.std.proofs.Common.{Result, Ok, Err}
+use Rattle.std.proofs.Common.{◌≡◌, ◌∙◌, refl, sym, ap, subst, inl, inr, ◌⊎◌, ℕ, ◌≤◌, ◌-◌, true, false, [], ◌++◌}
+use Rattle.std.proofs.Common.{Option, Some, None, IsSome, Result, Ok, Err}
 use Rattle.std.specs.Prelude.{IfOk, IsSomeAnd}
 use Rattle.attach_proto.specs.declared.kind.Kind.TheVariants.{Detach}
 use Rattle.attach_proto.specs.Spelling.{frame}
@@ -12,8 +12,8 @@ use Rattle.client_peer.specs.declared.looking.PeerTask.{PeerTask}
 use Rattle.client_peer.specs.declared.looking.PeerTask.TheVariants as task
 use Rattle.client_peer.specs.declared.peer.Peer.{Peer}
 use Rattle.client_peer.specs.Acting.{Acts, ActsIf, ActsInTime, Does, IsUnmoved}
-use Rattle.client_peer.specs.Looking.{BeginsInTime, DoesNext, IsToLeave, LeavesInTime, MayLeave, acting, in_time, leaving}
-use Rattle.client_peer.specs.Looking.{IsDone, IsIdle, paired_after}
+use Rattle.client_peer.specs.Looking.{BeginsInTime, DoesNext, IsDone, IsIdle, IsToLeave, LeavesInTime, MayLeave}
+use Rattle.client_peer.specs.Looking.{acting, in_time, leaving, paired_after}
 use Rattle.client_peer.specs.Sending.{MaySend}
 
 pub false_true : false ≡ true → ⊥

@@ -14,11 +14,16 @@ use Rattle.client_peer.specs.declared.peer.Peer.{Peer}
 use Rattle.client_peer.specs.Returning.{GivesUp, IsOver}
 use Rattle.client_peer.specs.Sending.{MaySend}
 
+-- an answer is waited for, but not without limit
+abbrev pub IsAsked : Peer → Type 0
+IsAsked p = ((p.subcommand ≡ Command) ⊎ (p.subcommand ≡ Ping)) × (0 < p.times.wait)
+
 -- something is due after a time
 abbrev pub IsDue : Peer → Type 0
 IsDue p =
     IsToShow p.notice.stage ⊎ (IsSome p.times.paired ⊎ (IsSome p.loss
-    ⊎ ((p.times.wants_fit ≡ true) × Rests p.typing)))
+    ⊎ (((p.times.wants_fit ≡ true) × Rests p.typing)
+    ⊎ ((IsSome p.typing.leave × (p.times.has_begun ≡ false)) ⊎ IsAsked p))))
 
 -- the user left, or the peer doesn't come back
 abbrev pub IsOut : Peer → Type 0
@@ -79,8 +84,7 @@ pub record BeginsInTime (old : Peer) (now : ℕ) (next : Result PeerTask PeerFau
 
 -- an answer was waited for too long
 abbrev pub IsLate : Peer → ℕ → Type 0
-IsLate p now =
-    ((p.subcommand ≡ Command) ⊎ (p.subcommand ≡ Ping)) × (0 < p.times.wait) × (p.times.wait * 1000 ≤ now)
+IsLate p now = IsAsked p × (p.times.wait * 1000 ≤ now)
 
 -- As time goes by a peer ends by a loss that it gives up, or for want of an answer, and in no other way.
 pub record EndsInTime (old : Peer) (now : ℕ) (new : Peer) : Type 0 where
@@ -144,7 +148,9 @@ IsDone p now =
 
 -- when a task is the next one
 abbrev pub DoesNext : Peer → ℕ → PeerTask → Type 0
-DoesNext p now task.Wait = IsIdle p × (IsDone p now → ⊥) × (p.end ≡ None → IsDue p → ⊥)
+DoesNext p now task.Wait =
+    IsIdle p × (IsDone p now → ⊥) × (p.times.left_at ≡ None) × (p.end ≡ None → IsDue p → ⊥)
+    × (IsSome p.end → p.subcommand ≡ Window → ⊥)
 DoesNext p now task.WaitShortly = IsIdle p × (IsDone p now → ⊥)
 DoesNext p now task.Begin = (p.end ≡ None) × (p.times.left_at ≡ None) × (p.times.has_begun ≡ true) × MayBegin p now
 DoesNext p now task.Reopen = (p.end ≡ None) × (p.is_reopening ≡ true)

@@ -81,6 +81,7 @@ pub record Prints (old new : Peer) (bytes : List ℕ) : Type 0 where
       → Sends old.frames.items new.frames.items Output bytes × (new.page.held ≡ old.page.held)
       × ReadsAll old.page.emulator bytes new.page.emulator
   pub held : (HasServer old → ⊥) → Holds old.page bytes new.page × (new.frames ≡ old.frames)
+  pub rest : new ≡ record old { frames = new.frames; page = new.page }
 
 -- what waited for standard output and for the sizes' file is being written
 abbrev pub writing : Peer → Peer → Peer

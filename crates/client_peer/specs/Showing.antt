@@ -98,8 +98,8 @@ pub record KeepsNotice (old new : Peer) : Type 0 where
       → ShowsNotice old new × (new.notice.is_hidden ≡ false)
   pub stays : (is_shown old.notice.stage && old.notice.is_hidden && is_free old) ≡ false → new ≡ old
 
--- The help covers the terminal. Unless that is free, the help isn't shown.
+-- The help covers the terminal, and the check has read it. Unless the terminal is free, the help isn't shown.
 pub record ShowsHelp (old new : Peer) : Type 0 where
-  pub shows : is_free old ≡ true → (new.is_helping ≡ true) × (new.is_covered ≡ true)
+  pub shows : is_free old ≡ true → (new.is_helping ≡ true) × (new.is_covered ≡ true) × PassesOn old new
       × (page : List ℕ) × IsHelp old.columns old.rows page × (new.bytes.items ≡ old.bytes.items ++ page)
   pub stays : is_free old ≡ false → IsUncovered old new

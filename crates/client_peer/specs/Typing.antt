@@ -84,7 +84,7 @@ assisted_in old new = pressed_in old (record new { is_final = old.is_final; end 
 pub record TypesIn (old new : Peer) (input : List ℕ) : Type 0 where
   pub typed : List ℕ
   pub through : LetsThrough old.typing.leave input typed new.typing.leave
-  pub prints : old.subcommand ≡ Window → Prints (record old { typing = new.typing }) new typed × IsUncovered old new
+  pub prints : old.subcommand ≡ Window → Prints (record old { typing = new.typing }) new typed
   pub none : (old.subcommand ≡ Window → ⊥) → typed ≡ [] → new ≡ record old { typing = new.typing }
   pub presses : (old.subcommand ≡ Window → ⊥) → (typed ≡ [] → ⊥)
       → Presses old new typed × (new.times.has_typed ≡ true)

@@ -66,8 +66,8 @@ impl Peer {
     }
 
     /// Decides whether the peer comes back, after its connection has ended: if the socket's folder is there, for some
-    /// seconds from the first loss on. It says so once; without memory for that it is to be asked again. Until it is let
-    /// in, no server has a window.
+    /// seconds from the first loss on. It says so once; without memory for that it is to be asked again. Until it is
+    /// let in, no server has a window.
     pub fn comes_back(
         &mut self,
         now: u64,
@@ -112,8 +112,8 @@ impl Peer {
         Ok(())
     }
 
-    /// Takes the session's name. A window takes it only from the server that let it in: that server was still there after
-    /// the mark was read (`is_here`), and the connection hasn't ended.
+    /// Takes the session's name. A window takes it only from the server that let it in: that server was still there
+    /// after the mark was read (`is_here`), and the connection hasn't ended.
     pub fn learn(&mut self, mark: SessionMark, is_here: bool)
         ensures { Learns self.old mark is_here self.new }
     {

@@ -264,7 +264,7 @@ impl Peer {
         }
     }
 
-    /// Notes that it was written, or why it wasn't: then the peer ends. The program of an ended window may read no more.
+    /// Notes that it was written, or why it wasn't: then the peer ends. An ended window's program may read no more.
     pub fn end_writing(&mut self, fault: Option<PeerFault>)
         ensures written { fault ≡ None → self.new ≡ record self.old { is_writing = false } }
         ensures failed { IfSome fault (λ f. EndsOutput self.old f self.new) }

@@ -1,4 +1,4 @@
-use Rattle.std.proofs.Common.{◌≡◌, ◌∙◌, refl, ap, rules, None, IsSome}
+use Rattle.std.proofs.Common.{◌≡◌, ◌∙◌, refl, ap, rules, IsSome}
 use Rattle.std.proofs.lemmas.Result.{on_err_weaker}
 use Rattle.client_peer.specs.declared.peer.Peer.{Peer}
 use Rattle.client_peer.specs.Acting.{ActsIf, ActsInTime, IsUnmoved}
@@ -9,8 +9,8 @@ use Rattle.client_peer.proofs.Waiting.{false_true, if_ok_by, leaves_then, rest_e
 use Rattle.client_peer.proofs.peer.Peer.look.Goals.{then-is_late, else-is_late}
 use Rattle.client_peer.proofs.peer.Peer.look.Goals as goal
 
-pub returns-clause-leaves : goal.returns-clause-leaves
-returns-clause-leaves c =
+pub returns : goal.returns
+returns c =
     let old : Peer = c.args.self.now in
     let first : Peer = c.look_at_leaving.new.self in
     let second : Peer = c.look_at_loss.new.self in
@@ -25,106 +25,25 @@ returns-clause-leaves c =
     let same : third ≡ beside old c.args.now third =
     beside_by old first second third c.args.now c.look_at_leaving.ensures.leaves c.in_default.is
     c.look_at_loss.ensures.rest awaits.rest in
-    leaves_then old first c.args.now c.look_at_leaving.ensures.leaves new (search rules) (search rules) (search rules)
+    let stays : IsToLeave old c.args.now → ⊥ =
+    stays_on old first c.args.now c.look_at_leaving.ensures.leaves c.in_default.is in record {
+      next = c.look_open.ensures.next;
+      leaves = leaves_then old first c.args.now c.look_at_leaving.ensures.leaves new (search rules) (search rules)
+          (search rules);
+      acts = if_ok_by c.look_open.result (λ next. ActsIf third c.args.now next new)
+          (λ next. ActsInTime old c.args.now next new) (λ next a. acts_open old third new c.args.now same next stays a)
+          c.look_open.ensures.acts;
+      err = on_err_weaker {P = IsUnmoved third new} {Q = IsUnmoved old new} c.look_open.result
+          (λ u. unmoved old third new c.args.now same u) c.look_open.ensures.err;
+      rest = rest_open old third new c.args.now same c.look_open.ensures.same;
+      begins = begins_open old third new c.args.now c.look_open.result same c.look_open.ensures.begins;
+      ends = ends_in_time old first second third new c.args.now c.look_at_leaving.ensures.same c.look_at_loss.ensures
+          awaits (ap (λ (p : Peer). p.end) c.look_open.ensures.same)
+          (ap (λ (p : Peer). p.is_final) c.look_open.ensures.same);
+    }
 
-pub returns-clause-acts : goal.returns-clause-acts
-returns-clause-acts c =
-    let old : Peer = c.args.self.now in
-    let first : Peer = c.look_at_leaving.new.self in
-    let second : Peer = c.look_at_loss.new.self in
-    let third : Peer = c.if-is_late.self in
-    let new : Peer = c.look_open.new.self in
-    let awaits : Awaits second c.args.now third = elim c.if-is_late.branch [
-      | then-is_late w ↦
-          awaits_late second third c.args.now (w.if-is_late.ensures.0 refl) (w.self-is ∙ w.end_by.ensures.ends)
-      | else-is_late w ↦
-          awaits_none second third c.args.now (λ l. false_true (w.if-is_late.ensures.1 l)) w.self-is
-    ] in
-    let same : third ≡ beside old c.args.now third =
-    beside_by old first second third c.args.now c.look_at_leaving.ensures.leaves c.in_default.is
-    c.look_at_loss.ensures.rest awaits.rest in
-    let stays : IsToLeave old c.args.now → ⊥ = stays_on old first c.args.now c.look_at_leaving.ensures.leaves c.in_default.is in
-    if_ok_by c.look_open.result (λ next. ActsIf third c.args.now next new) (λ next. ActsInTime old c.args.now next new)
-    (λ next a. acts_open old third new c.args.now same next stays a) c.look_open.ensures.acts
-
-pub returns-clause-err : goal.returns-clause-err
-returns-clause-err c =
-    let old : Peer = c.args.self.now in
-    let first : Peer = c.look_at_leaving.new.self in
-    let second : Peer = c.look_at_loss.new.self in
-    let third : Peer = c.if-is_late.self in
-    let new : Peer = c.look_open.new.self in
-    let awaits : Awaits second c.args.now third = elim c.if-is_late.branch [
-      | then-is_late w ↦
-          awaits_late second third c.args.now (w.if-is_late.ensures.0 refl) (w.self-is ∙ w.end_by.ensures.ends)
-      | else-is_late w ↦
-          awaits_none second third c.args.now (λ l. false_true (w.if-is_late.ensures.1 l)) w.self-is
-    ] in
-    let same : third ≡ beside old c.args.now third =
-    beside_by old first second third c.args.now c.look_at_leaving.ensures.leaves c.in_default.is
-    c.look_at_loss.ensures.rest awaits.rest in
-    on_err_weaker {P = IsUnmoved third new} {Q = IsUnmoved old new} c.look_open.result
-    (λ u. unmoved old third new c.args.now same u) c.look_open.ensures.err
-
-pub returns-clause-rest : goal.returns-clause-rest
-returns-clause-rest c =
-    let old : Peer = c.args.self.now in
-    let first : Peer = c.look_at_leaving.new.self in
-    let second : Peer = c.look_at_loss.new.self in
-    let third : Peer = c.if-is_late.self in
-    let new : Peer = c.look_open.new.self in
-    let awaits : Awaits second c.args.now third = elim c.if-is_late.branch [
-      | then-is_late w ↦
-          awaits_late second third c.args.now (w.if-is_late.ensures.0 refl) (w.self-is ∙ w.end_by.ensures.ends)
-      | else-is_late w ↦
-          awaits_none second third c.args.now (λ l. false_true (w.if-is_late.ensures.1 l)) w.self-is
-    ] in
-    let same : third ≡ beside old c.args.now third =
-    beside_by old first second third c.args.now c.look_at_leaving.ensures.leaves c.in_default.is
-    c.look_at_loss.ensures.rest awaits.rest in
-    rest_open old third new c.args.now same c.look_open.ensures.same
-
-pub returns-clause-begins : goal.returns-clause-begins
-returns-clause-begins c =
-    let old : Peer = c.args.self.now in
-    let first : Peer = c.look_at_leaving.new.self in
-    let second : Peer = c.look_at_loss.new.self in
-    let third : Peer = c.if-is_late.self in
-    let new : Peer = c.look_open.new.self in
-    let awaits : Awaits second c.args.now third = elim c.if-is_late.branch [
-      | then-is_late w ↦
-          awaits_late second third c.args.now (w.if-is_late.ensures.0 refl) (w.self-is ∙ w.end_by.ensures.ends)
-      | else-is_late w ↦
-          awaits_none second third c.args.now (λ l. false_true (w.if-is_late.ensures.1 l)) w.self-is
-    ] in
-    let same : third ≡ beside old c.args.now third =
-    beside_by old first second third c.args.now c.look_at_leaving.ensures.leaves c.in_default.is
-    c.look_at_loss.ensures.rest awaits.rest in
-    begins_open old third new c.args.now c.look_open.result same c.look_open.ensures.begins
-
-pub returns-clause-ends : goal.returns-clause-ends
-returns-clause-ends c =
-    let old : Peer = c.args.self.now in
-    let first : Peer = c.look_at_leaving.new.self in
-    let second : Peer = c.look_at_loss.new.self in
-    let third : Peer = c.if-is_late.self in
-    let new : Peer = c.look_open.new.self in
-    let awaits : Awaits second c.args.now third = elim c.if-is_late.branch [
-      | then-is_late w ↦
-          awaits_late second third c.args.now (w.if-is_late.ensures.0 refl) (w.self-is ∙ w.end_by.ensures.ends)
-      | else-is_late w ↦
-          awaits_none second third c.args.now (λ l. false_true (w.if-is_late.ensures.1 l)) w.self-is
-    ] in
-    let same : third ≡ beside old c.args.now third =
-    beside_by old first second third c.args.now c.look_at_leaving.ensures.leaves c.in_default.is
-    c.look_at_loss.ensures.rest awaits.rest in
-    let still : third.end ≡ None = search rules in
-    ends_in_time old first second third new c.args.now c.look_at_leaving.ensures.same c.look_at_loss.ensures awaits
-    (ap (λ (p : Peer). p.end) c.look_open.ensures.same)
-    (ap (λ (p : Peer). p.is_final) c.look_open.ensures.same)
-
-pub returns-then-is_some-clause-leaves : goal.returns-then-is_some-clause-leaves
-returns-then-is_some-clause-leaves c =
+pub returns-then-is_some : goal.returns-then-is_some
+returns-then-is_some c =
     let old : Peer = c.args.self.now in
     let first : Peer = c.look_at_leaving.new.self in
     let second : Peer = c.look_at_loss.new.self in
@@ -139,81 +58,18 @@ returns-then-is_some-clause-leaves c =
     let same : third ≡ beside old c.args.now third =
     beside_by old first second third c.args.now c.look_at_leaving.ensures.leaves c.in_default.is
     c.look_at_loss.ensures.rest awaits.rest in
-    leaves_then old first c.args.now c.look_at_leaving.ensures.leaves new (search rules) (search rules) (search rules)
-
-pub returns-then-is_some-clause-acts : goal.returns-then-is_some-clause-acts
-returns-then-is_some-clause-acts c =
-    let old : Peer = c.args.self.now in
-    let first : Peer = c.look_at_leaving.new.self in
-    let second : Peer = c.look_at_loss.new.self in
-    let third : Peer = c.if-is_late.self in
-    let new : Peer = c.look_at_end.new.self in
-    let awaits : Awaits second c.args.now third = elim c.if-is_late.branch [
-      | then-is_late w ↦
-          awaits_late second third c.args.now (w.if-is_late.ensures.0 refl) (w.self-is ∙ w.end_by.ensures.ends)
-      | else-is_late w ↦
-          awaits_none second third c.args.now (λ l. false_true (w.if-is_late.ensures.1 l)) w.self-is
-    ] in
-    let same : third ≡ beside old c.args.now third =
-    beside_by old first second third c.args.now c.look_at_leaving.ensures.leaves c.in_default.is
-    c.look_at_loss.ensures.rest awaits.rest in
-    let stays : IsToLeave old c.args.now → ⊥ = stays_on old first c.args.now c.look_at_leaving.ensures.leaves c.in_default.is in
-    let ended : IsSome third.end = search rules in
-    acts_end old third new c.args.now same ended c.look_at_end.ensures.same c.look_at_end.result stays
-
-pub returns-then-is_some-clause-rest : goal.returns-then-is_some-clause-rest
-returns-then-is_some-clause-rest c =
-    let old : Peer = c.args.self.now in
-    let first : Peer = c.look_at_leaving.new.self in
-    let second : Peer = c.look_at_loss.new.self in
-    let third : Peer = c.if-is_late.self in
-    let new : Peer = c.look_at_end.new.self in
-    let awaits : Awaits second c.args.now third = elim c.if-is_late.branch [
-      | then-is_late w ↦
-          awaits_late second third c.args.now (w.if-is_late.ensures.0 refl) (w.self-is ∙ w.end_by.ensures.ends)
-      | else-is_late w ↦
-          awaits_none second third c.args.now (λ l. false_true (w.if-is_late.ensures.1 l)) w.self-is
-    ] in
-    let same : third ≡ beside old c.args.now third =
-    beside_by old first second third c.args.now c.look_at_leaving.ensures.leaves c.in_default.is
-    c.look_at_loss.ensures.rest awaits.rest in
-    let ended : IsSome third.end = search rules in
-    rest_end old third new c.args.now same ended c.look_at_end.ensures.same
-
-pub returns-then-is_some-clause-begins : goal.returns-then-is_some-clause-begins
-returns-then-is_some-clause-begins c =
-    let old : Peer = c.args.self.now in
-    let first : Peer = c.look_at_leaving.new.self in
-    let second : Peer = c.look_at_loss.new.self in
-    let third : Peer = c.if-is_late.self in
-    let new : Peer = c.look_at_end.new.self in
-    let awaits : Awaits second c.args.now third = elim c.if-is_late.branch [
-      | then-is_late w ↦
-          awaits_late second third c.args.now (w.if-is_late.ensures.0 refl) (w.self-is ∙ w.end_by.ensures.ends)
-      | else-is_late w ↦
-          awaits_none second third c.args.now (λ l. false_true (w.if-is_late.ensures.1 l)) w.self-is
-    ] in
-    let same : third ≡ beside old c.args.now third =
-    beside_by old first second third c.args.now c.look_at_leaving.ensures.leaves c.in_default.is
-    c.look_at_loss.ensures.rest awaits.rest in
-    let ended : IsSome third.end = search rules in
-    begins_end old third new c.args.now c.look_at_end.result same ended c.look_at_end.ensures.same c.look_at_end.ensures.next
-
-pub returns-then-is_some-clause-ends : goal.returns-then-is_some-clause-ends
-returns-then-is_some-clause-ends c =
-    let old : Peer = c.args.self.now in
-    let first : Peer = c.look_at_leaving.new.self in
-    let second : Peer = c.look_at_loss.new.self in
-    let third : Peer = c.if-is_late.self in
-    let new : Peer = c.look_at_end.new.self in
-    let awaits : Awaits second c.args.now third = elim c.if-is_late.branch [
-      | then-is_late w ↦
-          awaits_late second third c.args.now (w.if-is_late.ensures.0 refl) (w.self-is ∙ w.end_by.ensures.ends)
-      | else-is_late w ↦
-          awaits_none second third c.args.now (λ l. false_true (w.if-is_late.ensures.1 l)) w.self-is
-    ] in
-    let same : third ≡ beside old c.args.now third =
-    beside_by old first second third c.args.now c.look_at_leaving.ensures.leaves c.in_default.is
-    c.look_at_loss.ensures.rest awaits.rest in
-    ends_in_time old first second third new c.args.now c.look_at_leaving.ensures.same c.look_at_loss.ensures awaits
-    (ap (λ (p : Peer). p.end) c.look_at_end.ensures.same) (ap (λ (p : Peer). p.is_final) c.look_at_end.ensures.same)
+    let stays : IsToLeave old c.args.now → ⊥ =
+    stays_on old first c.args.now c.look_at_leaving.ensures.leaves c.in_default.is in
+    let ended : IsSome third.end = search rules in record {
+      next = c.look_at_end.ensures.next;
+      leaves = leaves_then old first c.args.now c.look_at_leaving.ensures.leaves new (search rules) (search rules)
+          (search rules);
+      acts = acts_end old third new c.args.now same ended c.look_at_end.ensures.same c.look_at_end.result stays;
+      err = tt;
+      rest = rest_end old third new c.args.now same ended c.look_at_end.ensures.same;
+      begins = begins_end old third new c.args.now c.look_at_end.result same ended c.look_at_end.ensures.same
+          c.look_at_end.ensures.next;
+      ends = ends_in_time old first second third new c.args.now c.look_at_leaving.ensures.same c.look_at_loss.ensures
+          awaits (ap (λ (p : Peer). p.end) c.look_at_end.ensures.same)
+          (ap (λ (p : Peer). p.is_final) c.look_at_end.ensures.same);
+    }

@@ -1,6 +1,6 @@
 use Rattle.std.proofs.Common.{◌≡◌, ◌∙◌, ap, false, None}
 use Rattle.client_peer.specs.declared.peer.Peer.{Peer}
-use Rattle.client_peer.proofs.Waiting.{false_true, is_idle, not_done}
+use Rattle.client_peer.proofs.Waiting.{false_true, is_idle, not_done, not_none}
 use Rattle.client_peer.proofs.peer.Peer.look_open.Goals as goal
 
 pub returns-then-waits_for_time-clause-next : goal.returns-then-waits_for_time-clause-next
@@ -19,5 +19,7 @@ returns-else-waits_for_time-clause-next c =
     let opened : new.is_reopening ≡ false = ap (λ (p : Peer). p.is_reopening) c.act.ensures.same ∙ c.if-self.false in (
       is_idle new end (λ m. false_true (c.if-can_send.ensures.1 m)) opened,
       not_done new c.args.now end left,
+      left,
       λ none due. false_true (c.if-waits_for_time.ensures due),
+      λ some window. not_none new.end end some,
     )

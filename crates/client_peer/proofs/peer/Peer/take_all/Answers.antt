@@ -58,7 +58,8 @@ returns-in_err-why-clause-fault c =
     let whole : c.args.messages.items ≡ c.loop-message.yielded ++ c.in-Some.message ∷ later =
     came c.args.messages.items c.loop-message.yielded (into_iter_items c.loop-message.message-iterator) later
     c.in-Some.message c.loop-message.invariant.whole c.in-Some.ensures.steps.0 in
-    if_err_given (λ e. FailsAt c.args.self.now c.args.messages.items e ⊎ FailsAfter c.args.fed e) c.from_residual.result _
-    (inl (fails_at c.args.self.now c.loop-message.self c.args.messages.items c.loop-message.yielded later c.in-Some.message
-    whole c.loop-message.invariant.hears _ c.in_err-why.ensures.fault))
+    if_err_given (λ e. FailsAt c.args.self.now c.args.messages.items e ⊎ FailsAfter c.args.fed e)
+    c.from_residual.result _
+    (inl (fails_at c.args.self.now c.loop-message.self c.args.messages.items c.loop-message.yielded later
+    c.in-Some.message whole c.loop-message.invariant.hears _ c.in_err-why.ensures.fault))
     (search rules)

@@ -31,8 +31,10 @@ returns-in-None-clause-hears c = λ ping empty.
 
 pub returns-in_err-why-clause-fault : goal.returns-in_err-why-clause-fault
 returns-in_err-why-clause-fault c =
-    if_err_given (FailsRead c.args.self.now c.args.reader.now c.args.piece.bytes.now c.feed-fed.new.self) c.from_residual.result _
+    if_err_given (FailsRead c.args.self.now c.args.reader.now c.args.piece.bytes.now c.feed-fed.new.self)
+    c.from_residual.result _
     (fails_read c.args.self.now c.args.reader.now c.feed-fed.new.self c.args.piece.bytes.now c.new-messages.result.items
     c.feed-fed.new.out.items c.feed-fed.new.out.items _ c.new-messages.ensures.items refl c.feed-fed.result
-    c.in_err-why.ensures.fault (λ r. (c.feed-fed.ensures.memory r).1) c.feed-fed.ensures.reads c.feed-fed.ensures.answer)
+    c.in_err-why.ensures.fault (λ r. (c.feed-fed.ensures.memory r).1) c.feed-fed.ensures.reads
+    c.feed-fed.ensures.answer)
     (search rules)
