@@ -1,13 +1,12 @@
 //! The user as whom anybody may watch.
 
-ghost use Rattle.std.specs.Prelude.{◌≡◌, Some, None, IfOk, IfErr, IsSome};
-ghost use Rattle.std.specs.String.{string_bytes};
+ghost use Rattle.std.specs.Prelude.{◌≡◌, Some, None, IfOk, IfErr};
 ghost use Rattle.attach_proto.specs.Texts.{token_of};
 ghost use Rattle.web_options.specs.Asking.{CantWatch, HasNoToken, MayWatch, line_of, text_of};
 
 use crate::fault::WebFault;
-use crate::files::ReadsFiles;
 use crate::options::WebOptions;
+use crate::page::ReadsFiles;
 use acl::UserId;
 use attach_proto::Token;
 use program_words::SystemError;
