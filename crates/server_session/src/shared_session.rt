@@ -178,7 +178,7 @@ impl<L: Begun, T> SharedSession<L, T> {
 impl<L: Begun, T: Drop> SharedSession<L, T> {
     /// The hub, and the users who could connect.
     pub(crate) fn into_parts(self) -> (Hub<L>, Users)
-        ensures { result.1 ≡ self.entry.users }
+        ensures { result.1 ≡ self.users }
     {
         let SharedSession { hub, users, .. } = self;
         (hub, users)
