@@ -53,7 +53,7 @@ Shows inlet (calls.Pause waited) left = left.seen ≡ 0
 Shows inlet (calls.Hand None) left = left ≡ inlet
 Shows inlet (calls.Hand (Some is_extra)) left =
     (handed : HandedStream) × (handed.is_extra ≡ is_extra) × (left ≡ record inlet { handed = Some handed })
-Shows inlet (calls.Ask look) left = (left ≡ inlet) × (was : Looks) × (then : Looks) × Asks was look then
+Shows inlet (calls.Ask look) left = (left ≡ inlet) × (was : Looks) × (asked : Looks) × Asks was look asked
 Shows inlet (calls.Know count learned next) left =
     (left ≡ inlet) × (looks : Looks) × (known : Option KnownUsers) × TellsOf looks count known
     × (learned ≡ option_map learned_of known) × (next ≡ count_after count known)
