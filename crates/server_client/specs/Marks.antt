@@ -1,5 +1,6 @@
--- When a file was written, and the mark beside a socket.
+-- What the system says of files and does with connections, and the mark beside a socket.
 use Rattle.std.specs.Prelude.{◌≡◌, ◌⊎◌, ℕ, ℤ, ◌<ℤ◌, ◌≤ℤ◌, Bool, false, MatchBool, List, [], ◌++◌, codes, Option, Some}
+use Rattle.std.specs.declared.net.unix.UnixStream.{UnixStream}
 use Rattle.client_peer.specs.declared.meeting.SessionMark.{SessionMark}
 
 -- a time, in seconds and nanoseconds, that isn't before another one
@@ -11,14 +12,28 @@ abbrev pub IsAsNew : Option (ℤ × ℤ) → Option (ℤ × ℤ) → Type 0
 IsAsNew (Some it) (Some other) = IsNoEarlier it other
 IsAsNew it other = ⊥
 
--- What files say: this was read of one, nothing was, and one was written at this time, if there is one.
+-- What files say: whether one is there, this was read of one, nothing was, and one was written at this time, if there
+-- is one. What was done with connections: one was made to a socket, one took these bytes, and the sending side of one
+-- was ended.
 pub record Disk : Type 1 where
+  pub stands : List ℕ → Bool → Type 0
   pub has : List ℕ → List ℕ → Type 0
   pub lacks : List ℕ → Type 0
   pub is_of : List ℕ → Option (ℤ × ℤ) → Type 0
+  pub reached : List ℕ → UnixStream → Type 0
+  pub took : UnixStream → List ℕ → Type 0
+  pub ended : UnixStream → Type 0
 
 abbrev pub anything : Disk
-anything = record { has = λ path bytes. Unit {0}; lacks = λ path. Unit {0}; is_of = λ path time. Unit {0} }
+anything = record {
+  stands = λ path is. Unit {0};
+  has = λ path bytes. Unit {0};
+  lacks = λ path. Unit {0};
+  is_of = λ path time. Unit {0};
+  reached = λ path stream. Unit {0};
+  took = λ stream bytes. Unit {0};
+  ended = λ stream. Unit {0};
+}
 
 -- The answer is what the times say at which two files were written.
 pub record Compares (disk : Disk) (path other : List ℕ) (is_new : Bool) : Type 0 where

@@ -1,6 +1,6 @@
 //! The files beside a socket, and the mark that one of them makes.
 
-ghost use Rattle.std.specs.Prelude.{◌↔◌, IfOk, IsTrue, MatchOption};
+ghost use Rattle.std.specs.Prelude.{◌↔◌, IfOk, IsTrue, MatchOption, OnOk};
 ghost use Rattle.server_client.specs.Marks.{Compares, Disk, IsMarkOf, IsNoEarlier, anything};
 
 use client_peer::SessionMark;
@@ -8,6 +8,7 @@ use client_words::Arguments;
 use std::alloc::{AllocError, Global};
 use std::fs::File;
 use std::io::Write;
+use std::net::Shutdown;
 use std::os::unix::fs::MetadataExt;
 use std::os::unix::net::UnixStream;
 use std::{fs, io};
@@ -18,13 +19,23 @@ const MOST_BESIDE: u64 = 65_536;
 /// Something that connects to a server's socket, and looks at what stands beside it. (A thread can't be handed `Net` or
 /// `Files`, which have types of their own.)
 pub trait Connects {
-    /// What the files say.
+    /// What the files say, and what was done with connections.
     ghost disk: { Self → Disk };
 
-    fn reach(&self, socket: &str) -> io::Result<UnixStream>;
+    fn reach(&self, socket: &str) -> io::Result<UnixStream>
+        ensures { IfOk result ((disk self.now).reached socket.now) };
+
+    /// Sends bytes on a connection.
+    fn send_all(&self, stream: &UnixStream, bytes: &[u8]) -> io::Result<()>
+        ensures { OnOk result ((disk self.now).took stream.now bytes.now) };
+
+    /// Ends the sending side of a connection.
+    fn shut(&self, stream: &UnixStream) -> io::Result<()>
+        ensures { OnOk result ((disk self.now).ended stream.now) };
 
     /// Whether there is a file.
-    fn is_there(&self, path: &str) -> bool;
+    fn is_there(&self, path: &str) -> bool
+        ensures { (disk self.now).stands path.now result };
 
     /// Reads a short plain file. None if there is none, or if it can't be read.
     fn read_beside(&self, path: &str) -> Option<Vec<u8>>
@@ -41,6 +52,15 @@ impl Connects for HostRuntime {
 
     fn reach(&self, socket: &str) -> io::Result<UnixStream> {
         UnixStream::connect(self, socket)
+    }
+
+    fn send_all(&self, stream: &UnixStream, bytes: &[u8]) -> io::Result<()> {
+        let mut writer = stream;
+        writer.write_all(bytes)
+    }
+
+    fn shut(&self, stream: &UnixStream) -> io::Result<()> {
+        stream.shutdown(Shutdown::Write)
     }
 
     fn is_there(&self, path: &str) -> bool {

@@ -13,15 +13,15 @@ use std::io::Write;
 /// How a peer ended.
 #[derive(Drop)]
 pub struct PeerEnding {
-    pub end: Result<Why, PeerFault>,
+    end: Result<Why, PeerFault>,
     /// The session's last text before it let the peer in.
-    pub said: Option<String>,
-    pub has_dropped: bool,
+    said: Option<String>,
+    has_dropped: bool,
     /// The user left by the byte that leaves.
-    pub has_left: bool,
-    pub was_welcome: bool,
+    has_left: bool,
+    was_welcome: bool,
     /// Nothing said that the session at the socket is the one before.
-    pub is_unsure: bool,
+    is_unsure: bool,
 }
 
 impl PeerEnding {

@@ -1,7 +1,7 @@
 //! The connection with its first frame, and the files that the arguments name.
 
-ghost use Rattle.std.specs.Prelude.{◌≡◌, [], true, IfOk};
-ghost use Rattle.server_client.specs.Opening.{BeginsWith, IsAtSession, LeadsBack, LeadsTo};
+ghost use Rattle.std.specs.Prelude.{◌≡◌, true, IfOk, OnOk};
+ghost use Rattle.server_client.specs.Opening.{Begins, BeginsWith, IsAtSession, IsOpened, LeadsAtOnce, LeadsBack};
 
 use crate::PeerHost;
 use crate::beside::mark_of;
@@ -10,7 +10,6 @@ use client_words::{Arguments, PeerFault, RefusedPart, Subcommand};
 use std::alloc::Global;
 use std::fs::{File, OpenOptions};
 use std::io::{ErrorKind, Write};
-use std::net::Shutdown;
 use std::os::fd::AsRawFd;
 use std::os::unix::fs::MetadataExt;
 use std::os::unix::net::UnixStream;
@@ -31,13 +30,9 @@ const OTHERS_WRITE: u32 = 0o022;
 
 // A fault of the arguments, whatever the token is.
 fn judge_arguments(alloc: Global, arguments: &Arguments<'_>) -> Result<(), PeerFault> {
-    let Some(zeros) = Token::read(&[b'0'; 64]) else {
-        return Err(PeerFault::NoToken);
-    };
-    match arguments.first_frame(alloc, zeros) {
-        Ok(_) => Ok(()),
-        Err(fault) => Err(PeerFault::from(fault)),
-    }
+    let zeros = Token::read(&[b'0'; 64]).ok_or(PeerFault::NoToken)?;
+    arguments.first_frame(alloc, zeros)?;
+    Ok(())
 }
 
 // Whether a file's mode has one of these bits. A terminal or a pipe isn't a file here.
@@ -106,21 +101,15 @@ fn sizes_of<R: fs::Files<File = File>>(
     rt: &R,
     arguments: &Arguments<'_>,
 ) -> Result<SizesFiles, PeerFault> {
-    let mut files = SizesFiles {
-        asked: None,
-        told: None,
-    };
+    let (mut asked, mut told) = (None, None);
     if let Some(path) = arguments.sizes {
-        let file = match open_sizes(rt, arguments.subcommand, path) {
-            Ok(file) => file,
+        match open_sizes(rt, arguments.subcommand, path) {
+            Ok(file) if arguments.subcommand.is_attach() => asked = Some(file),
+            Ok(file) => told = Some(file),
             Err(error) => return Err(PeerFault::Refused(RefusedPart::Sizes, error)),
-        };
-        match arguments.subcommand {
-            Subcommand::Attach => files.asked = Some(file),
-            _ => files.told = Some(file),
         }
     }
-    Ok(files)
+    Ok(SizesFiles { asked, told })
 }
 
 /// The socket to connect to, and the first frame to send.
@@ -138,12 +127,14 @@ pub struct Door {
 
 impl Door {
     // Sends the first frame; if there is none, ends the sending side.
-    fn begin(&self, stream: &UnixStream) -> io::Result<()> {
+    fn begin<R: PeerHost>(&self, rt: &R, stream: &UnixStream) -> io::Result<()>
+        requires { IsAtSession (R.disk rt.now) self.now }
+        ensures { OnOk result (Begins (R.disk rt.now) self.now.frame.items stream.now) }
+    {
         if self.frame.is_empty() {
-            return stream.shutdown(Shutdown::Write);
+            return rt.shut(stream);
         }
-        let mut writer = stream;
-        writer.write_all(&self.frame)?;
+        rt.send_all(stream, &self.frame)?;
         if self.can_leave {
             stream.set_write_timeout(Some(Duration::from_millis(PATIENCE)))?;
         }
@@ -152,7 +143,7 @@ impl Door {
 
     /// Makes the connection. A window that comes back shows itself to no other session.
     pub fn open<R: PeerHost>(&self, rt: &R) -> Result<UnixStream, PeerFault>
-        ensures { IfOk result (λ stream. IsAtSession (R.disk rt.now) self.now) }
+        ensures { IfOk result (IsOpened (R.disk rt.now) self.now) }
     {
         match rt.reach(self.socket.as_str()) {
             Ok(stream) => {
@@ -161,7 +152,7 @@ impl Door {
                     return Err(PeerFault::NoServer);
                 }
                 thread::sleep(rt, Duration::from_millis(self.grace));
-                match self.begin(&stream) {
+                match self.begin(rt, &stream) {
                     Ok(()) => Ok(stream),
                     Err(error) => Err(PeerFault::Refused(RefusedPart::Stream, error)),
                 }
@@ -206,7 +197,7 @@ fn door_for<R: fs::Files<File = File> + AllocGlobal>(
     rt: &R,
     arguments: &Arguments<'_>,
 ) -> Result<Door, PeerFault>
-    ensures { IfOk result (λ door. LeadsTo arguments.now door × (door.session.items ≡ [])) }
+    ensures { IfOk result (LeadsAtOnce arguments.now) }
 {
     Ok(Door {
         frame: frame_for(rt, arguments)?,
@@ -238,22 +229,14 @@ pub fn another_door<R: fs::Files<File = File> + AllocGlobal>(
     Ok(door)
 }
 
-// Opens /dev/null in the place of a closed standard stream. Returns whether one was closed.
-fn fill<R: fs::Files<File = File>>(rt: &R, kept: &mut Vec<File>) -> io::Result<bool> {
-    let file = fs::open(rt, "/dev/null")?;
-    if file.as_raw_fd() > 2 {
-        return Ok(false);
-    }
-    kept.push(file)?;
-    Ok(true)
-}
-
 // Opens /dev/null for each closed standard stream, so that no other file becomes one.
 fn fill_closed<R: fs::Files<File = File>>(rt: &R, kept: &mut Vec<File>) -> io::Result<()> {
     for _ in 0..3 {
-        if !fill(rt, kept)? {
+        let file = fs::open(rt, "/dev/null")?;
+        if file.as_raw_fd() > 2 {
             break;
         }
+        kept.push(file)?;
     }
     Ok(())
 }
@@ -266,12 +249,9 @@ pub fn prepare<R: fs::Files<File = File> + AllocGlobal>(
     arguments: &Arguments<'_>,
     kept: &mut Vec<File>,
 ) -> Result<(Door, SizesFiles), PeerFault>
-    ensures { IfOk result (λ made. LeadsTo arguments.now made.0) }
+    ensures { IfOk result (λ made. LeadsAtOnce arguments.now made.0) }
 {
     fill_closed(rt, kept)?;
     let door = door_for(rt, arguments)?;
-    match sizes_of(rt, arguments) {
-        Ok(files) => Ok((door, files)),
-        Err(fault) => Err(fault),
-    }
+    Ok((door, sizes_of(rt, arguments)?))
 }

@@ -1,5 +1,9 @@
 //! What the threads of a peer share, and how they begin.
 
+ghost use Rattle.std.specs.Prelude.{◌≡◌, Bool};
+ghost use Rattle.client_peer.specs.Meeting.{Learns, Meets};
+ghost use Rattle.client_peer.specs.declared.meeting.Meeting.TheVariants.{Same};
+ghost use Rattle.server_client.specs.Comebacks.{BeginsAgain};
 ghost use Rattle.server_client.specs.Marks.{IsMarkOf};
 
 use crate::PeerHost;
@@ -23,6 +27,35 @@ pub struct PeerSeat {
 }
 
 impl PeerSeat {
+    /// Begins another connection, if the peer meets its session at the socket.
+    pub fn begin<R: PeerHost>(
+        &mut self,
+        rt: &R,
+        arguments: &Arguments<'_>,
+        mark: &SessionMark,
+    ) -> Meeting
+        requires { IsMarkOf (R.disk rt.now) arguments.now.socket.now mark.now }
+        ensures meets { Meets self.old.peer mark.now result }
+        ensures begins { result ≡ Same → BeginsAgain self.old self.new }
+        ensures stays { (result ≡ Same → ⊥) → self.new ≡ self.old }
+    {
+        let met = self.peer.begin(mark);
+        if met == Meeting::Same {
+            self.reader = Reader::new(rt.alloc(), Side::Peer);
+            self.stream = None;
+        }
+        met
+    }
+
+    /// Takes the session's name for the peer, as long as its server is there.
+    pub fn learn<R: PeerHost>(&mut self, _rt: &R, arguments: &Arguments<'_>, mark: SessionMark)
+        requires { IsMarkOf (R.disk _rt.now) arguments.now.socket.now mark }
+        ensures { (is_here : Bool) × Learns self.old.peer mark is_here self.new.peer }
+    {
+        let is_here = self.is_here();
+        self.peer.learn(mark, is_here);
+    }
+
     /// Whether the server is there that the peer is connected to.
     pub fn is_here(&self) -> bool {
         match &self.stream {
@@ -55,33 +88,6 @@ impl SharedPeer {
             news: Condvar::new(),
             work: Condvar::new(),
         }
-    }
-
-    /// Begins another connection, if the peer meets its session at the socket.
-    pub fn begin<R: PeerHost + Wait>(
-        &self,
-        rt: &R,
-        arguments: &Arguments<'_>,
-        mark: &SessionMark,
-    ) -> Meeting
-        requires { IsMarkOf (R.disk rt.now) arguments.now.socket.now mark.now }
-    {
-        let mut seat = self.seat.lock(rt);
-        let met = seat.peer.begin(mark);
-        if met == Meeting::Same {
-            seat.reader = Reader::new(self.alloc, Side::Peer);
-            seat.stream = None;
-        }
-        met
-    }
-
-    /// Takes the session's name for the peer, as long as its server is there.
-    pub fn learn<R: PeerHost + Wait>(&self, rt: &R, arguments: &Arguments<'_>, mark: SessionMark)
-        requires { IsMarkOf (R.disk rt.now) arguments.now.socket.now mark }
-    {
-        let mut seat = self.seat.lock(rt);
-        let is_here = seat.is_here();
-        seat.peer.learn(mark, is_here);
     }
 
     /// Wakes all threads.

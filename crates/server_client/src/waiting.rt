@@ -1,8 +1,9 @@
 //! Waits for a peer's end, and does in time what it does by itself.
 
-ghost use Rattle.std.specs.Prelude.{◌≡◌};
-ghost use Rattle.server_client.specs.Comebacks.{LetsPass, WaitsForMark};
-ghost use Rattle.server_client.specs.Lines.{has_line};
+ghost use Rattle.std.specs.Prelude.{◌≡◌, ◌++◌, Bool, IfOk};
+ghost use Rattle.client_peer.specs.declared.meeting.Meeting.TheVariants.{Same};
+ghost use Rattle.server_client.specs.Comebacks.{Judges, LetsPass, OpensAgain, Returns, WaitsForMark};
+ghost use Rattle.server_client.specs.Lines.{IsHidden, has_line};
 ghost use Rattle.server_client.specs.Marks.{IsMarkOf};
 
 use crate::attach::Sources;
@@ -10,10 +11,10 @@ use crate::beside::mark_of;
 use crate::ending::PeerEnding;
 use crate::opening::{Door, another_door};
 use crate::reading::serve;
-use crate::shared::{SharedPeer, start_thread};
+use crate::shared::{PeerSeat, SharedPeer, start_thread};
 use crate::writing::send;
 use crate::{PeerHost, Source};
-use client_peer::{Meeting, PeerTask, SessionMark};
+use client_peer::{Meeting, Peer, PeerTask, SessionMark};
 use client_words::{Arguments, PeerFault};
 use std::alloc::{AllocError, Global};
 use std::fs::{File, Files};
@@ -106,11 +107,11 @@ fn look<R: PeerHost + Wait>(rt: &R, shared: &SharedPeer, began: Option<Instant>)
 
 // Whether there is a file beside the socket: .again after a planned end of a server that starts again,
 // .pending while windows of the session before come back.
-fn is_beside<R: PeerHost>(rt: &R, arguments: &Arguments<'_>, name: &str) -> bool {
-    match format!(in rt.alloc(); "{}{}", arguments.socket, name) {
-        Ok(path) => rt.is_there(path.as_str()),
-        Err(_) => false,
-    }
+fn is_beside<R: PeerHost>(rt: &R, socket: &str, name: &str) -> Result<bool, AllocError>
+    ensures { IfOk result ((R.disk rt.now).stands (socket.now ++ name.now)) }
+{
+    let path = format!(in rt.alloc(); "{socket}{name}")?;
+    Ok(rt.is_there(path.as_str()))
 }
 
 // Whether the socket's folder is there. Without it no server comes back.
@@ -133,16 +134,16 @@ pub fn start<R: PeerHost + Threads + Wait>(
 
 // Whether the next server must not be told a window's page, since a command has cleared it, or this isn't known.
 // SOCKET.restoring has a line for each such window, with its user and the number that it had.
-fn is_hidden<R: PeerHost>(rt: &R, arguments: &Arguments<'_>, number: u8) -> bool {
-    let line = format!(in rt.alloc(); "{} {number}", arguments.user);
-    let path = format!(in rt.alloc(); "{}.restoring", arguments.socket);
-    let (Ok(line), Ok(path)) = (line, path) else {
-        return true;
-    };
-    match rt.read_beside(path.as_str()) {
+fn is_hidden<R: PeerHost>(rt: &R, arguments: &Arguments<'_>, number: u8) -> Result<bool, AllocError>
+    ensures { IfOk result (IsHidden (R.disk rt.now) arguments.now number) }
+{
+    let (socket, user) = (arguments.socket, arguments.user);
+    let path = format!(in rt.alloc(); "{socket}.restoring")?;
+    let line = format!(in rt.alloc(); "{user} {number}")?;
+    Ok(match rt.read_beside(path.as_str()) {
         Some(lines) => has_line(&lines, line.as_bytes()),
         None => true,
-    }
+    })
 }
 
 fn has_line(lines: &[u8], wanted: &[u8]) -> bool
@@ -154,36 +155,36 @@ fn has_line(lines: &[u8], wanted: &[u8]) -> bool
 }
 
 // What comes of what the peer met. A window waits for a mark of the server that made the socket, but not for long.
-fn judge<R: PeerHost + Wait>(
+fn judge<R: PeerHost>(
     rt: &R,
-    shared: &SharedPeer,
+    peer: &mut Peer,
     arguments: &Arguments<'_>,
     comeback: &mut Comeback,
     met: Meeting,
-) {
-    let is_here = met == Meeting::Older && is_beside(rt, arguments, "");
-    if !comeback.waits(met, is_here) && met != Meeting::Same {
-        shared.seat.lock(rt).peer.stay_away(met);
+)
+    ensures counts { (is_here waits : Bool) × (R.disk rt.now).stands arguments.now.socket.now is_here
+        × WaitsForMark comeback.old met is_here waits comeback.new × Judges met waits peer.old peer.new }
+{
+    let waits = comeback.waits(met, rt.is_there(arguments.socket));
+    if !waits && met != Meeting::Same {
+        peer.stay_away(met);
     }
 }
 
 // Opens a window again in a server that has let it in, if what stands beside the socket is that server's.
-fn open_again<R: PeerHost + Wait>(
+fn open_again<R: PeerHost>(
     rt: &R,
-    shared: &SharedPeer,
+    seat: &mut PeerSeat,
     arguments: &Arguments<'_>,
     mark: &SessionMark,
 ) -> Result<Meeting, AllocError>
     requires { IsMarkOf (R.disk rt.now) arguments.now.socket.now mark.now }
+    ensures { IfOk result (λ met. met ≡ Same
+        → OpensAgain (R.disk rt.now) arguments.now seat.old.peer seat.new.peer) }
 {
-    let mut seat = shared.seat.lock(rt);
-    let is_hidden = is_hidden(rt, arguments, seat.peer.page_number);
+    let is_hidden = is_hidden(rt, arguments, seat.peer.page_number)?;
     let is_here = seat.is_here();
-    let opened = seat.peer.reopen(mark, is_here, is_hidden);
-    if opened.is_err() {
-        seat.peer.end_by(Err(PeerFault::NoMemory));
-    }
-    opened
+    seat.peer.reopen(mark, is_here, is_hidden)
 }
 
 // Tries to open the window again by the mark as it is now. While it may be an earlier server's mark, it rests a moment.
@@ -196,13 +197,16 @@ fn reopen<R: PeerHost + Wait>(
     let Ok(mark) = mark_of(rt, arguments.socket) else {
         return thread::sleep(rt, Duration::from_millis(PAUSE));
     };
-    let opened = open_again(rt, shared, arguments, &mark);
+    let mut seat = shared.seat.lock(rt);
+    let opened = open_again(rt, &mut seat, arguments, &mark);
+    match opened {
+        Ok(met) => judge(rt, &mut seat.peer, arguments, comeback, met),
+        Err(_) => seat.peer.end_by(Err(PeerFault::NoMemory)),
+    }
+    drop(seat);
     shared.work.notify_all();
-    if let Ok(met) = opened {
-        judge(rt, shared, arguments, comeback, met);
-        if met == Meeting::Older {
-            thread::sleep(rt, Duration::from_millis(PAUSE));
-        }
+    if matches!(opened, Ok(Meeting::Older)) {
+        thread::sleep(rt, Duration::from_millis(PAUSE));
     }
 }
 
@@ -218,7 +222,7 @@ fn learn<R: PeerHost + Wait>(
         if let Ok(mark) = mark_of(rt, arguments.socket)
             && (arguments.subcommand.is_attach() || mark.is_current || mark.name.is_empty())
         {
-            shared.learn(rt, arguments, mark);
+            shared.seat.lock(rt).learn(rt, arguments, mark);
             return true;
         }
         thread::sleep(rt, Duration::from_millis(PAUSE));
@@ -234,20 +238,34 @@ fn come_back<R: PeerHost + Threads + Wait + Files<File = File>>(
     comeback: &mut Comeback,
 ) -> Result<(), PeerFault> {
     thread::sleep(rt, Duration::from_millis(PAUSE));
-    let is_pending = arguments.subcommand.is_attach() && is_beside(rt, arguments, ".pending");
+    let is_pending = arguments.subcommand.is_attach()
+        && is_beside(rt, arguments.socket, ".pending")?;
     if comeback.lets_pass(is_pending) {
         return Ok(());
     }
     let mark = mark_of(rt, arguments.socket)?;
-    let met = shared.begin(rt, arguments, &mark);
-    judge(rt, shared, arguments, comeback, met);
+    let mut seat = shared.seat.lock(rt);
+    let met = seat.begin(rt, arguments, &mark);
+    judge(rt, &mut seat.peer, arguments, comeback, met);
     if met != Meeting::Same {
         return Ok(());
     }
-    let seat = shared.seat.lock(rt);
     let size = (seat.peer.rows, seat.peer.columns);
     drop(seat);
     start(rt, shared, another_door(rt, arguments, size, mark.name)?)
+}
+
+// Decides whether the peer comes back after its connection has ended, by what stands beside the socket.
+fn returns<R: PeerHost>(
+    rt: &R,
+    peer: &mut Peer,
+    arguments: &Arguments<'_>,
+    time: u64,
+) -> Result<bool, AllocError>
+    ensures { IfOk result (λ comes. Returns (R.disk rt.now) arguments.now time comes peer.old peer.new) }
+{
+    let is_planned = is_beside(rt, arguments.socket, ".again")?;
+    peer.comes_back(time, is_planned, has_place(rt, arguments))
 }
 
 // Asks whether the peer comes back after its connection has ended, and lets it.
@@ -258,10 +276,7 @@ fn ask<R: PeerHost + Threads + Wait + Files<File = File>>(
     time: u64,
     comeback: &mut Comeback,
 ) {
-    let (is_planned, has_place) = (is_beside(rt, arguments, ".again"), has_place(rt, arguments));
-    let mut seat = shared.seat.lock(rt);
-    let comes_back = seat.peer.comes_back(time, is_planned, has_place);
-    drop(seat);
+    let comes_back = returns(rt, &mut shared.seat.lock(rt).peer, arguments, time);
     let Ok(comes_back) = comes_back else {
         return thread::sleep(rt, Duration::from_millis(PAUSE));
     };

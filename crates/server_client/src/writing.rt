@@ -90,16 +90,8 @@ fn send_some<S: Write>(stream: &mut S, batch: &mut Batch) -> bool
 // Takes the frames that wait, with their connection.
 fn begin<R: Wait>(rt: &R, shared: &SharedPeer) -> Option<(Batch, Arc<UnixStream, Global>)> {
     let mut seat = shared.seat.lock(rt);
-    let Some(stream) = &seat.stream else {
-        return None;
-    };
-    let Ok(stream) = Arc::try_clone(stream) else {
-        return None;
-    };
-    let Some(batch) = seat.peer.begin_sending() else {
-        return None;
-    };
-    Some((batch, stream))
+    let stream = Arc::try_clone(seat.stream.as_ref()?).ok()?;
+    Some((seat.peer.begin_sending()?, stream))
 }
 
 /// Sends the frames that wait, unless another thread does. Some may be left if the socket has a time

@@ -11,7 +11,8 @@ returns-after-mark g c = λ yes some. elim c.if-mark.branch [
   | then-mark w ↦
       let same : w.eq.result ≡ true = sym w.result-is ∙ yes in (
         c.in-Ok.mark,
-        subst (λ (s : List ℕ). IsMarkOf (g.R.Connects.disk c.args.rt.now) s c.in-Ok.mark) c.as_str.ensures.value c.in-Ok.ensures,
+        subst (λ (s : List ℕ). IsMarkOf (g.R.Connects.disk c.args.rt.now) s c.in-Ok.mark) c.as_str.ensures.value
+            c.in-Ok.ensures,
         search (rules, tests),
         w.if-mark.true,
       )
