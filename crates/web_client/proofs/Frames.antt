@@ -1,8 +1,6 @@
 -- Frames that are read one after another.
-use Rattle.std.proofs.Common.{◌≡◌, ◌⊎◌, ℕ, suc, ◌+◌, ◌<◌, false, List, ◌++◌, take}
-use Rattle.std.proofs.Common.{drop, length, Option, option_map}
-use Rattle.std.proofs.Common.{Result, Ok, Err}
-use Rattle.std.proofs.Common.{◌≤◌, ◌-◌, refl, sym, ap, ◌∙◌, subst, inl, inr, arith, append_assoc}
+use Rattle.std.proofs.Common.{◌≡◌, ◌⊎◌, ℕ, suc, ◌+◌, false, List, ◌++◌, take, drop, length, Option, option_map, Result}
+use Rattle.std.proofs.Common.{Ok, Err, ◌≤◌, ◌-◌, refl, sym, ap, ◌∙◌, subst, inl, inr, arith, append_assoc}
 use Rattle.std.proofs.Math.Seq.{take-append_seam}
 use Rattle.std.proofs.lemmas.List.{drop-drop, drop-take, drop_at, length-take}
 use Rattle.websocket.specs.declared.error.Error.{Error}
@@ -16,9 +14,8 @@ use Rattle.web_client.specs.declared.identity.Identity.{Identity}
 use Rattle.web_client.specs.declared.wire.Phase.TheVariants.{Socket, Last}
 use Rattle.web_client.specs.declared.frame.PageFrame.{PageFrame}
 use Rattle.web_client.specs.declared.frame.PageFrame.TheVariants as frame
-use Rattle.web_client.specs.Frames.{Page, Says, SaysNothing, Closes, IsSaid, BeginsWith, IsRead, Reads}
-use Rattle.web_client.specs.Frames.{GoesOn, EndsWith, TakesMessage, answered_after}
-use Rattle.web_client.specs.Frames.{TakesFrame, TakesFrames, EndsAt, TakesSome}
+use Rattle.web_client.specs.Frames.{Page, Says, SaysNothing, Closes, IsSaid, BeginsWith, IsRead, Reads, GoesOn}
+use Rattle.web_client.specs.Frames.{EndsWith, TakesMessage, answered_after, TakesFrame, TakesFrames, EndsAt, TakesSome}
 
 -- what was lent of a list from a place on, and given back
 pub behind : (n k : ℕ) (a r post rest : List ℕ) → n ≤ length a → k ≡ length a → length r ≡ length a - n

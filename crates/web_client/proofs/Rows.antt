@@ -1,6 +1,6 @@
 -- Bytes that are added for a browser.
 use Rattle.std.proofs.Common.{◌≡◌, ℕ, List, [], ◌++◌, Option, None, Some, Result, Ok, Err, OnOk, sym, ap, ◌∙◌}
-use Rattle.std.proofs.Common.{append_assoc, append-nil, inl, inr, length, ◌||◌}
+use Rattle.std.proofs.Common.{append_assoc, append-nil, inl, inr, length, ◌||◌, subst}
 use Rattle.std.specs.Int.{w64, to_be_bytes}
 use Rattle.terminal_model.specs.Reading.{Terminal}
 use Rattle.emulator.specs.Standing.{StandsFor}
@@ -18,7 +18,6 @@ use Rattle.web_page.specs.Hearing.{WebDisplay}
 use Rattle.web_page.specs.Updates.{spelled}
 use Rattle.attach_proto.specs.declared.why.Told.{Told}
 use Rattle.attach_proto.specs.declared.why.Why.{Why}
-use Rattle.std.proofs.Common.{subst}
 use Rattle.web_client.specs.Rows.{SendsText, Asks, Adds, IsAsFar, IsUpToDate, SendsPage, Shows, counted}
 use Rattle.web_client.specs.Rows.{MaySendRows, Welcomes, Explains, Ends, TellsLast, SendsAll, gone}
 

@@ -1,6 +1,5 @@
 -- A display has nothing of a token.
-use Rattle.std.proofs.Common.{◌≡◌, ℕ, ◌+◌, ◌*◌, ◌<◌, min, max, List, take, drop, get_or}
-use Rattle.std.proofs.Common.{sym, ap, ◌∙◌, subst, lit<}
+use Rattle.std.proofs.Common.{◌≡◌, ℕ, ◌+◌, ◌*◌, ◌<◌, min, max, List, take, drop, get_or, sym, ap, ◌∙◌, subst, lit<}
 use Rattle.std.proofs.lemmas.List.{get_or-take}
 use Rattle.attach_proto.specs.declared.why.Told.{Told}
 use Rattle.attach_proto.specs.Streams.{Reading}

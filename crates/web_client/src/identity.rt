@@ -1,7 +1,6 @@
 //! What a browser's page asks for: one message is a frame of the server without its length.
 
-ghost use Rattle.std.specs.Prelude.{◌≡◌, ◌+◌, ◌-◌, ◌*◌, ◌%◌, ◌<◌, ◌∷◌, max, length, None};
-ghost use Rattle.std.specs.Prelude.{IfOk, IfSome, OnOk, OnErr};
+ghost use Rattle.std.specs.Prelude.{◌≡◌, ◌+◌, ◌-◌, ◌*◌, ◌%◌, ◌<◌, ◌∷◌, max, length, None, IfOk, IfSome, OnOk, OnErr};
 ghost use Rattle.web_client.specs.Asking.{lines_in, columns_in, IsNoName, IsAttached, IsShared};
 ghost use Rattle.web_client.specs.Asking.{Begins, Watches, Passes, Takes, Keeps, Asks};
 ghost use Rattle.web_client.specs.Judging.{IsSize, IsAttach, IsTyped, IsPublic, IsFirst, IsAsking, IsWatching};

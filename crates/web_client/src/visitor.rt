@@ -1,7 +1,6 @@
 //! A browser's connection: its request, its messages, and who it is.
 
-ghost use Rattle.std.specs.Prelude.{◌≡◌, ◌↔◌, ◌⊎◌, drop, IfOk, OnOk, OnErr, IfErr, IsTrue, ◌<◌, ◌≤◌, []};
-ghost use Rattle.std.specs.Prelude.{length, false, true, codes, vec_len};
+ghost use Rattle.std.specs.Prelude.{◌≡◌, ◌↔◌, ◌<◌, ◌≤◌, [], IfErr, IfOk, IsTrue, OnErr, OnOk, codes, false, vec_len};
 ghost use Rattle.web_client.specs.Asking.{Asks};
 ghost use Rattle.web_streams.specs.Streaming.{Receives, WritesOut};
 ghost use Rattle.web_client.specs.Judging.{IsAllowed};

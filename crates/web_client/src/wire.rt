@@ -1,6 +1,6 @@
 //! What a browser is sent over its connection.
 
-ghost use Rattle.std.specs.Prelude.{◌≡◌, ◌↔◌, ◌+◌, ◌≤◌, [], length, drop, IfOk, OnOk, IfErr, IsTrue, ◌||◌};
+ghost use Rattle.std.specs.Prelude.{◌≡◌, ◌↔◌, ◌≤◌, [], length, drop, IfOk, OnOk, IfErr, IsTrue, ◌||◌};
 ghost use Rattle.terminal_model.specs.Reading.{Terminal};
 ghost use Rattle.emulator.specs.Standing.{StandsFor};
 ghost use Rattle.web_page.specs.Laying.{Shown, page_of};

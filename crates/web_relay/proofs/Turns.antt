@@ -2,9 +2,8 @@
 use Rattle.web_relay.proofs.Vocabulary.{◌≡◌, ◌≢◌, ℕ, suc, ◌+◌, ◌≤◌, ◌<◌, List, [], refl, sym, subst, ◌∙◌, inl, inr}
 use Rattle.web_relay.proofs.Vocabulary.{Bool, true, false, Option, Some, None, ap, length, arith, Result, Ok, Err}
 use Rattle.web_relay.proofs.Vocabulary.{OnErr, count_by, IfSome, cases_lt, Slab, get, Hall, Renews, HallNumber, AtBoth}
-use Rattle.std.proofs.Common.{◌∷◌, ◌==◌, if◌then◌else◌, get_or}
+use Rattle.std.proofs.Common.{◌∷◌, ◌==◌, if◌then◌else◌, get_or, get_or-set_same}
 use Rattle.std.specs.Prelude.{IfOk, OnSome, is_some}
-use Rattle.std.proofs.Common.{get_or-set_same}
 use Rattle.std.proofs.lemmas.List.{get_or_past}
 use Rattle.slab.specs.Slab.{Updates, with_value}
 use Rattle.web_relay.specs.Halls.{IsNewer, Opening, hall_of, with_serial}
@@ -42,18 +41,19 @@ module _ {S : Type 0} (P : ℕ → Option (Hall S) → Option (Hall S) → Type 
             (subst (λ (v : Option (Hall S)). P q None v) (sym (rest q high ∙ past)) (none q))
       ]
 
-module _ {S : Type 0} (reaches : List ℕ → ℕ → Option S → Type 0) (by : Opening) (early late place : ℕ) where
-  newer-later : (old new : Option (Hall S)) → early ≤ late → IsNewer reaches by late place old new
-      → IsNewer reaches by early place old new
-  newer-later None new le n = n
-  newer-later (Some old) None le n = n
-  newer-later (Some old) (Some new) le n = (n.0, omega (arith, n.1), n.2)
+module _ {S : Type 0} (reaches : List ℕ → ℕ → Option S → Type 0) (by : Opening) (early late first last place : ℕ)
+    (le : early ≤ late) (fits : first ≤ last) where
+  newer-wide : (old new : Option (Hall S)) → IsNewer reaches by late first place old new
+      → IsNewer reaches by early last place old new
+  newer-wide None new n = n
+  newer-wide (Some old) None n = n
+  newer-wide (Some old) (Some new) n = (n.0, omega (arith, le, n.1), omega (arith, fits, n.2), n.3)
 
-  -- a hall that is newer than a later serial
-  pub renews-later : (old new : Option (Hall S)) → early ≤ late → Renews reaches by late place old new
-      → Renews reaches by early place old new
-  renews-later old new le (inl stays) = inl stays
-  renews-later old new le (inr newer) = inr (newer-later old new le newer)
+  -- a hall whose serial is between two that are nearer
+  pub renews-wide : (old new : Option (Hall S)) → Renews reaches by late first place old new
+      → Renews reaches by early last place old new
+  renews-wide old new (inl stays) = inl stays
+  renews-wide old new (inr newer) = inr (newer-wide old new newer)
 
 -- ---- a hall's number
 

@@ -165,11 +165,12 @@ module _ {S : Type 0} (reaches : List ℕ → ℕ → Option S → Type 0) (by :
       IsSomeAnd by.watcher (λ w. IsOpened w size by.now watched hall)
       × ReachesFor reaches woken.Hall place by.socket (Some hall.stream)
 
-  -- A hall opens where none was, with a serial that none had before `next`. If none can be opened, nothing is there.
+  -- A hall opens where none was, with a serial of its own: none has it before or after. If none can be opened, nothing
+  -- is there.
   pub record Opens (size : ℕ × ℕ) (old : Halls S) (opened : Option ℕ) (new : Halls S) : Type 0 where
     pub none : opened ≡ None → SameValues old.list new.list
     pub some : IfSome opened (λ place. (get old.list place ≡ None) × (hall : Hall S)
-        × (hall.serial ≡ old.next) × OpensAt place size by.now hall
+        × (hall.serial ≡ old.next) × (old.next < new.next) × OpensAt place size by.now hall
         × Updates old.list new.list place (Some hall))
     pub next : old.next ≤ new.next
     pub rest : new ≡ record old { list = new.list; next = new.next }
@@ -183,17 +184,17 @@ module _ {S : Type 0} (reaches : List ℕ → ℕ → Option S → Type 0) (by :
     pub opens : HasNone size old.list → slab_len old.list < 8 → (opened : Option ℕ)
         × Opens size old opened new × (found ≡ number_of new.list opened)
 
-  -- a hall of the same size and place, which opens with a serial that none had before `next`
-  abbrev pub IsNewer : ℕ → ℕ → Option (Hall S) → Option (Hall S) → Type 0
-  IsNewer next place None new = ⊥
-  IsNewer next place (Some old) None = IsStuck by.now old
-  IsNewer next place (Some old) (Some new) =
-      IsStuck by.now old × (next ≤ new.serial) × OpensAt place old.size old.watched new
+  -- a hall of the same size and place, which opens with a serial that none had before `next` and none has from `after`
+  abbrev pub IsNewer : (next after place : ℕ) → Option (Hall S) → Option (Hall S) → Type 0
+  IsNewer next after place None new = ⊥
+  IsNewer next after place (Some old) None = IsStuck by.now old
+  IsNewer next after place (Some old) (Some new) =
+      IsStuck by.now old × (next ≤ new.serial) × (new.serial < after) × OpensAt place old.size old.watched new
 
   -- A hall that is stuck goes, and perhaps another one of its size comes for it. Every other one stays.
-  abbrev pub Renews : ℕ → ℕ → Option (Hall S) → Option (Hall S) → Type 0
-  Renews next place old new =
-      ((IsStuckAt by.now old → ⊥) × (new ≡ old)) ⊎ IsNewer next place old new
+  abbrev pub Renews : (next after place : ℕ) → Option (Hall S) → Option (Hall S) → Type 0
+  Renews next after place old new =
+      ((IsStuckAt by.now old → ⊥) × (new ≡ old)) ⊎ IsNewer next after place old new
 
 module _ {S : Type 0} where
   -- who watches it is noted

@@ -1,8 +1,7 @@
 -- Browsers at their places.
 use Rattle.std.specs.Prelude.{◌≡◌, ◌≢◌, ◌⊎◌, ◌&&◌, ◌==◌, ◌-◌, ◌/◌, ◌≤◌, ℕ, zero, suc, Bool, not, true, false}
-use Rattle.std.specs.Prelude.{if◌then◌else◌}
-use Rattle.std.specs.Prelude.{List, [], Option, Some, None, bytes_eq, IsTrue, ◌↔◌}
-use Rattle.std.specs.Prelude.{IsSomeAnd, ◌<◌, Result, Ok, Err, ⊤}
+use Rattle.std.specs.Prelude.{if◌then◌else◌, List, [], Option, Some, None, bytes_eq, IsTrue, ◌↔◌, IsSomeAnd, ◌<◌}
+use Rattle.std.specs.Prelude.{Result, Ok, Err, ⊤}
 use Rattle.std.specs.declared.io.Error.{Error}
 use Rattle.std.specs.Duration.{as_nanos}
 use Rattle.std.specs.declared.time.Duration.{Duration}

@@ -187,14 +187,14 @@ impl<S: BridgeStream + Drop> Halls<S> {
     ) -> Option<Hall<S>>
         ensures same { self.new ≡ record self.old { next = self.new.next } }
         ensures next { self.old.next ≤ self.new.next }
-        ensures serial { IfSome result (λ hall. hall.serial ≡ self.old.next) }
+        ensures serial { IfSome result (λ hall. (hall.serial ≡ self.old.next) × (self.old.next < self.new.next)) }
         ensures opens { IfSome result (OpensAt S.reaches (opening around.entry) place size around.entry.now) }
     {
         let watcher = around.site.watcher.as_ref()?;
         let client = SharedClient::attach(self.alloc, size.0, size.1, watcher).ok()?;
         let stream = S::reach(rt, around, hall_token(place))?;
         let serial = self.next;
-        self.next = serial.saturating_add(1);
+        self.next = serial.checked_add(1)?;
         Some(Hall {
             serial,
             size,
@@ -250,8 +250,8 @@ impl<S: BridgeStream + Drop> Halls<S> {
 
     // Attaches the client of this place again, if it sees no window.
     fn renew_at<R: Net>(&mut self, rt: &R, around: BridgeContext<'_>, place: usize)
-        ensures renews { Renews S.reaches (opening around.entry) self.old.next place (get self.old.list place)
-            (get self.new.list place) }
+        ensures renews { Renews S.reaches (opening around.entry) self.old.next self.new.next place
+            (get self.old.list place) (get self.new.list place) }
         ensures others { (other : ℕ) → other ≢ place → get self.new.list other ≡ get self.old.list other }
         ensures next { self.old.next ≤ self.new.next }
         ensures same { self.new ≡ record self.old { list = self.new.list; next = self.new.next } }
@@ -270,7 +270,7 @@ impl<S: BridgeStream + Drop> Halls<S> {
     /// Attaches the clients again whose window has closed. They then see the first window that there
     /// is.
     pub fn renew<R: Net>(&mut self, rt: &R, around: BridgeContext<'_>)
-        ensures renews { (place : ℕ) → Renews S.reaches (opening around.entry) self.old.next place
+        ensures renews { (place : ℕ) → Renews S.reaches (opening around.entry) self.old.next self.new.next place
             (get self.old.list place) (get self.new.list place) }
         ensures same { self.new ≡ record self.old { list = self.new.list; next = self.new.next } }
     {

@@ -1,7 +1,7 @@
 //! Connections: of browsers, over an address of this machine or a socket that a web server connects to, and of clients
 //! to the server.
 
-ghost use Rattle.std.specs.Prelude.{◌≡◌};
+ghost use Rattle.std.specs.Prelude.{◌≡◌, ◌+◌, ◌-◌, ◌^◌, min};
 ghost use Rattle.web_streams.specs.Tokens.{IsAccepted, IsTokenOf, woken};
 ghost use Rattle.web_streams.specs.declared.connections.Woken.{Woken};
 
@@ -114,18 +114,32 @@ pub enum Accepted<S> {
     Refused,
 }
 
+/// How often listeners were asked. Each call of `come` counts, so that no answer can be left out.
+#[derive(Drop)]
+pub struct Asked {
+    times: u64,
+}
+
+impl Asked {
+    /// None was asked yet.
+    pub fn new() -> Asked {
+        Asked { times: 0 }
+    }
+}
+
 /// A connection that a bridge makes or takes. Each relation is shown by a call of its function alone.
 pub trait BridgeStream {
     ghost use Rattle.std.specs.Prelude.{◌≡◌, ⊤, ℕ, List, Option, Result};
     ghost use Rattle.std.specs.declared.io.Error.{Error};
     ghost use Rattle.web_streams.specs.declared.connections.Accepted.{Accepted as Came};
+    ghost use Rattle.web_streams.specs.declared.connections.Asked.{Asked as Times};
     ghost use Rattle.web_streams.specs.declared.connections.WebListener.{WebListener as Door};
 
     // A socket's path, the token of a connection to it, and this connection, if one was made.
     ghost reaches: { List ℕ → ℕ → Option Self → Type 0 };
 
-    // A listener, and what came of asking it.
-    ghost comes: { Door → Came Self → Type 0 };
+    // A listener, how often listeners were asked before, what came of asking it, and how often they were asked then.
+    ghost comes: { Door → Times → Came Self → Times → Type 0 };
 
     // A connection, the token that its events are to have, and whether the system watches it.
     ghost wakes: { Self → ℕ → Result ⊤ Error → Type 0 };
@@ -135,8 +149,8 @@ pub trait BridgeStream {
         ensures { reaches around.entry.socket.now token.0 result };
 
     /// Takes the next connection of a listener.
-    fn come(listener: &WebListener) -> Accepted<Self>
-        ensures { comes listener.now result };
+    fn come(listener: &WebListener, asked: &mut Asked) -> Accepted<Self>
+        ensures { comes listener.now asked.old result asked.new };
 
     /// Waits for bytes, and for room.
     fn register(&mut self, registry: &Registry, token: Token) -> io::Result<()>
@@ -180,7 +194,7 @@ fn came_of(answer: io::Result<Stream>) -> Accepted<Stream>
 impl BridgeStream for Stream {
     ghost reaches = { λ path token stream. Unit {0} };
 
-    ghost comes = { λ listener came. Unit {0} };
+    ghost comes = { λ listener old came new. new.times ≡ min (old.times + 1) (2 ^ 64 - 1) };
 
     ghost wakes = { λ stream token watched. Unit {0} };
 
@@ -188,7 +202,8 @@ impl BridgeStream for Stream {
         connect_at(rt, around, token).ok()
     }
 
-    fn come(listener: &WebListener) -> Accepted<Stream> {
+    fn come(listener: &WebListener, asked: &mut Asked) -> Accepted<Stream> {
+        asked.times = asked.times.saturating_add(1);
         came_of(take_next(listener))
     }
 

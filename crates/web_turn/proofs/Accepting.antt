@@ -1,6 +1,7 @@
 -- Who came through one listener more, and when the next round comes at once.
-use Rattle.std.proofs.Common.{◌≡◌, ◌⊎◌, ◌↔◌, ◌||◌, Bool, true, false, IsTrue, List, [], ◌∷◌, length, refl, inl, inr}
-use Rattle.std.proofs.Common.{◌+◌, ◌<◌, ◌≤◌, ℕ, zero, suc, arith, drop, get_or, subst, sym}
+use Rattle.std.proofs.Common.{◌≡◌, ◌⊎◌, ◌↔◌, ◌||◌, Bool, true, false, IsTrue, List, ◌∷◌, length, refl, inl, inr}
+use Rattle.std.proofs.Common.{◌+◌, ◌<◌, ◌≤◌, ℕ, suc, arith, drop, drop-cons, get_or, subst, sym}
+use Rattle.std.proofs.lemmas.List.{drop_all}
 use Rattle.std.specs.declared.time.Duration.{Duration}
 use Rattle.web_streams.specs.declared.connections.BridgeStream.{Ghosts as Makes}
 use Rattle.web_streams.specs.declared.connections.WebListener.{WebListener}
@@ -15,18 +16,6 @@ pub none_more : (a : Bool) → (a || false) ≡ a
 none_more true = refl
 none_more false = refl
 
-drop_at : (ls : List WebListener) (i : ℕ) (d : WebListener) → i < length ls
-    → drop i ls ≡ get_or ls i d ∷ drop (suc i) ls
-drop_at [] i d l = absurd (omega (arith, l))
-drop_at (x ∷ xs) zero d l = refl
-drop_at (x ∷ xs) (suc i) d l = drop_at xs i d (omega (arith, l))
-
-drop_all : (ls : List WebListener) (i : ℕ) → length ls ≤ i → drop i ls ≡ []
-drop_all [] zero l = refl
-drop_all [] (suc i) l = refl
-drop_all (x ∷ xs) zero l = absurd (omega (arith, l))
-drop_all (x ∷ xs) (suc i) l = drop_all xs i (omega (arith, l))
-
 module _ {S : Type 0} (makes : Makes S) (now : Duration) (ls : List WebListener) (i : ℕ) where
   -- those who come through one listener, and through the later ones
   pub one_listener : (d : WebListener) (a m n : Bridge S) (first rest : Bool) → i < length ls
@@ -36,12 +25,12 @@ module _ {S : Type 0} (makes : Makes S) (now : Duration) (ls : List WebListener)
       let next : suc i ≡ i + 1 = omega arith in
       let later : AcceptsAll makes (drop (suc i) ls) now m rest n =
       subst (λ (k : ℕ). AcceptsAll makes (drop k ls) now m rest n) (sym next) all in
-      subst (λ (l : List WebListener). AcceptsAll makes l now a (first || rest) n) (sym (drop_at ls i d l))
+      subst (λ (l : List WebListener). AcceptsAll makes l now a (first || rest) n) (sym (drop-cons ls i d l))
       (m, first, rest, one, later, refl)
 
   pub all_came : (a : Bridge S) → length ls ≤ i → AcceptsAll makes (drop i ls) now a false a
   all_came a l =
-      subst (λ (l : List WebListener). AcceptsAll makes l now a false a) (sym (drop_all ls i l)) (refl, refl)
+      subst (λ (l : List WebListener). AcceptsAll makes l now a false a) (sym (drop_all i ls l)) (refl, refl)
 
 pub busy_if : (more has_work : Bool) (HasWork : Type 0) → (IsTrue has_work ↔ HasWork)
     → (IsTrue (more || has_work) ↔ (HasWork ⊎ (more ≡ true)))

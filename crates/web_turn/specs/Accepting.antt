@@ -5,6 +5,7 @@ use Rattle.slab.specs.Slab.{Slab}
 use Rattle.web_relay.specs.declared.relay.Relay.{Relay}
 use Rattle.web_streams.specs.declared.connections.Accepted.{Accepted}
 use Rattle.web_streams.specs.declared.connections.Accepted.TheVariants.{Came, Nothing, Refused}
+use Rattle.web_streams.specs.declared.connections.Asked.{Asked}
 use Rattle.web_streams.specs.declared.connections.BridgeStream.{Ghosts as Makes}
 use Rattle.web_streams.specs.declared.connections.WebListener.{WebListener}
 use Rattle.web_relay.specs.Places.{IsClosed, LetsIn}
@@ -28,10 +29,11 @@ module _ {S : Type 0} (makes : Makes S) where
   TakesComer Nothing now old came new = (came ≡ false) × (new ≡ old)
   TakesComer Refused now old came new = (came ≡ false) × (new ≡ record old { has_comers = true })
 
-  -- a listener was asked once
+  -- a listener was asked once, and no answer was left out
   abbrev pub AcceptsOne : WebListener → Duration → Bridge S → Bool → Bridge S → Type 0
   AcceptsOne listener now old came new =
-      (answer : Accepted S) × makes.comes listener answer × TakesComer answer now old came new
+      (answer : Accepted S) × (asked : Asked) × makes.comes listener old.asked answer asked
+      × TakesComer answer now (record old { asked = asked }) came new
 
   -- that many browsers came in through a listener, one after another
   abbrev pub AcceptsEach : WebListener → Duration → ℕ → Bridge S → Bridge S → Type 0

@@ -1,7 +1,9 @@
 -- What the files of links say, what a link stands for at a time, and how one is taken.
-use Rattle.std.specs.Prelude.{◌≡◌, ◌⊎◌, ◌<◌, ◌^◌, ◌==◌, ℕ, Bool, List, length, Option, Some, None, if◌then◌else◌}
+use Rattle.std.specs.Prelude.{◌≡◌, ◌⊎◌, ◌<◌, ◌^◌, ◌==◌, ℕ, List, length, Option, Some, None, IfSome}
 use Rattle.std.specs.List.{after_first, before_first, position_or_len}
 use Rattle.std.specs.Str.Parse.{IsNumeral, digits_value, without_leading_plus}
+use Rattle.std.specs.String.{string_bytes}
+use Rattle.web_turn.specs.declared.link_files.FoundLink.{FoundLink}
 
 -- the text's parts before and after its first byte of this value; it has one
 pub record IsCut (byte : ℕ) (text before after : List ℕ) : Type 0 where
@@ -26,10 +28,11 @@ pub record IsLinkFile (text name token : List ℕ) (end : ℕ) : Type 0 where
 abbrev pub StandsAt : (text : List ℕ) (seconds : ℕ) (name token : List ℕ) → Type 0
 StandsAt text seconds name token = (end : ℕ) × IsLinkFile text name token end × (seconds < end)
 
--- What was read of a link's file was taken if the file was removed after that. So a link is good for one use.
-abbrev pub TakesLink : (finds : (folder secret : List ℕ) → Option (List ℕ × ℕ) → Type 0)
-    (removes : (folder secret : List ℕ) → Bool → Type 0) (folder secret : List ℕ) → Option (List ℕ × ℕ) → Type 0
+-- A link's file was read, and what was read is taken if the file was removed after that. So a link is good for one use.
+abbrev pub TakesLink : (finds : (folder secret : List ℕ) → Option FoundLink → Type 0)
+    (removes : (folder : List ℕ) → FoundLink → Option (List ℕ × ℕ) → Type 0) (folder secret : List ℕ)
+    → Option (List ℕ × ℕ) → Type 0
 TakesLink finds removes folder secret taken =
     (finds folder secret None × (taken ≡ None))
-    ⊎ ((found : List ℕ × ℕ) × finds folder secret (Some found) × (gone : Bool) × removes folder secret gone
-    × (taken ≡ (if gone then Some found else None)))
+    ⊎ ((found : FoundLink) × finds folder secret (Some found) × removes folder found taken
+    × (found.secret ≡ secret) × IfSome taken (λ it. it ≡ (string_bytes found.text, found.seconds)))

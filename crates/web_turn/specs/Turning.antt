@@ -195,7 +195,7 @@ module _ {S : Type 0} (streams : Streams S) where
     pub turns : AtEach (HallTurns streams) old.list turned.list × (turned ≡ record old { list = turned.list })
     pub renewed : Halls S
     pub renews : ((place : ℕ)
-        → Renews makes.reaches by turned.next place (get turned.list place) (get renewed.list place))
+        → Renews makes.reaches by turned.next renewed.next place (get turned.list place) (get renewed.list place))
         × (renewed ≡ record turned { list = renewed.list; next = renewed.next })
     pub none : renewed.choice ≡ None → new ≡ renewed
     pub chooses : IfSome renewed.choice (λ choice. AtEach (Chooses (string_bytes choice) by.now) renewed.list new.list)

@@ -6,8 +6,7 @@ ghost use Rattle.std.specs.declared.time.Duration.{Duration};
 ghost use Rattle.mio.specs.Events.{items};
 ghost use Rattle.web_relay.specs.Places.{IsClosed, LetsIn};
 ghost use Rattle.web_turn.specs.Accepting.{AcceptsAll, AcceptsAt, AcceptsIf, AcceptsOne, room_for};
-ghost use Rattle.web_turn.specs.Waking.{GoesOn, GoesRound, Rounds, RoundsAfter, Serves, longest_rest, wakes};
-ghost use Rattle.web_turn.specs.Waking.{wakes_all};
+ghost use Rattle.web_turn.specs.Waking.{GoesOn, GoesRound, Rounds, RoundsAfter, Serves, longest_rest, wakes, wakes_all};
 
 use crate::links::TakesLinks;
 use crate::log::WebLog;
@@ -21,7 +20,9 @@ use std::sync::{Arc, Wait};
 use std::time::{Clock, Duration};
 use web_relay::{Halls, Relay, make_room, mark};
 use web_requests::Site;
-use web_streams::{Accepted, BridgeStream, WebListener, WebStream, Woken, browser_token, woken_by};
+use web_streams::{
+    Accepted, Asked, BridgeStream, WebListener, WebStream, Woken, browser_token, woken_by,
+};
 
 /// The size of a read.
 const CHUNK: usize = 16_384;
@@ -70,6 +71,8 @@ pub struct Bridge<'a, S> {
     pub(crate) relays: Slab<Relay<S>>,
     pub(crate) halls: Halls<S>,
     pub(crate) buffer: Vec<u8>,
+    // How often listeners were asked.
+    asked: Asked,
     // Browsers may wait at a listener. It tells of those that come, and not again of those that wait.
     has_comers: bool,
     // Something is left to do at once.
@@ -109,6 +112,7 @@ impl<'a, S: Drop> Bridge<'a, S> {
             relays: Slab::new(alloc),
             halls: Halls::new(alloc, choice),
             buffer: vec![in alloc; 0; CHUNK]?,
+            asked: Asked::new(),
             has_comers: true,
             is_busy: false,
             refused: 0,
@@ -180,7 +184,7 @@ impl<S: BridgeStream + WebStream + Drop> Bridge<'_, S> {
     fn accept_one(&mut self, listener: &WebListener, registry: &Registry, now: Duration) -> bool
         ensures { AcceptsOne S.BridgeStream listener.now now self.old result self.new }
     {
-        match S::come(listener) {
+        match S::come(listener, &mut self.asked) {
             Accepted::Came(browser) => {
                 // (one that can't be let in is closed)
                 let _ = self.let_in(browser, registry, now);

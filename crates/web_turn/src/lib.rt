@@ -3,12 +3,14 @@
 #![tactic(auto)]
 
 mod bridge;
+mod link_files;
 mod links;
 mod log;
 mod turning;
 mod waiting;
 
 pub use bridge::{Bridge, BridgeOptions, WebHost, serve};
-pub use links::{LinkFiles, TakesLinks};
+pub use link_files::LinkFiles;
+pub use links::TakesLinks;
 pub use log::{WebLog, start_log};
 pub use waiting::Waits;

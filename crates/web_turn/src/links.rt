@@ -1,19 +1,13 @@
 //! Links: each stands for a user and a token, and is good for one use.
 
-ghost use Rattle.std.specs.Prelude.{◌≡◌, ◌++◌, ◌∷◌, ℕ, List, None, IfOk, IfSome, option_map};
+ghost use Rattle.std.specs.Prelude.{◌≡◌, ℕ, List, None, IfSome, option_map};
 ghost use Rattle.std.specs.String.{string_bytes};
 ghost use Rattle.web_turn.specs.Links.{IsLinkFile, StandsAt, TakesLink};
 ghost use Rattle.web_turn.specs.Turning.{Gives, Redeems, TakesFrom};
 
+use crate::link_files::LinkFiles;
 use attach_proto::Token;
-use std::alloc::{AllocError, AllocGlobal, Global};
-use std::fs;
-use std::fs::{File, Files};
-use std::time::{Clock, SystemTime};
 use web_relay::Relay;
-
-// The file of a link has no more bytes.
-const MOST: u64 = 200;
 
 /// What a page is told if its link stands for nothing.
 pub const USED: &str = "this link was used, or is too old: ask for a new one";
@@ -53,13 +47,6 @@ fn link_at(text: &str, seconds: u64) -> Option<(&str, &str)>
     Some((name, token))
 }
 
-// The path of the link with this secret: the secret is its name in the folder.
-fn path_of(alloc: Global, folder: &str, secret: &str) -> Result<String, AllocError>
-    ensures { IfOk result (λ path. string_bytes path ≡ folder.now ++ 0x2F ∷ secret.now) }
-{
-    format!(in alloc; "{folder}/{secret}")
-}
-
 /// What takes links. Its relation is shown by a call alone: a user and a token are those of a file that was taken.
 pub trait TakesLinks {
     ghost use Rattle.std.specs.Prelude.{ℕ, List, Option, option_map};
@@ -69,77 +56,16 @@ pub trait TakesLinks {
     ghost takes: { Self → (folder secret : List ℕ) → Option (List ℕ × ℕ) → Type 0 };
 
     /// Takes the file of the link with this secret: only one use can remove it. None if it was used or never was.
-    fn take_link(&self, folder: &str, secret: &Token) -> Option<(String, u64)>
-        ensures { takes self.now folder.now secret.now (option_map (λ it. (string_bytes it.0, it.1)) result) };
-}
-
-/// Files of links. Each relation is shown by a call of its function alone.
-pub trait LinkFiles {
-    ghost use Rattle.std.specs.Prelude.{ℕ, Bool, List, Option, option_map};
-    ghost use Rattle.std.specs.String.{string_bytes};
-
-    // A folder, the secret of a link, and what was read of its file: the text, and when, in seconds after 1970.
-    ghost finds: { Self → (folder secret : List ℕ) → Option (List ℕ × ℕ) → Type 0 };
-
-    // A folder, the secret of a link, and whether its file was removed.
-    ghost removes: { Self → (folder secret : List ℕ) → Bool → Type 0 };
-
-    /// Reads the file of the link with this secret. None if there is none, or something else than a short file has its
-    /// name.
-    fn find_link(&self, folder: &str, secret: &Token) -> Option<(String, u64)>
-        ensures { finds self.now folder.now secret.now (option_map (λ it. (string_bytes it.0, it.1)) result) };
-
-    /// Removes the file of the link with this secret.
-    fn remove_link(&self, folder: &str, secret: &Token) -> bool
-        ensures { removes self.now folder.now secret.now result };
+    fn take_link(&self, folder: &str, secret: Token) -> Option<(String, u64)>
+        ensures { takes self.now folder.now secret (option_map (λ it. (string_bytes it.0, it.1)) result) };
 }
 
 impl<R: LinkFiles> TakesLinks for R {
     ghost takes = { λ host folder secret taken. TakesLink (R.finds host) (R.removes host) folder secret taken };
 
-    fn take_link(&self, folder: &str, secret: &Token) -> Option<(String, u64)> {
+    fn take_link(&self, folder: &str, secret: Token) -> Option<(String, u64)> {
         let found = self.find_link(folder, secret)?;
-        if self.remove_link(folder, secret) {
-            Some(found)
-        } else {
-            None
-        }
-    }
-}
-
-impl<R: Files<File = File> + Clock + AllocGlobal> LinkFiles for R {
-    ghost finds = { λ host folder secret found. Unit {0} };
-
-    ghost removes = { λ host folder secret is_removed. Unit {0} };
-
-    fn find_link(&self, folder: &str, secret: &Token) -> Option<(String, u64)> {
-        let now = SystemTime::now(self)
-            .ok()?
-            .duration_since(SystemTime::UNIX_EPOCH)
-            .ok()?;
-        let path = path_of(
-            self.alloc(),
-            folder,
-            str::from_utf8(secret.as_slice()).ok()?,
-        )
-        .ok()?;
-        // Opening a FIFO would wait.
-        let found = fs::metadata(self, path.as_str()).ok()?;
-        if !found.is_file() || found.len() > MOST {
-            return None;
-        }
-        let text = fs::read_to_string(self, path.as_str()).ok()?;
-        Some((text, now.as_secs()))
-    }
-
-    fn remove_link(&self, folder: &str, secret: &Token) -> bool {
-        let Ok(secret) = str::from_utf8(secret.as_slice()) else {
-            return false;
-        };
-        match path_of(self.alloc(), folder, secret) {
-            Ok(path) => fs::remove_file(self, path.as_str()).is_ok(),
-            Err(_) => false,
-        }
+        self.remove_link(folder, found)
     }
 }
 
@@ -154,8 +80,8 @@ fn give<S: Drop>(text: &str, seconds: u64, relay: &mut Relay<S>)
 }
 
 // Takes the file of the link with this secret, if there is a folder of links.
-fn take_from<R: TakesLinks>(rt: &R, links: Option<&str>, secret: &Token) -> Option<(String, u64)>
-    ensures { TakesFrom (R.takes rt.now) links.entry secret.now (option_map (λ it. (string_bytes it.0, it.1)) result) }
+fn take_from<R: TakesLinks>(rt: &R, links: Option<&str>, secret: Token) -> Option<(String, u64)>
+    ensures { TakesFrom (R.takes rt.now) links.entry secret (option_map (λ it. (string_bytes it.0, it.1)) result) }
 {
     match links {
         Some(folder) => rt.take_link(folder, secret),
@@ -170,7 +96,7 @@ pub fn redeem<R: TakesLinks, S: Drop>(rt: &R, links: Option<&str>, relay: &mut R
     let Some(secret) = relay.secret() else {
         return;
     };
-    let Some((text, seconds)) = take_from(rt, links, &secret) else {
+    let Some((text, seconds)) = take_from(rt, links, secret) else {
         return relay.refuse(USED);
     };
     give(text.as_str(), seconds, relay);

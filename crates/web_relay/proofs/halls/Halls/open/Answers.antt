@@ -1,4 +1,4 @@
-use Rattle.std.proofs.Common.{◌≡◌, ◌∙◌, ℕ, None, Some, ap, subst, sym}
+use Rattle.std.proofs.Common.{◌≡◌, ◌<◌, ◌∙◌, ℕ, None, Some, ap, subst, sym}
 use Rattle.slab.specs.Slab.{SameValues, Updates}
 use Rattle.web_relay.proofs.Vocabulary.{Slab, get, Hall, Halls}
 use Rattle.web_relay.specs.Halls.{OpensAt, opening}
@@ -20,7 +20,7 @@ returns g c =
           some_more (λ (place : ℕ). (place ≡ mid.vacant_key) × (get mid place ≡ None)
           × Updates mid new place (Some hall))
           (λ (place : ℕ). (get old.list place ≡ None) × (it : Hall g.row.S.Denot) × (it.serial ≡ old.next)
-          × opens place c.args.size now it × Updates old.list new place (Some it))
+          × (old.next < c.made.new.self.next) × opens place c.args.size now it × Updates old.list new place (Some it))
           c.put.result
           (λ place there.
           let at =
@@ -29,7 +29,8 @@ returns g c =
           let here : c.vacant_key-place.result ≡ place = c.vacant_key-place.ensures.value ∙ sym at.0 in (
             at.1,
             hall,
-            c.in_ok-hall.ensures.serial,
+            c.in_ok-hall.ensures.serial.0,
+            c.in_ok-hall.ensures.serial.1,
             subst (λ (n : ℕ). opens n c.args.size now hall) here c.in_ok-hall.ensures.opens,
             at.2,
           ))

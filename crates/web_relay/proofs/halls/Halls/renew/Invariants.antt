@@ -4,7 +4,7 @@ use Rattle.web_relay.proofs.halls.Halls.renew.Given as goal
 
 abbrev pub invariant-places : goal.invariant-places
 invariant-places g l = record {
-  renewed : (q : ℕ) → q < l.place → Renews g.S.BridgeStream.reaches (opening l.around) l.fn.self.next q
+  renewed : (q : ℕ) → q < l.place → Renews g.S.BridgeStream.reaches (opening l.around) l.fn.self.next l.self.next q
       (get l.fn.self.list q) (get l.self.list q);
   rest : (q : ℕ) → l.place ≤ q → get l.self.list q ≡ get l.fn.self.list q;
   next : l.fn.self.next ≤ l.self.next;
