@@ -125,7 +125,7 @@ fn serve_socket<R: Host + Threads + Wait + Eprint, O: Write>(
             let mut listeners = Vec::new(rt.alloc());
             listeners.push(WebListener::Unix(listener))?;
             let served = serve_at(rt, options, site, listeners, output);
-            place.leave(rt, rt);
+            place.end(rt, rt);
             served
         }
         Err(fault) => Err(WebFault::Socket(format!(in rt.alloc(); "{fault}")?)),

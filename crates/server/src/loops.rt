@@ -64,8 +64,8 @@ pub struct Server<'a, G, O> {
 impl<G: Drop, O: Write> Server<'_, G, O> {
     // A loop has ended. After the last one nobody can connect, so another server may take the place.
     fn leave(&self, rt: &impl Wait) {
-        if self.shared.log.leave(rt) {
-            self.place.leave(rt, &self.files);
+        if let Some(last) = self.shared.log.leave(rt) {
+            self.place.leave(rt, &self.files, last);
         }
     }
 

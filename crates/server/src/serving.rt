@@ -191,7 +191,7 @@ where
         listener,
     };
     let served = begin(rt, options, handles, beginning, output);
-    place.leave(rt, &files);
+    place.end(rt, &files);
     served
 }
 

@@ -58,10 +58,10 @@ module _ {S : Type 0} where
     pub none : new.inbox.messages.items ≡ []
     pub same : new ≡ record old { inbox = record old.inbox { messages = new.inbox.messages } }
 
-  -- Its stream was read once. What came is taken in after all that came before, and it is known whether more may be
+  -- Its stream was read once, with room for so many bytes. What came is taken in after all that came before, and it is known whether more may be
   -- there. What was taken out before stays as it was.
-  pub record IsReadOnce (reads : S → List ℕ → Arrival → S → Type 0) (now size : ℕ) (old : Peer S) (arrival : Arrival)
-      (new : Peer S)
+  pub record IsReadOnce (reads : S → ℕ → List ℕ → Arrival → S → Type 0) (now size : ℕ) (old : Peer S)
+      (arrival : Arrival) (new : Peer S)
       : Type 0 where
     pub stream : S
     pub left : S
@@ -69,7 +69,7 @@ module _ {S : Type 0} where
     pub came : Arrival
     pub was : old.stream ≡ Some stream
     pub is : new.stream ≡ Some left
-    pub read : reads stream piece came left
+    pub read : reads stream size piece came left
     pub arrives : arrival ≡ arrival_of size (length piece) came
     pub notes : Notes now (length piece) arrival old new
     pub stands : (taken : List Message) (all : List ℕ) → Stands old.inbox old.reader taken all

@@ -45,8 +45,8 @@ pub trait PeerStream {
     // The bytes that were written to it, if that is known.
     ghost holds: { Self → Option (List ℕ) };
 
-    // The stream, the bytes that came, what they or their lack mean, and the stream after it.
-    ghost reads: { Self → List ℕ → Came → Self → Type 0 };
+    // The stream, how many bytes there was room for, those that came, what they or their lack mean, and the stream after.
+    ghost reads: { Self → ℕ → List ℕ → Came → Self → Type 0 };
 
     // The stream, what waits, what came of a write of it, and the stream after it.
     ghost writes: { Self → List ℕ → Took → Self → Type 0 };
@@ -57,7 +57,7 @@ pub trait PeerStream {
         ensures within { result.0 ≤ length buffer.new }
         ensures none { result.0 ≡ 0 → result.1 ≢ Arrival.Much }
         ensures end { result.1 ≡ Arrival.End → result.0 ≡ 0 }
-        ensures read { reads self.old (take result.0 buffer.new) result.1 self.new };
+        ensures read { reads self.old (length buffer.old) (take result.0 buffer.new) result.1 self.new };
 
     /// Writes once of what waits. What was taken doesn't wait any more.
     fn write_once(&mut self, turn: &mut Turn) -> Wrote
@@ -70,7 +70,7 @@ pub trait PeerStream {
 impl<S: Read + Write> PeerStream for S {
     ghost holds = { S.contents };
 
-    ghost reads = { λ s piece came left. Consumes (S.remaining s) (S.remaining left) piece };
+    ghost reads = { λ s room piece came left. Consumes (S.remaining s) (S.remaining left) piece };
 
     ghost writes = { λ s waits took left.
         Appends (S.contents s) (S.contents left) (take (count_of took) waits) };

@@ -8,6 +8,7 @@ ghost use Rattle.server_session.specs.Loading.{looked_at, with_typed};
 
 use crate::loads::Loads;
 use acl::UserId;
+use hub::{Begun, Seat};
 use server_seat::GuestKind;
 use server_users::{Allowances, Outcome, Tally};
 use std::alloc::Global;
@@ -36,8 +37,11 @@ pub struct Calls {
 }
 
 impl Calls {
-    pub(crate) fn none() -> Calls {
-        Calls { count: 0 }
+    /// No call yet, of the loop that has this seat: without a seat of its own nothing else makes calls.
+    pub(crate) fn of<L: Begun>(seat: Seat<L>) -> (Seat<L>, Calls)
+        ensures { result.0 ≡ seat }
+    {
+        (seat, Calls { count: 0 })
     }
 
     pub(crate) fn note(&mut self)

@@ -134,11 +134,12 @@ impl<'a, L: Begun, S, B, T> Seated<'a, L, S, B, T> {
         ensures { result.seat ≡ record seat { asks = true } }
     {
         seat.ask_for_entries();
+        let (seat, calls) = Calls::of(seat);
         Seated {
             shared,
             accounts,
             seat,
-            calls: Calls::none(),
+            calls,
         }
     }
 

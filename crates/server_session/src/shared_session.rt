@@ -251,9 +251,6 @@ impl<L: Begun, T: TrailLines> LoopSession<L> for SharedSession<L, T> {
     }
 
     fn stopped(&self) -> Option<Stopped> {
-        match &self.recorder {
-            Some(recorder) => recorder.stopped(),
-            None => None,
-        }
+        self.recorder.as_ref()?.stopped()
     }
 }

@@ -76,6 +76,10 @@ impl UnwrittenLines {
     }
 }
 
+/// Shows that all loops have ended.
+#[derive(Drop)]
+pub struct LastLoop(());
+
 /// Lines on their way to standard error. Loops put them down and one thread writes them, so that no
 /// loop waits for a slow reader.
 #[derive(Drop)]
@@ -115,11 +119,11 @@ impl Log {
         self.news.notify_one();
     }
 
-    /// A loop has ended, and puts nothing more down. Returns whether it was the last one.
-    pub fn leave(&self, rt: &impl Wait) -> bool {
+    /// A loop has ended, and puts nothing more down. Returns what shows that it was the last one, if it was.
+    pub fn leave(&self, rt: &impl Wait) -> Option<LastLoop> {
         let was_last = self.waiting.lock(rt).leave();
         self.news.notify_one();
-        was_last
+        was_last.then_some(LastLoop(()))
     }
 
     fn is_over(&self, rt: &impl Wait) -> bool {
@@ -140,16 +144,13 @@ impl Log {
 
     // Waits until standard error has room; after all loops have ended, for some seconds.
     fn await_room<E: AsRawFd>(&self, rt: &impl Wait, errors: &E) -> bool {
-        let mut tries = 0u32;
+        let mut tries = 1..PATIENCE;
         'looks: for _ in rt.forever() {
             if has_room(errors, 1_000) {
                 return true;
             }
-            if self.is_over(rt) {
-                tries = tries.saturating_add(1);
-                if tries >= PATIENCE {
-                    return false;
-                }
+            if self.is_over(rt) && tries.next().is_none() {
+                return false;
             }
         }
         unreachable!()

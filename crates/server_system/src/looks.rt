@@ -23,7 +23,7 @@ pub enum UsersNews {
     Faulty(UsersFileFault),
 }
 
-/// A look that was begun, and has to end. Only a call of `begin` makes one.
+/// A look that was begun. Only a call of `begin` makes one, and it isn't dropped: it has to end.
 pub struct BegunLook {
     number: u64,
 }
@@ -56,8 +56,7 @@ impl BegunLook {
     }
 }
 
-/// What is known of looks at a users' file, under the lock of the loops and of the thread that looks. Each
-/// relation is shown by a call of its function alone.
+/// What is known of looks at a users' file, under a lock. Each relation is shown by a call of its function alone.
 pub trait SharedLooks {
     ghost use Rattle.std.specs.Prelude.{ℕ, Bool, Option};
     ghost use Rattle.acl.specs.declared.user_id.UserId.{UserId as User};

@@ -6,13 +6,13 @@ ghost use Rattle.server_system.specs.Paths.{ListensAt, socket_path};
 use crate::fault::{SocketCause, SocketFault};
 use crate::folders::{OpenFolder, open_folder};
 use crate::host::Host;
+use crate::log::LastLoop;
 use mio::net::{UnixListener, UnixStream};
 use std::alloc::Global;
-use std::fs::{File, Files, OpenOptions, TryLockError};
-use std::io::ErrorKind;
+use std::fs::{self, File, Files, OpenOptions, TryLockError};
+use std::io::{self, ErrorKind};
 use std::os::unix::fs::{FileTypeExt, MetadataExt, OpenOptionsExt};
 use std::sync::{Mutex, Wait};
-use std::{fs, io};
 
 // The longest path of a socket, in bytes.
 const LONGEST: usize = 107;
@@ -151,15 +151,21 @@ impl SocketPath<'_> {
 
     /// Whether the socket's mode lets everybody on the machine connect.
     pub fn is_open<R: Host>(&self, rt: &R) -> bool {
-        match fs::symlink_metadata(rt, self.path) {
-            Ok(found) => found.mode() & OTHERS_WRITE != 0,
-            Err(_) => false,
-        }
+        fs::symlink_metadata(rt, self.path).is_ok_and(|found| found.mode() & OTHERS_WRITE != 0)
+    }
+
+    /// Removes the socket after the last loop, as `end` does.
+    pub fn leave<F: Host>(&self, rt: &impl Wait, files: &F, _last: LastLoop) {
+        self.remove(rt, files);
     }
 
     /// Removes the socket, once, and then releases the lock, so that another server may listen there.
     /// A socket that can't be removed is no fault of the session.
-    pub fn leave<F: Host>(&self, rt: &impl Wait, files: &F) {
+    pub fn end<F: Host>(self, rt: &impl Wait, files: &F) {
+        self.remove(rt, files);
+    }
+
+    fn remove<F: Host>(&self, rt: &impl Wait, files: &F) {
         let lock = self.lock.lock(rt).take();
         if lock.is_some() {
             let _: io::Result<()> = fs::remove_file(files, self.path);

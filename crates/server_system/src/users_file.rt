@@ -15,8 +15,7 @@ use program_words::SystemError;
 use server_users::{Access, Flaw, Users, UsersFault};
 use std::alloc::{AllocError, Global};
 use std::fs::Metadata;
-use std::io;
-use std::io::Read;
+use std::io::{self, Read};
 use std::os::unix::fs::MetadataExt;
 use std::rt::HostRuntime;
 

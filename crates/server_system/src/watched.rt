@@ -95,8 +95,7 @@ impl<F: UsersSource, L: SharedLooks> WatchedUsers<F, L> {
         }
     }
 
-    /// What is known now, for a loop that has the users of this count; None if there is no memory for
-    /// a copy of the users.
+    /// What is known now, for a loop that has the users of this count. None without memory for a copy of the users.
     pub fn newest<R: Clock + Wait>(&self, rt: &R, log: &Log, count: &mut u64) -> Option<KnownUsers>
         ensures tells { (looks : L) × L.tells looks count.old result }
         ensures count { IfSome result (λ known. count.new ≡ known.count) }

@@ -10,8 +10,7 @@ ghost use Rattle.server_system.specs.Waiting.{awaits_after};
 use libc::net as c;
 use mio::net::UnixStream;
 use mio::{Interest, Registry, Token};
-use std::io;
-use std::io::{ErrorKind, Read, Write};
+use std::io::{self, ErrorKind, Read, Write};
 use std::os::fd::AsRawFd;
 
 // Of more bytes that wait, as a page of 200 by 300 can have, the system keeps what it can: a connection for which more
