@@ -85,8 +85,7 @@ fn first_open<R: Host>(host: &R, account: u32, holder: Path<'_>) -> io::Result<O
     Ok(None)
 }
 
-/// The first folder, from the one that holds this path up to the root, in which others than the account
-/// and root could replace what is there.
+/// The first folder, from the one that holds this path up to the root, in which others could replace what is there.
 pub fn open_folder<R: Host>(host: &R, path: &str) -> io::Result<Option<OpenFolder>>
     ensures held { IfOk result (λ found. may_pass found ≡ true → IsHeld R.Host host.now path.now) }
 {

@@ -7,6 +7,7 @@ use mio::net::UnixListener;
 use server_users::own_account;
 use std::fs::{File, Files};
 use std::net::Net;
+use std::os::unix::fs::FileTypeExt;
 use std::path::PathBuf;
 use std::time::Clock;
 use std::{fs, io};
@@ -14,7 +15,7 @@ use std::{fs, io};
 /// A runtime with all that a server asks for, except to wait and to start threads: a function says these
 /// two itself, as they let it never return. Only a call shows what the system answered.
 pub trait Host: Net + Files<File = File> + Clock + AllocGlobal + Copy + Send + Sync + 'static {
-    ghost use Rattle.std.specs.Prelude.{ℕ, IfOk, List};
+    ghost use Rattle.std.specs.Prelude.{ℕ, Bool, IfOk, List};
     ghost use Rattle.std.specs.Path.{path_buf_bytes};
     ghost use Rattle.std.specs.String.{string_bytes};
     ghost use Rattle.mio.specs.declared.net.uds.listener.UnixListener.{UnixListener as Listener};
@@ -31,6 +32,9 @@ pub trait Host: Net + Files<File = File> + Clock + AllocGlobal + Copy + Send + S
 
     // A path, the most bytes that are read, and the first bytes of its file.
     ghost reads: { Self → List ℕ → ℕ → List ℕ → Type 0 };
+
+    // A path, and whether a socket is there itself, and no link to one.
+    ghost sockets: { Self → List ℕ → Bool → Type 0 };
 
     // The name of a lock's file that is locked now.
     ghost locks: { Self → List ℕ → Type 0 };
@@ -50,6 +54,9 @@ pub trait Host: Net + Files<File = File> + Clock + AllocGlobal + Copy + Send + S
     fn first_bytes(&self, path: &str, most: u64) -> io::Result<Vec<u8>>
         ensures { IfOk result (λ bytes. reads self.now path.now most bytes.items) };
 
+    fn is_socket(&self, path: &str) -> io::Result<bool>
+        ensures { IfOk result (sockets self.now path.now) };
+
     fn lock(&self, name: String) -> Result<File, SocketCause>
         ensures { IfOk result (λ file. locks self.now (string_bytes name)) };
 
@@ -66,6 +73,8 @@ impl<R: Net + Files<File = File> + Clock + AllocGlobal + Copy + Send + Sync + 's
     ghost finds = { λ host path stamp. Unit {0} };
 
     ghost reads = { λ host path most bytes. Unit {0} };
+
+    ghost sockets = { λ host path is. Unit {0} };
 
     ghost locks = { λ host name. Unit {0} };
 
@@ -85,6 +94,10 @@ impl<R: Net + Files<File = File> + Clock + AllocGlobal + Copy + Send + Sync + 's
 
     fn first_bytes(&self, path: &str, most: u64) -> io::Result<Vec<u8>> {
         first_bytes(self.alloc(), fs::open(self, path)?, most)
+    }
+
+    fn is_socket(&self, path: &str) -> io::Result<bool> {
+        Ok(fs::symlink_metadata(self, path)?.file_type().is_socket())
     }
 
     fn lock(&self, name: String) -> Result<File, SocketCause> {

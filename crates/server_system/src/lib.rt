@@ -1,5 +1,4 @@
-//! What a server takes from the system: its users' file, its socket, its log, and the
-//! connections that a loop waits for.
+//! What a server takes from the system: its users' file, its socket, its log, and the connections that a loop waits for.
 #![tactic(auto)]
 
 mod fault;

@@ -80,8 +80,7 @@ impl UnwrittenLines {
 #[derive(Drop)]
 pub struct LastLoop(());
 
-/// Lines on their way to standard error. Loops put them down and one thread writes them, so that no
-/// loop waits for a slow reader.
+/// Lines on their way to standard error. Loops put them down and one thread writes them: no loop waits for a reader.
 #[derive(Drop)]
 pub struct Log {
     alloc: Global,

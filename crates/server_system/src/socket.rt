@@ -1,6 +1,6 @@
 //! The socket that a server listens on.
 
-ghost use Rattle.std.specs.Prelude.{◌≡◌, IfOk};
+ghost use Rattle.std.specs.Prelude.{◌≡◌, IfOk, true};
 ghost use Rattle.server_system.specs.Paths.{ListensAt, socket_path};
 
 use crate::fault::{SocketCause, SocketFault};
@@ -11,7 +11,7 @@ use mio::net::{UnixListener, UnixStream};
 use std::alloc::Global;
 use std::fs::{self, File, Files, OpenOptions, TryLockError};
 use std::io::{self, ErrorKind};
-use std::os::unix::fs::{FileTypeExt, MetadataExt, OpenOptionsExt};
+use std::os::unix::fs::{MetadataExt, OpenOptionsExt};
 use std::sync::{Mutex, Wait};
 
 // The longest path of a socket, in bytes.
@@ -29,10 +29,12 @@ pub struct SocketPath<'a> {
 }
 
 // Whether there is a socket. Another file is a fault.
-fn is_there<R: Host>(rt: &R, path: &str) -> Result<bool, SocketCause> {
-    match fs::symlink_metadata(rt, path) {
-        Ok(found) if found.file_type().is_socket() => Ok(true),
-        Ok(_) => Err(SocketCause::NoSocket),
+fn is_there<R: Host>(rt: &R, path: &str) -> Result<bool, SocketCause>
+    ensures { IfOk result (λ is. is ≡ true → R.Host.sockets rt.now path.now true) }
+{
+    match rt.is_socket(path) {
+        Ok(true) => Ok(true),
+        Ok(false) => Err(SocketCause::NoSocket),
         Err(error) if error.kind() == ErrorKind::NotFound => Ok(false),
         Err(error) => Err(SocketCause::from(error)),
     }
@@ -50,8 +52,7 @@ fn is_served<R: Host>(rt: &R, path: &str) -> io::Result<bool> {
     }
 }
 
-// Opens the lock's file that is there, unless it is a link or another kind of file. Whatever takes its
-// place before it is opened isn't written to.
+// Opens the lock's file that is there, if it is a plain one. Whatever takes its place before that isn't written to.
 fn open_there<R: Files<File = File>>(rt: &R, name: String) -> Result<File, SocketCause> {
     let found = fs::symlink_metadata(rt, name.as_str())?;
     if !found.file_type().is_file() {
@@ -122,8 +123,7 @@ fn listen<R: Host>(rt: &R, alloc: Global, path: &str) -> Result<(File, UnixListe
 }
 
 impl SocketPath<'_> {
-    /// Listens on a new socket at the path, as long as the place is held. A socket there that nobody
-    /// listens on is removed.
+    /// Listens on a new socket at the path while the place is held. One there that nobody listens on is removed.
     pub fn listen<'a, R: Host>(
         rt: &R,
         alloc: Global,
@@ -159,8 +159,7 @@ impl SocketPath<'_> {
         self.remove(rt, files);
     }
 
-    /// Removes the socket, once, and then releases the lock, so that another server may listen there.
-    /// A socket that can't be removed is no fault of the session.
+    /// Removes the socket, once, then releases the lock. A socket that can't be removed is no fault of the session.
     pub fn end<F: Host>(self, rt: &impl Wait, files: &F) {
         self.remove(rt, files);
     }

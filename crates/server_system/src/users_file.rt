@@ -7,6 +7,7 @@ ghost use Rattle.server_system.specs.Folders.{IsHeldFile, access_of, may_pass};
 ghost use Rattle.server_system.specs.Looking.{AreOf, IsReadOf, IsWrong, LooksAt, MayBeTold, after_look};
 ghost use Rattle.server_system.specs.Paths.{users_path};
 ghost use Rattle.server_system.specs.declared.fault.UsersFileFault.TheVariants.{NoMemory};
+ghost use Rattle.server_system.specs.declared.users_file.Stamp.{Stamp as Found};
 
 use crate::fault::UsersFileFault;
 use crate::folders::{OpenFolder, may_pass, open_folder};
@@ -176,8 +177,7 @@ impl<H: Host> UsersFile<H> {
         }
     }
 
-    /// Reads the users, with the file's stamp. Only a plain file is read, of at most 1,048,576 bytes, and
-    /// only if others can't write or replace it.
+    /// Reads the users and the stamp of a plain file of at most 1,048,576 bytes, which others can't write or replace.
     pub fn read(&self) -> Result<(Users, Stamp), UsersFileFault>
         ensures ok { IfOk result (λ read. IsReadOf H.Host self.now.host (users_path self.now) read.0 read.1) }
     {
@@ -198,11 +198,11 @@ impl<H: Host> UsersFile<H> {
     }
 }
 
-impl UsersSource for UsersFile {
-    // What is on a disk, no clause can say.
-    ghost finds = { λ file found. Unit {0} };
+impl<H: Host> UsersSource for UsersFile<H> {
+    ghost finds = { λ file found. IfSome found (H.Host.finds file.host (users_path file)) };
 
-    ghost reads = { λ file read. Unit {0} };
+    ghost reads = { λ file read. IfOk read (λ users.
+        (stamp : Found) × IsReadOf H.Host file.host (users_path file) users stamp) };
 
     fn path(&self) -> &str {
         self.path.as_str()
@@ -249,8 +249,7 @@ impl LastLook {
         !was_told
     }
 
-    // Takes what a look found: the file's stamp, and the fault for which it wasn't read. The answer is
-    // whether that is news.
+    // Takes what a look found: the stamp, and the fault for which it wasn't read. Returns whether that is news.
     fn is_news(&mut self, found: Option<Stamp>, fault: Option<&UsersFileFault>) -> bool
         ensures seen { self.new ≡ after_look found (option_copied fault.entry) self.old }
         ensures told { result ≡ false
@@ -282,13 +281,5 @@ pub fn look_at<F: UsersSource>(
         return None;
     }
     let read = file.read();
-    let fault = match &read {
-        Ok(_) => None,
-        Err(fault) => Some(fault),
-    };
-    if seen.is_news(found, fault) {
-        Some(read)
-    } else {
-        None
-    }
+    seen.is_news(found, read.as_ref().err()).then_some(read)
 }

@@ -23,8 +23,7 @@ const LEAST: i32 = 1;
 // The system takes the most that it allows, which is some 400 KB on Linux.
 const MOST: i32 = 1_048_576;
 
-// Lets the system keep at most this much of what is written and not yet read, so that a slow reader isn't far
-// behind. If the system refuses that, it keeps what it likes.
+// Lets the system keep at most this much of what isn't read yet, so that a slow reader isn't far behind, if it can.
 fn set_unread<S: AsRawFd>(stream: &S, bytes: i32) {
     let mut value = [0u8; 16];
     value[..4].copy_from_slice(&bytes.to_ne_bytes());
@@ -54,25 +53,29 @@ pub trait PolledStream: Read + Write {
 
 /// A socket of a peer, as the loop's poll knows it.
 #[derive(Drop)]
-pub struct PeerSocket<'a> {
-    stream: UnixStream,
+pub struct PeerSocket<'a, S = UnixStream> {
+    stream: S,
     registry: &'a Registry,
     token: Token,
 }
 
-impl Read for PeerSocket<'_> {
+impl<S: Read> Read for PeerSocket<'_, S> {
+    ghost remaining = { λ socket. S.remaining socket.stream };
+
     fn read(&mut self, buf: &mut [u8]) -> io::Result<usize> {
         self.stream.read(buf)
     }
 }
 
-impl Write for PeerSocket<'_> {
+impl<S: Write> Write for PeerSocket<'_, S> {
+    ghost contents = { λ socket. S.contents socket.stream };
+
     fn write(&mut self, buf: &[u8]) -> io::Result<usize> {
         self.stream.write(buf)
     }
 
     fn flush(&mut self) -> io::Result<()> {
-        Ok(())
+        self.stream.flush()
     }
 }
 
@@ -95,8 +98,7 @@ impl PolledStream for PeerSocket<'_> {
     }
 }
 
-/// A connection whose loop is woken when there is something to read. While bytes wait to be written,
-/// the loop is also woken when the connection takes bytes again.
+/// A connection whose loop is woken when there is something to read and, while bytes wait, when it takes some again.
 #[derive(Drop)]
 pub struct Wired<S: PolledStream + Drop> {
     stream: S,
@@ -106,8 +108,7 @@ pub struct Wired<S: PolledStream + Drop> {
     ghost woken: { awaits_room ≡ true → ∥ ((was : S) × (then : S) × S.wakes was true then) ∥₁ },
 }
 
-// Whether a connection that was given this many bytes has to take bytes again, by what came of it; None if that is
-// as it was.
+// Whether a connection that was given this many bytes has to take some again, by what came of it. None: as it was.
 fn awaits_after(written: io::Result<usize>, len: usize) -> Option<bool>
     ensures { result ≡ awaits_after written len }
 {

@@ -3,9 +3,6 @@
 ghost use Rattle.std.specs.Prelude.{◌≡◌, ◌↔◌, ◌==◌, IfSome, IsTrue, None, bit_and, not};
 ghost use Rattle.server_users.specs.Trust.{IsClosed, IsKept, IsKeptFolder, IsOwn, Lets, LetsInto};
 
-use std::fs::Metadata;
-use std::os::unix::fs::MetadataExt;
-
 /// Whose a file or a folder is, and its mode, as the system gives them.
 #[derive(Clone, Copy, Debug, PartialEq, Eq)]
 pub struct Access {
@@ -31,13 +28,6 @@ const OTHERS_WRITE: u32 = 0o022;
 const STICKY: u32 = 0o1000;
 
 impl Access {
-    pub fn of(found: &Metadata) -> Access {
-        Access {
-            owner: found.uid(),
-            mode: found.mode(),
-        }
-    }
-
     /// Whether others may read it.
     pub fn is_open(self) -> bool
         ensures { result ≡ not (bit_and self.mode 0o044 == 0) }
