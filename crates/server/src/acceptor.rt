@@ -97,7 +97,7 @@ impl Acceptor {
         };
         self.count += 1;
         let handed = HandedStream { stream, is_extra };
-        if loop_handle.handed.lock(rt).push_back(handed).is_ok() {
+        if loop_handle.hand(rt, handed) {
             loop_handle.wake()?;
         }
         Ok(())

@@ -1,10 +1,8 @@
 //! Where the loops wait until all of them can serve, and the server has said so.
 
-ghost use Rattle.std.specs.Prelude.{◌≡◌, None, Ok, OnOk, Some, codes};
-ghost use Rattle.std.specs.Io.KnownBytes.{Appends};
+ghost use Rattle.std.specs.Prelude.{◌≡◌, None, Ok, Some};
 
-use server_outcome::Unready;
-use server_trail::NeverReady;
+use server_outcome::{ReadySaid, Unready, Unsaid};
 use std::io::{self, Write};
 use std::sync::{Condvar, Mutex, Wait};
 
@@ -82,21 +80,11 @@ impl Latch {
     }
 }
 
-/// Shows that a server has said that it is ready.
-#[derive(Clone, Copy)]
-pub struct ReadySaid(());
-
-/// Shows that a server has never said that it is ready.
-#[derive(Drop)]
-pub struct NeverSaid(());
-
-impl NeverReady for NeverSaid {}
-
-// Where the line is written, if it may still be said, and what came of it.
+// Where the line is written, unless it was said, and why that couldn't be.
 #[derive(Drop)]
 struct ReadyOutput<'a, O> {
-    output: Option<&'a mut O>,
-    said: Option<io::Result<()>>,
+    unsaid: Option<Unsaid<'a, O>>,
+    fault: Option<io::Error>,
 }
 
 /// Where a server says that it is ready.
@@ -108,36 +96,36 @@ pub struct ReadyLine<'a, O> {
 impl<'a, O: Write> ReadyLine<'a, O> {
     /// It writes to this output, and has said nothing yet.
     pub fn new(output: &'a mut O) -> ReadyLine<'a, O> {
-        let output = Some(output);
+        let unsaid = Some(Unsaid::new(output));
         ReadyLine {
-            output: Mutex::new(ReadyOutput { output, said: None }),
+            output: Mutex::new(ReadyOutput {
+                unsaid,
+                fault: None,
+            }),
         }
     }
 
     /// Says that the server is ready, of which all loops are. None if it couldn't.
     pub fn say(&self, rt: &impl Wait, _all: AllReady) -> Option<ReadySaid> {
         let mut line = self.output.lock(rt);
-        let said = write_line(line.output.take()?);
-        line.said = Some(said);
-        said.is_ok().then_some(ReadySaid(()))
+        match line.unsaid.take()?.say() {
+            Ok(said) => Some(said),
+            Err((error, unsaid)) => {
+                (line.unsaid, line.fault) = (Some(unsaid), Some(error));
+                None
+            }
+        }
     }
 
-    /// What came of saying it, or None if it didn't get to that; and whether it was never said. It isn't said later.
-    pub fn said(&self, rt: &impl Wait) -> (Option<io::Result<()>>, Option<NeverSaid>)
+    /// What came of saying it, or None if it didn't get to that; and what shows that it was never said. It isn't said
+    /// later.
+    pub fn said(&self, rt: &impl Wait) -> (Option<io::Result<()>>, Option<Unsaid<'a, O>>)
         ensures { result.0 ≡ Some (Ok tt) → result.1 ≡ None }
     {
         let mut line = self.output.lock(rt);
-        line.output = None;
-        match line.said {
-            Some(Ok(())) => (line.said, None),
-            said => (said, Some(NeverSaid(()))),
+        match line.unsaid.take() {
+            Some(unsaid) => (line.fault.map(Err), Some(unsaid)),
+            None => (Some(Ok(())), None),
         }
     }
-}
-
-fn write_line<O: Write>(output: &mut O) -> io::Result<()>
-    ensures { OnOk result (Appends (O.contents output.old) (O.contents output.new) (codes "muxd: ready\n")) }
-{
-    output.write_all(b"muxd: ready\n")?;
-    output.flush()
 }

@@ -1,6 +1,7 @@
 //! What a loop begins with, and how connections and news come to it.
 
 ghost use Rattle.std.specs.Prelude.{◌≡◌, IfOk, is_some, length};
+ghost use Rattle.server.specs.Events.{once_more};
 ghost use Rattle.server.specs.Starting.{AreStarts, IsStart};
 
 use crate::acceptor::Acceptor;
@@ -10,7 +11,7 @@ use mio::net::{UnixListener, UnixStream};
 use mio::{Interest, Poll, Registry, Waker};
 use server_loop::ServerEnd;
 use server_outcome::ServeFault;
-use server_system::{Host, LastLook, Log, UsersFile, WatchedUsers};
+use server_system::{Host, LastLook, Log, Looks, UsersFile, WatchedUsers};
 use std::alloc::Global;
 use std::collections::VecDeque;
 use std::sync::atomic::{AtomicBool, AtomicU64, Ordering};
@@ -27,11 +28,17 @@ pub struct HandedStream {
     pub is_extra: bool,
 }
 
+/// How often a loop asked for what was handed to it, counted round at 2 ^ 64: a second time shows.
+#[derive(Drop)]
+pub struct HandCalls {
+    count: u64,
+}
+
 /// How others reach a loop.
 #[derive(Drop)]
 pub struct LoopHandle {
     waker: Waker,
-    pub handed: Mutex<VecDeque<HandedStream>>,
+    handed: Mutex<VecDeque<HandedStream>>,
     is_asleep: AtomicBool,
     has_news: AtomicBool,
     // It has connections.
@@ -50,6 +57,19 @@ impl LoopHandle {
             has_peers: AtomicBool::new(false),
             awaits_look: AtomicBool::new(false),
         }
+    }
+
+    /// Hands a connection to the loop. Returns whether there was memory for it.
+    pub fn hand(&self, rt: &impl Wait, handed: HandedStream) -> bool {
+        self.handed.lock(rt).push_back(handed).is_ok()
+    }
+
+    /// The next connection that was handed to the loop.
+    pub fn next_handed(&self, rt: &impl Wait, calls: &mut HandCalls) -> Option<HandedStream>
+        ensures { calls.new ≡ once_more calls.old }
+    {
+        calls.count = calls.count.wrapping_add(1);
+        self.handed.lock(rt).pop_front()
     }
 
     /// The loop is to be woken after the next look at the users' file.
@@ -96,17 +116,47 @@ impl LoopHandle {
     }
 }
 
+/// Why a server ends: the first cause holds. Each relation is shown by a call of its function alone.
+pub trait EndCause {
+    ghost use Rattle.std.specs.Prelude.{Option};
+    ghost use Rattle.server_seat.specs.declared.seat.ServerEnd.{ServerEnd as End};
+
+    ghost sets: { Self → End → Type 0 };
+
+    ghost holds: { Self → Option End → Type 0 };
+
+    fn set(&self, end: ServerEnd)
+        ensures { sets self.now end };
+
+    fn get(&self) -> Option<ServerEnd>
+        ensures { holds self.now result };
+}
+
+impl EndCause for OnceLock<ServerEnd> {
+    ghost sets = { λ cell end. Unit {0} };
+
+    ghost holds = { λ cell end. Unit {0} };
+
+    fn set(&self, end: ServerEnd) {
+        let _ = self.try_set(end);
+    }
+
+    fn get(&self) -> Option<ServerEnd> {
+        OnceLock::get(self).copied()
+    }
+}
+
 /// What the loops share beside their session.
 #[derive(Drop)]
-pub struct Shared {
+pub struct Shared<L = Looks, E = OnceLock<ServerEnd>> {
     pub alloc: Global,
     pub loop_handles: Arc<Vec<LoopHandle>, Global>,
     /// Where the loops wait until all are ready.
     pub latch: Latch,
-    pub over: OnceLock<ServerEnd>,
+    pub over: E,
     /// How many loops much comes to.
     pub busy: AtomicU64,
-    pub watched: Arc<WatchedUsers<UsersFile>, Global>,
+    pub watched: Arc<WatchedUsers<UsersFile, L>, Global>,
     /// How many connections had a wrong token, and the second in which that was told last.
     pub wrong_tokens: AtomicU64,
     pub wrong_tokens_told: AtomicU64,
@@ -126,6 +176,7 @@ pub struct LoopStart {
     /// The registry of the poll, whose descriptor is there before anybody connects.
     pub registry: Registry,
     pub acceptor: Option<Acceptor>,
+    pub calls: HandCalls,
 }
 
 // The acceptor of a loop that waits at this poll.
@@ -155,6 +206,7 @@ fn place(
         poll,
         registry,
         acceptor,
+        calls: HandCalls { count: 0 },
     };
     Ok((start, LoopHandle::new(waker, VecDeque::new(rt.alloc()))))
 }
@@ -179,7 +231,7 @@ pub fn places(
     Ok((starts, loop_handles))
 }
 
-impl Shared {
+impl<L, E: EndCause> Shared<L, E> {
     /// Wakes the other loops that have connections.
     pub fn wake_others(&self, me: usize) -> io::Result<()> {
         for (place, loop_handle) in self.loop_handles.iter().enumerate() {
@@ -191,8 +243,10 @@ impl Shared {
     }
 
     /// The server ends: the first cause holds. All loops are woken.
-    pub fn end(&self, end: ServerEnd) -> io::Result<()> {
-        let _ = self.over.try_set(end);
+    pub fn end(&self, end: ServerEnd) -> io::Result<()>
+        ensures { E.sets self.now.over end }
+    {
+        self.over.set(end);
         for loop_handle in self.loop_handles.iter() {
             loop_handle.wake()?;
         }

@@ -8,12 +8,11 @@ ghost use Rattle.server_trail.specs.Journals.{journal_path};
 ghost use Rattle.server.specs.Starting.{loops_of, text_of};
 
 use crate::latch::ReadyLine;
-use crate::log_lines::DiskLog;
 use crate::loop_handle::{LoopStart, Shared};
 use crate::starting::{Options, start_fault};
 use crate::turns::run_loop;
 use server_loop::{Gate, ServerEnd};
-use server_outcome::{LastLine, ServeFault, Unready, cause_of, outcome_of, served};
+use server_outcome::{DiskLog, LastLine, ServeFault, Unready, cause_of, outcome_of, served};
 use server_session::{
     Accounts, Agreement, Begun, Books, LoopBody, Recorder, Seat, Seated, SharedSession, Start,
     Trail, keep,

@@ -1,19 +1,19 @@
 //! What each loop has around it.
 
 ghost use Rattle.std.specs.Prelude.{◌≡◌, IfSome};
-ghost use Rattle.server.specs.Events.{Shows, came_by, token_of};
+ghost use Rattle.server.specs.Events.{Shows, came_by, polled, token_of};
 
 use crate::acceptor::{Acceptor, NONE};
 use crate::log_lines::NewsLine;
-use crate::loop_handle::{HandedStream, LoopHandle, LoopStart, Shared};
+use crate::loop_handle::{EndCause, HandCalls, HandedStream, LoopHandle, LoopStart, Shared};
 use mio::event::Event;
 use mio::{Events, Poll, Registry, Token};
 use server_loop::{Gate, Loop, News, ServerEnd, SessionSeat};
-use server_system::{KnownUsers, PeerSocket, Wired};
+use server_system::{KnownUsers, Looks, PeerSocket, SharedLooks, Wired};
 use server_turns::{Around, Backlog, Came, Learned, Turner};
 use std::io::{self, ErrorKind};
-use std::sync::Wait;
 use std::sync::atomic::{AtomicU64, Ordering};
+use std::sync::{OnceLock, Wait};
 use std::time::{Clock, Duration};
 
 /// The token of a loop's waker.
@@ -28,8 +28,8 @@ const PAUSE: u64 = 20;
 
 // What comes to a loop: events of its connections, news, and connections to be taken in.
 #[derive(Drop)]
-struct Inlet<'a> {
-    shared: &'a Shared,
+struct Inlet<'a, L = Looks, E = OnceLock<ServerEnd>> {
+    shared: &'a Shared<L, E>,
     me: usize,
     loop_handle: &'a LoopHandle,
     poll: Poll,
@@ -40,6 +40,7 @@ struct Inlet<'a> {
     acceptor: Option<Acceptor>,
     // The connection that was handed to the loop last.
     handed: Option<HandedStream>,
+    calls: HandCalls,
 }
 
 // What came by an event.
@@ -61,10 +62,10 @@ fn came_by(event: &Event) -> Came
     }
 }
 
-impl Inlet<'_> {
+impl<L, E> Inlet<'_, L, E> {
     // Waits for events, at most this long. An interrupted wait has none.
     fn poll(&mut self, timeout: Option<Duration>) -> io::Result<()>
-        ensures { self.new.seen ≡ 0 }
+        ensures { self.new ≡ polled self.old self.new }
     {
         self.seen = 0;
         match self.poll.poll(&mut self.events, timeout) {
@@ -77,8 +78,8 @@ impl Inlet<'_> {
     }
 }
 
-impl<'a> Around<Wired<PeerSocket<'a>>> for Inlet<'a> {
-    ghost does = { Shows };
+impl<'a, L: SharedLooks, E: EndCause> Around<Wired<PeerSocket<'a>>> for Inlet<'a, L, E> {
+    ghost does = { Shows L.asks L.tells E.sets E.holds };
 
     // Events of the stream that was handed come to this key.
     ghost wires = { λ inlet key stream left. IfSome stream (λ wired. wired.stream.token ≡ token_of key) };
@@ -136,7 +137,7 @@ impl<'a> Around<Wired<PeerSocket<'a>>> for Inlet<'a> {
     }
 
     fn next_handed<R: Wait>(&mut self, rt: &R) -> Option<bool> {
-        let handed = self.loop_handle.handed.lock(rt).pop_front()?;
+        let handed = self.loop_handle.next_handed(rt, &mut self.calls)?;
         let is_extra = handed.is_extra;
         self.handed = Some(handed);
         Some(is_extra)
@@ -184,7 +185,7 @@ impl<'a> Around<Wired<PeerSocket<'a>>> for Inlet<'a> {
     }
 
     fn over(&self) -> Option<ServerEnd> {
-        self.shared.over.get().copied()
+        self.shared.over.get()
     }
 
     fn close(&mut self) {
@@ -211,7 +212,7 @@ fn count<R: Clock>(rt: &R, strangers: &AtomicU64, told: &AtomicU64) -> Option<u6
     }
 }
 
-impl Shared {
+impl<L, E> Shared<L, E> {
     // Writes news to the log.
     fn tell<R: Clock + Wait>(&self, rt: &R, news: News) {
         let number = match news {
@@ -238,6 +239,7 @@ pub fn run_loop<J: SessionSeat + Drop, G: Gate + Copy + Drop, R: Clock + Wait>(
         poll,
         registry,
         acceptor,
+        calls,
     } = start;
     let Some(loop_handle) = shared.loop_handles.get(me) else {
         return Ok(seat);
@@ -252,6 +254,7 @@ pub fn run_loop<J: SessionSeat + Drop, G: Gate + Copy + Drop, R: Clock + Wait>(
         registry: &registry,
         acceptor,
         handed: None,
+        calls,
     };
     gate.stand_at(me);
     let loops = shared.loop_handles.len();

@@ -15,7 +15,7 @@ pub use fault::{SocketFault, UsersFileFault};
 pub use folders::OpenFolder;
 pub use host::Host;
 pub use log::{LastLoop, Log, PIECE, has_room};
-pub use looks::KnownUsers;
+pub use looks::{KnownUsers, Looks, SharedLooks};
 pub use socket::SocketPath;
 pub use users_file::{LastLook, Stamp, UsersFile, UsersSource, look_at};
 pub use watched::WatchedUsers;
