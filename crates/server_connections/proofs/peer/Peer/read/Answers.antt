@@ -23,8 +23,8 @@ returns-then-count-eq0-clause-read g c = λ readable.
       came = c.read_once-count.result.1;
       was = search rules;
       is = ap (λ (p : Peer g.row.S.Denot). p.stream) c.note_none.ensures;
-      read = subst (λ (xs : List ℕ). g.S.PeerStream.reads c.in-Some.stream xs c.read_once-count.result.1
-          c.read_once-count.new.self) nothing c.read_once-count.ensures.read;
+      read = subst (λ (xs : List ℕ). g.S.PeerStream.reads c.in-Some.stream (length c.args.buffer.now) xs
+          c.read_once-count.result.1 c.read_once-count.new.self) nothing c.read_once-count.ensures.read;
       arrives = refl;
       notes = (
         ap (λ (p : Peer g.row.S.Denot). p.has_more) c.note_none.ensures
