@@ -96,7 +96,7 @@ impl<G: Drop, O: Write> Server<'_, G, O> {
 
 impl<G: Gate + Copy + Sync + Drop, O: Write + Send> Server<'_, G, O> {
     /// Serves a new session until it ends. If it never said that it is ready, the trail's file is removed.
-    pub fn serve<R: Host + Threads + Wait>(
+    pub fn serve<R: Host + Send + Sync + Threads + Wait>(
         &self,
         rt: &R,
         start: Start<LoopStart>,

@@ -18,7 +18,7 @@ use std::io::Write;
 use std::{fs, io};
 
 /// A runtime with all that a server asks for.
-pub trait SetupHost: Host {
+pub trait SetupHost: Host + Send + Sync + 'static {
     ghost use Rattle.std.specs.Prelude.{ℕ, IfOk, List, Result, map};
     ghost use Rattle.std.specs.String.{string_bytes};
     ghost use Rattle.std.specs.declared.alloc.Global.{Global};
@@ -42,7 +42,7 @@ pub trait SetupHost: Host {
         ensures { reads self.now path.now result };
 }
 
-impl<R: Host> SetupHost for R {
+impl<R: Host + Send + Sync + 'static> SetupHost for R {
     // What is on a disk, and which arguments are understood, no clause can say.
     ghost reads = { λ host path read. Unit {0} };
 

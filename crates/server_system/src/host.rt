@@ -14,7 +14,7 @@ use std::{fs, io};
 
 /// A runtime with all that a server asks for, except to wait and to start threads: a function says these
 /// two itself, as they let it never return. Only a call shows what the system answered.
-pub trait Host: Net + Files<File = File> + Clock + AllocGlobal + Copy + Send + Sync + 'static {
+pub trait Host: Net + Files<File = File> + Clock + AllocGlobal + Copy {
     ghost use Rattle.std.specs.Prelude.{ℕ, Bool, IfOk, List};
     ghost use Rattle.std.specs.Path.{path_buf_bytes};
     ghost use Rattle.std.specs.String.{string_bytes};
@@ -64,7 +64,7 @@ pub trait Host: Net + Files<File = File> + Clock + AllocGlobal + Copy + Send + S
         ensures { IfOk result (binds self.now path.now) };
 }
 
-impl<R: Net + Files<File = File> + Clock + AllocGlobal + Copy + Send + Sync + 'static> Host for R {
+impl<R: Net + Files<File = File> + Clock + AllocGlobal + Copy> Host for R {
     // What the system has, no clause can say.
     ghost runs_as = { λ host account. Unit {0} };
 
