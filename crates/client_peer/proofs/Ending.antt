@@ -52,7 +52,8 @@ awaits_none old new now none same = record {
 }
 
 module _ (old first second third new : Peer) (now : ℕ) (same : first ≡ leaving old first)
-    (lost : AtLoss first now second) (awaits : Awaits second now third) (end : new.end ≡ third.end) (final : new.is_final ≡ third.is_final) where
+    (lost : AtLoss first now second) (awaits : Awaits second now third) (end : new.end ≡ third.end)
+    (final : new.is_final ≡ third.is_final) where
   second_is : second ≡ record (leaving old first) { is_final = second.is_final; end = second.end }
   second_is = lost.rest ∙ ap (λ (q : Peer). record q { is_final = second.is_final; end = second.end }) same
 

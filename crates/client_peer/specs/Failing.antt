@@ -23,9 +23,9 @@ IsNoDraw p bytes e =
 abbrev pub IsNotShown : Peer → List ℕ → PeerFault → Type 0
 IsNotShown p bytes e = (p.is_covered ≡ false) × IsNoDraw p bytes e
 
--- why typing fails: for want of memory, or the help isn't what draws use
-abbrev pub FailsTyping : PeerFault → Type 0
-FailsTyping e = (e ≡ NoMemory) ⊎ (e ≡ NoDraw)
+-- Typing fails for want of memory, or if the help isn't what draws use. Then nothing is put down for the terminal.
+abbrev pub FailsTyping : Peer → Peer → PeerFault → Type 0
+FailsTyping old new e = ((e ≡ NoMemory) ⊎ (e ≡ NoDraw)) × (new.bytes.items ≡ old.bytes.items)
 
 -- a server of ours sends it to another kind of peer
 abbrev pub IsForeign : Subcommand → Message → Type 0

@@ -1,6 +1,6 @@
 -- When a peer comes back by itself after its connection has ended.
-use Rattle.std.specs.Prelude.{◌≡◌, ◌↔◌, ◌⊎◌, ℕ, ◌<◌, ◌≤◌, ◌-◌, ◌*◌, ◌==◌, Bool, true, false, not, ◌&&◌, codes, List}
-use Rattle.std.specs.Prelude.{[], ◌∷◌, ◌++◌, Result, Ok, Err, Option, Some, None, IfSome, IsSome, option_map, string_bytes}
+use Rattle.std.specs.Prelude.{◌≡◌, ◌↔◌, ◌⊎◌, ℕ, ◌<◌, ◌≤◌, ◌-◌, ◌*◌, ◌==◌, Bool, true, false, not, ◌&&◌, codes, List, []}
+use Rattle.std.specs.Prelude.{◌∷◌, ◌++◌, Result, Ok, Err, Option, Some, None, IfSome, IsSome, option_map, string_bytes}
 use Rattle.attach_proto.specs.declared.why.Why.{Why}
 use Rattle.attach_proto.specs.declared.why.Why.TheVariants as why
 use Rattle.std.specs.List.{starts_with}

@@ -47,7 +47,7 @@ impl Peer {
         ensures helps { self.old.typing.asks_help ≡ true → OnOk result (ShowsHelp self.old self.new) }
         ensures other { self.old.typing.asks_help ≡ false → OnOk result (IsUncovered self.old self.new) }
         ensures same { self.new ≡ helping self.old self.new }
-        ensures fault { IfErr result FailsTyping }
+        ensures fault { IfErr result (FailsTyping self.old self.new) }
     {
         if !self.typing.asks_help || !self.is_free() {
             return Ok(());

@@ -87,7 +87,7 @@ impl Peer {
         ensures ok { OnOk result (Puts self.old self.new
             (spelling (Message.Resize self.old.rows self.old.columns))) }
         ensures err { OnErr result (self.new.frames.items ≡ self.old.frames.items) }
-        ensures fault { IfErr result FailsTyping }
+        ensures fault { IfErr result (FailsTyping self.old self.new) }
         ensures same { self.new ≡ record self.old { frames = self.new.frames } }
     {
         let (rows, columns) = (self.rows, self.columns);

@@ -52,7 +52,7 @@ impl Peer {
     // The bytes of a draw for a client's terminal. They are passed on only if all that came is what draws use.
     pub(crate) fn put_draw(&mut self, bytes: Vec<u8>) -> Result<(), PeerFault>
         ensures ok { OnOk result (PassesOn self.old self.new) }
-        ensures err { OnErr result (StopsAt self.old self.new) }
+        ensures err { OnErr result (self.new.bytes.items ≡ self.old.bytes.items) }
         ensures fault { IfErr result (IsNoDraw self.old bytes.items) }
         ensures added { OnOk result (self.new.bytes.items ≡ self.old.bytes.items ++ bytes.items) }
         ensures same { self.new ≡ record self.old { bytes = self.new.bytes; draws = self.new.draws } }
@@ -67,7 +67,7 @@ impl Peer {
     // Puts down a draw, unless the terminal shows the help: then a whole draw follows it.
     fn show(&mut self, bytes: Vec<u8>) -> Result<(), PeerFault>
         ensures ok { OnOk result (PassesOn self.old self.new) }
-        ensures err { OnErr result (StopsAt self.old self.new) }
+        ensures err { OnErr result (self.new.bytes.items ≡ self.old.bytes.items) }
         ensures fault { IfErr result (IsNotShown self.old bytes.items) }
         ensures closed { self.old.subcommand ≡ Attach → StaysClosed self.old self.new }
         ensures shows { OnOk result (Shows self.old.is_covered self.old bytes.items self.new) }

@@ -44,7 +44,7 @@ impl Peer {
             → OnOk result (TypesIn self.old self.new piece.entry.bytes.now) }
         ensures more { (piece.entry.bytes.now ≡ [] → ⊥) → OnOk result (result ≡ Ok true) }
         ensures end { piece.entry.bytes.now ≡ [] → (result ≡ Ok false) × (self.new ≡ self.old) }
-        ensures fault { IfErr result FailsTyping }
+        ensures fault { IfErr result (FailsTyping self.old self.new) }
         ensures same { self.new ≡ typed_in self.old self.new }
     {
         let ReadPiece { bytes: input } = piece;
@@ -68,7 +68,7 @@ impl Peer {
     // Takes keys. They are dropped while no server is there, and one takes the help away.
     fn press(&mut self, keys: &[u8]) -> Result<(), PeerFault>
         ensures presses { OnOk result (Presses self.old self.new keys.now) }
-        ensures fault { IfErr result FailsTyping }
+        ensures fault { IfErr result (FailsTyping self.old self.new) }
         ensures leave { self.new.typing.leave ≡ self.old.typing.leave }
         ensures same { self.new ≡ pressed_in self.old self.new }
     {
@@ -100,7 +100,7 @@ impl Peer {
     fn assist(&mut self, keys: &[u8]) -> Result<(), PeerFault>
         ensures leave { self.new.typing.leave ≡ self.old.typing.leave }
         ensures sends { OnOk result (SendsAssisted self.old self.new keys.now) }
-        ensures fault { IfErr result FailsTyping }
+        ensures fault { IfErr result (FailsTyping self.old self.new) }
         ensures same { self.new ≡ assisted_in self.old self.new }
     {
         let mut out = Vec::new(self.alloc);
@@ -115,7 +115,7 @@ impl Peer {
     // Says how to come back, if the view was moved.
     fn tell_scrolled(&mut self, before: u16) -> Result<(), PeerFault>
         ensures tells { OnOk result (TellsScrolled self.old self.new before self.old.frames.items) }
-        ensures fault { IfErr result FailsTyping }
+        ensures fault { IfErr result (FailsTyping self.old self.new) }
         ensures same { self.new ≡ record self.old { frames = self.new.frames; notice = self.new.notice } }
     {
         if self.typing.back == before {

@@ -12,6 +12,6 @@ returns-clause-sends c =
     c.args.keys.now c.deref.result.now c.assist.new.out.items
     (subst (λ n. Assists n old.typing c.args.keys.now [] c.assist.new.self c.assist.new.out.items) lines
     (subst (λ (l : List ℕ). Assists c.saturating_sub.result old.typing c.args.keys.now l c.assist.new.self
-    c.assist.new.out.items) c.new-out.ensures.items c.in_ok-assist.ensures.assists)) c.put_keys.ensures.same c.in_ok-put_keys.ensures.sends
-    c.deref.ensures.value c.tell_scrolled.ensures.same c.in_ok-tell_scrolled.ensures.tells c.help.ensures.same
+    c.assist.new.out.items) c.new-out.ensures.items c.in_ok-assist.ensures.assists)) c.put_keys.ensures.same
+    c.in_ok-put_keys.ensures.sends c.deref.ensures.value c.tell_scrolled.ensures.same c.in_ok-tell_scrolled.ensures.tells c.help.ensures.same
     c.help.ensures.helps c.help.ensures.other

@@ -1,7 +1,7 @@
 use Rattle.std.proofs.Common.{refl, sym, subst, ℕ, List}
 use Rattle.client_peer.specs.declared.peer.Peer.{Peer}
-use Rattle.client_peer.specs.Showing.{Adds, StopsAt}
-use Rattle.client_peer.proofs.Passing.{on_err_given, passes_draw, stops_kept}
+use Rattle.client_peer.specs.Showing.{Adds}
+use Rattle.client_peer.proofs.Passing.{passes_draw}
 use Rattle.client_peer.proofs.peer.Peer.put_draw.Goals as goal
 
 pub returns-clause-ok : goal.returns-clause-ok
@@ -11,8 +11,3 @@ returns-clause-ok c =
     passes_draw old middle c.put.new.self c.deref.result.now refl refl c.feed.ensures.stands
     (λ came stands. (c.if-not-feed.ensures.passes came stands).0 refl)
     (subst (λ (l : List ℕ). Adds middle c.put.new.self l) (sym c.deref.ensures.value) c.in_ok-put.ensures.ok)
-
-pub returns-in_err-put-clause-err : goal.returns-in_err-put-clause-err
-returns-in_err-put-clause-err c =
-    on_err_given {P = StopsAt c.args.self.now c.put.new.self} c.from_residual.result
-    (stops_kept c.args.self.now c.put.new.self c.in_err-put.ensures.err.kept)
