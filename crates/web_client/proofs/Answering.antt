@@ -1,5 +1,5 @@
 -- What is taken after an answer, and what is left.
-use Rattle.std.proofs.Common.{◌≡◌, Bool, Result, Ok, Err, IfOk, ap, refl, sym, subst, ◌∙◌}
+use Rattle.std.proofs.Common.{◌≡◌, Bool, false, Result, Ok, Err, IfOk, ap, refl, sym, subst, ◌∙◌}
 use Rattle.web_requests.specs.declared.site.Site.{Site}
 use Rattle.web_requests.specs.declared.requests.Response.{Response}
 use Rattle.web_requests.specs.declared.requests.Response.TheVariants.{Part, Page, Socket}
@@ -12,18 +12,18 @@ use Rattle.web_client.specs.Frames.{Answers, TakesOpen, TakesRequest, TakesBytes
 use Rattle.web_client.proofs.Rows.{both_add, same_adds}
 
 -- an answer after which no WebSocket is open
-pub unopened : (site : Site) (answer : Response) (old new : Visitor) (more : Bool) → Answers answer old new
-    → (new.wire.phase ≡ phase.Socket → ⊥) → TakesRequest site answer old new more
-unopened site Part old new more h n = h
-unopened site (Page bytes) old new more h n = h
-unopened site (Socket upgrade) old new more h n = absurd (n (ap (λ (v : Visitor). v.wire.phase) h.2))
+pub unopened : (site : Site) (answer : Response) (old new : Visitor) → Answers answer old new
+    → (new.wire.phase ≡ phase.Socket → ⊥) → TakesRequest site answer old new false
+unopened site Part old new h n = (refl, h)
+unopened site (Page bytes) old new h n = (refl, h)
+unopened site (Socket upgrade) old new h n = absurd (n (ap (λ (v : Visitor). v.wire.phase) h.2))
 
 -- a connection that has ended
-pub ended : (site : Site) (s : Phase) (v : Visitor) (more : Bool) → (s ≡ phase.Request → ⊥)
-    → (s ≡ phase.Socket → ⊥) → TakesBytes site s v v more
-ended site phase.Request v more r n = absurd (r refl)
-ended site phase.Socket v more r n = absurd (n refl)
-ended site phase.Last v more r n = refl
+pub ended : (site : Site) (s : Phase) (v : Visitor) → (s ≡ phase.Request → ⊥)
+    → (s ≡ phase.Socket → ⊥) → TakesBytes site s v v false
+ended site phase.Request v r n = absurd (r refl)
+ended site phase.Socket v r n = absurd (n refl)
+ended site phase.Last v r n = (refl, refl)
 
 pub is_request : (s : Phase) → (s ≡ phase.Socket → ⊥) → (s ≡ phase.Last → ⊥) → s ≡ phase.Request
 is_request phase.Request n m = refl

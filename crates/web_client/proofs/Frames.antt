@@ -8,7 +8,7 @@ use Rattle.websocket.specs.declared.protocol.context.Step.{Step}
 use Rattle.websocket.specs.declared.protocol.frame.codec.FrameStatus.{FrameStatus}
 use Rattle.websocket.specs.declared.protocol.frame.codec.FrameStatus.TheVariants.{Partial, Complete}
 use Rattle.websocket.specs.Content.{Content, received_content}
-use Rattle.websocket.specs.Connection.{Connection, Effect}
+use Rattle.websocket.specs.Connection.{Connection, Effect, Sends}
 use Rattle.websocket.specs.View.{Returns, ReadLeaves}
 use Rattle.web_client.specs.declared.identity.Identity.{Identity}
 use Rattle.web_client.specs.declared.wire.Phase.TheVariants.{Socket, Last}
@@ -16,6 +16,7 @@ use Rattle.web_client.specs.declared.frame.PageFrame.{PageFrame}
 use Rattle.web_client.specs.declared.frame.PageFrame.TheVariants as frame
 use Rattle.web_client.specs.Frames.{Page, Says, SaysNothing, Closes, IsSaid, BeginsWith, IsRead, Reads, GoesOn}
 use Rattle.web_client.specs.Frames.{EndsWith, TakesMessage, answered_after, TakesFrame, TakesFrames, EndsAt, TakesSome}
+use Rattle.web_client.specs.Frames.{Replies}
 
 -- what was lent of a list from a place on, and given back
 pub behind : (n k : ℕ) (a r post rest : List ℕ) → n ≤ length a → k ≡ length a → length r ≡ length a - n
@@ -44,10 +45,14 @@ waits (Ok (Partial m)) input n h = (m, refl)
 waits (Ok (Complete f)) input n h = absurd h
 
 pub leaves : (r : Result (FrameStatus (ℕ × Effect)) Error) (before after : Connection) (old new : List ℕ)
-    (f : ℕ × Effect) → ReadLeaves r before after old new → r ≡ Ok (Complete f) → after ≡ f.1.next
+    (f : ℕ × Effect) → ReadLeaves r before after old new → r ≡ Ok (Complete f)
+    → (after ≡ f.1.next) × Sends f.1.next.role f.1.reply old new
 leaves (Err e) before after old new f h is = absurd h
 leaves (Ok (Partial n)) before after old new f h is = absurd (cc is)
-leaves (Ok (Complete g)) before after old new f h is = let same : g ≡ f = cc is in rw same at h.0
+leaves (Ok (Complete g)) before after old new f h is =
+    let same : g ≡ f = cc is in
+    subst (λ (k : ℕ × Effect). (after ≡ k.1.next) × Sends k.1.next.role k.1.reply old new) same
+    (h.0, subst (λ (c : Connection). Sends c.role g.1.reply old new) h.0 h.1)
 
 -- ---- a loop over the frames
 
@@ -55,7 +60,7 @@ leaves (Ok (Complete g)) before after old new f h is = let same : g ≡ f = cc i
 abbrev pub Went : {A : Type 0} → Option A → ℕ → Page → Page → Type 0
 Went watcher count old now =
     (TakesFrames count old now × (now.phase ≡ Socket))
-    ⊎ ((n : ℕ) × (last : Page) × TakesFrames n old last × (now.phase ≡ Last) × EndsAt watcher last now.identity)
+    ⊎ ((n : ℕ) × (last : Page) × TakesFrames n old last × (now.phase ≡ Last) × EndsAt watcher last now)
 
 pub started : {A : Type 0} (watcher : Option A) (p : Page) → p.phase ≡ Socket → Went watcher 0 p p
 unfolding TakesFrames
@@ -97,6 +102,8 @@ after_message watcher message count old now read next w e r s t =
           frame = r.0;
           read = record {
             next = r.1.next;
+            replies = subst (λ (l : List ℕ). Sends r.0.1.next.role r.0.1.reply now.output l) (sym h.output)
+                r.1.replies;
             phase = h.phase ∙ r.1.phase;
             socket = h.socket ∙ r.1.socket;
             waiting = h.waiting ∙ r.1.waiting;
@@ -111,13 +118,13 @@ after_message watcher message count old now read next w e r s t =
         now,
         k,
         h.0,
-        inr (inr (
+        inr (
           r.0,
           message,
           r.1.next,
           r.2,
           subst (λ (v : Identity). EndsWith watcher v message next.identity) s h.1,
-        )),
+        ),
       )
     ]
 
@@ -132,6 +139,7 @@ shifted watcher message old new a b e t =
         socket = h.socket;
         waiting = e;
         answered = h.answered;
+        output = h.output;
         identity = h.identity;
       })
       | inr h ↦ inr h
@@ -148,7 +156,7 @@ after_none watcher count old now next w e r s =
         count,
         now,
         k,
-        inr (h.0, elim h.1 [ inl b ↦ inl (b, s) | inr c ↦ inr (inl (c.0, c.1, c.2, s)) ]),
+        inr (h.0, inl (h.1, s)),
       )
     ]
 
@@ -163,17 +171,18 @@ further taken count old new said items rest w d h =
 
 -- a frame was read, and this is what it says
 pub read_whole : (f : ℕ × Effect) (said : PageFrame) (content : Option Content) (old new : Page) → BeginsWith old f
-    → content ≡ f.1.message → IsSaid content said → new.socket ≡ f.1.next → new.waiting ≡ drop f.0 old.waiting
-    → new.answered ≡ answered_after content old.answered
+    → content ≡ f.1.message → IsSaid content said → (new.socket ≡ f.1.next) × Replies f.1 old new
+    → new.waiting ≡ drop f.0 old.waiting → new.answered ≡ answered_after content old.answered
     → (said ≡ frame.None → new.phase ≡ Last) → ((said ≡ frame.None → ⊥) → new.phase ≡ old.phase) → Reads old said new
 read_whole f frame.None content old new b m h s w a last same =
-    inr (last refl, inr (f, b, subst Closes m h))
+    inr (last refl, inr (f, b, subst Closes m h, s.1))
 read_whole f frame.Other content old new b m h s w a last same = (
   f,
   record {
     next = b;
+    replies = s.1;
     phase = same (λ e. cc e);
-    socket = s;
+    socket = s.0;
     waiting = w;
     answered = a ∙ ap (λ (it : Option Content). answered_after it old.answered) m;
   },
@@ -183,8 +192,9 @@ read_whole f (frame.Message message) content old new b m h s w a last same = (
   f,
   record {
     next = b;
+    replies = s.1;
     phase = same (λ e. cc e);
-    socket = s;
+    socket = s.0;
     waiting = w;
     answered = a ∙ ap (λ (it : Option Content). answered_after it old.answered) m;
   },

@@ -1,5 +1,5 @@
 -- What a browser asks of the server, and what its client hears of it.
-use Rattle.std.specs.Prelude.{◌≡◌, ◌⊎◌, Bool, true, ℕ, ◌+◌, ◌-◌, ◌*◌, ◌%◌, max, min, List, [], ◌∷◌, ◌++◌}
+use Rattle.std.specs.Prelude.{◌≡◌, ◌≢◌, ◌⊎◌, Bool, true, ℕ, ◌+◌, ◌-◌, ◌*◌, ◌%◌, max, min, List, [], ◌∷◌, ◌++◌}
 use Rattle.std.specs.Prelude.{length, take, drop, slice_index, None, IsUtf8}
 use Rattle.std.specs.List.{flat_map, AllByRecursion}
 use Rattle.acl.specs.Names.{named_by}
@@ -54,12 +54,14 @@ HearsBytes old bytes new =
     ⊎ (Hears old bytes new × (new.name ≡ old.name) × KeepsSent old.sheet new.sheet)
 
 module _ {S : Type 0} (reads : S → List ℕ → ReadOutcome → S → Type 0) where
-  -- One read was made, and the display heard what came, and nothing else. If it can't, the connection ends.
+  -- One read was made, and the display heard what came, and nothing else. If it can't hear all of it, the connection
+  -- ends.
   pub record HearsRead (stream : S) (old : WebDisplay) (came : ReadOutcome) (left : S) (new : WebDisplay) : Type 0 where
     pub piece : List ℕ
     pub arrived : ReadOutcome
     pub read : reads stream piece arrived left
-    pub heard : ((came ≡ arrived) × HearsBytes old piece new) ⊎ (came ≡ End)
+    pub heard : ((came ≡ arrived) × HearsBytes old piece new)
+        ⊎ ((came ≡ End) × (piece ≢ []) × (new.name ≡ old.name) × KeepsSent old.sheet new.sheet)
 
 -- ---- identities
 
@@ -131,6 +133,15 @@ Keeps (Watching rows columns) after = after ≡ Watching rows columns
 Keeps (Link secret) after = after ≡ Link secret
 Keeps Unknown after = after ≡ Unknown
 Keeps Left after = after ≡ Left
+
+-- A client's page was shown: of the client only the sheet changes.
+abbrev pub OnlyShows : WebClient → WebClient → Type 0
+OnlyShows old new = new ≡ record old { display = record old.display { sheet = new.display.sheet } }
+
+-- the page of its own client was shown
+abbrev pub ShowsFor : Identity → Identity → Type 0
+ShowsFor (Own before) after = IsOwn after (OnlyShows before)
+ShowsFor other after = after ≡ other
 
 -- One read of the server was made for its own client, which heard what came. Without a client the connection ends.
 abbrev pub HearsFor : {S : Type 0} → (S → List ℕ → ReadOutcome → S → Type 0) → S → Identity → ReadOutcome → S → Identity

@@ -7,7 +7,10 @@ use Rattle.websocket.specs.declared.protocol.frame.codec.FrameStatus.TheVariants
 use Rattle.websocket.specs.declared.protocol.config.Role.TheVariants.{Server}
 use Rattle.websocket.specs.declared.protocol.state.WebSocketState.TheVariants.{Active}
 use Rattle.websocket.specs.Content.{Content, text, binary, ping, pong, close}
-use Rattle.websocket.specs.Connection.{Connection, Effect, read_step, StartsWithFragment, ReadAsksReply}
+use Rattle.websocket.specs.Connection.{Connection, Effect, Sends, close_step, failed_connection, read_step}
+use Rattle.websocket.specs.Connection.{StartsWithFragment, ReadAsksReply}
+use Rattle.websocket.specs.View.{Leaves as LeavesBy}
+use Rattle.websocket.specs.declared.protocol.frame.coding.CloseCode.TheVariants.{Protocol}
 use Rattle.web_client.specs.declared.identity.Identity.{Identity}
 use Rattle.web_client.specs.declared.identity.Identity.TheVariants.{Nobody, Own, Watching, Link, Unknown, Left}
 use Rattle.web_client.specs.declared.wire.Wire.{Wire}
@@ -28,14 +31,15 @@ use Rattle.web_client.specs.declared.visitor.TheConstants.{UNKNOWN}
 use Rattle.attach_proto.specs.declared.why.Why.TheVariants.{Detached}
 use Rattle.web_client.specs.Rows.{Adds, Refuses, TellsLast, gone}
 
--- how far a page's connection is, its WebSocket, the bytes that came and weren't read, its identity, and how many bytes
--- of rows it has answered for
+-- how far a page's connection is, its WebSocket, the bytes that came and weren't read, its identity, how many bytes of
+-- rows it has answered for, and the bytes on their way to it
 pub record Page : Type 0 where
   pub phase : Phase
   pub socket : Connection
   pub waiting : List ℕ
   pub identity : Identity
   pub answered : ℕ
+  pub output : List ℕ
 
 -- a page with this wire, of which these bytes wait
 abbrev pub stands : Wire → List ℕ → Identity → Page
@@ -45,6 +49,7 @@ stands wire waiting identity = record {
   waiting = waiting;
   identity = identity;
   answered = wire.answered;
+  output = wire.output.items;
 }
 
 abbrev pub page : Visitor → Page
@@ -65,7 +70,7 @@ fresh = record {
 
 -- a connection that has sent nothing
 abbrev pub begun : Page
-begun = record { phase = Request; socket = fresh; waiting = []; identity = Nobody; answered = 0 }
+begun = record { phase = Request; socket = fresh; waiting = []; identity = Nobody; answered = 0; output = [] }
 
 -- ---- frames
 
@@ -115,19 +120,35 @@ IsBroken p =
     ((e : Error) × (read_step p.socket p.waiting ≡ Err e))
     ⊎ (StartsWithFragment p.socket p.waiting ⊎ ReadAsksReply (read_step p.socket p.waiting))
 
+-- the page is sent the reply that the WebSocket's protocol asks for, if it asks for one, and nothing else
+abbrev pub Replies : Effect → Page → Page → Type 0
+Replies effect old new = Sends effect.next.role effect.reply old.output new.output
+
+-- a page whose frame can't be read is sent a close frame, and nothing else
+abbrev pub Rejects : Page → Page → Type 0
+Rejects old new =
+    LeavesBy (close_step (failed_connection old.socket) (Some (Protocol, []))) new.socket old.output new.output
+
 -- the frame was read
 pub record IsRead (f : ℕ × Effect) (old new : Page) : Type 0 where
   pub next : BeginsWith old f
+  pub replies : Replies f.1 old new
   pub phase : new.phase ≡ old.phase
   pub socket : new.socket ≡ f.1.next
   pub waiting : new.waiting ≡ drop f.0 old.waiting
   pub answered : new.answered ≡ answered_after f.1.message old.answered
 
+-- the connection ends at the next frame
+abbrev pub EndsAtFrame : Page → Page → Type 0
+EndsAtFrame old new =
+    (IsBroken old × Rejects old new)
+    ⊎ ((f : ℕ × Effect) × BeginsWith old f × Closes f.1.message × Replies f.1 old new)
+
 -- one frame: it was read, or it isn't whole, or the connection ends at it
 abbrev pub Reads : Page → PageFrame → Page → Type 0
 Reads old frame.None new =
     (Waits old × (new ≡ old))
-    ⊎ ((new.phase ≡ Last) × (IsBroken old ⊎ ((f : ℕ × Effect) × BeginsWith old f × Closes f.1.message)))
+    ⊎ ((new.phase ≡ Last) × EndsAtFrame old new)
 Reads old frame.Other new = (f : ℕ × Effect) × IsRead f old new × SaysNothing f.1.message
 Reads old (frame.Message message) new = (f : ℕ × Effect) × IsRead f old new × Says f.1.message message.items
 
@@ -156,6 +177,7 @@ pub record GoesOnBy (message : List ℕ) (old new : Page) : Type 0 where
   pub socket : new.socket ≡ old.socket
   pub waiting : new.waiting ≡ old.waiting
   pub answered : new.answered ≡ old.answered
+  pub output : new.output ≡ old.output
   pub identity : GoesOn old.identity message new.identity
 
 abbrev pub TakesMessage : {A : Type 0} → Option A → List ℕ → Page → Page → Type 0
@@ -182,16 +204,15 @@ TakesFrames zero old new = new ≡ old
 TakesFrames (suc n) old new = (between : Page) × TakesFrames n old between × TakesFrame between new
 
 -- the connection ends at the next frame, which isn't read, or whose message is the last or wrong
-abbrev pub EndsAt : {A : Type 0} → Option A → Page → Identity → Type 0
-EndsAt watcher p after =
-    (IsBroken p × (after ≡ p.identity))
-    ⊎ (((f : ℕ × Effect) × BeginsWith p f × Closes f.1.message × (after ≡ p.identity))
+abbrev pub EndsAt : {A : Type 0} → Option A → Page → Page → Type 0
+EndsAt watcher p new =
+    (EndsAtFrame p new × (new.identity ≡ p.identity))
     ⊎ ((f : ℕ × Effect) × (message : List ℕ) × BeginsWith p f × Says f.1.message message
-    × EndsWith watcher p.identity message after))
+    × EndsWith watcher p.identity message new.identity)
 
 -- no frame is left that is whole, or the connection ended at one
 abbrev pub IsDone : {A : Type 0} → Option A → Page → Page → Type 0
-IsDone watcher last new = (Waits last × (new ≡ last)) ⊎ ((new.phase ≡ Last) × EndsAt watcher last new.identity)
+IsDone watcher last new = (Waits last × (new ≡ last)) ⊎ ((new.phase ≡ Last) × EndsAt watcher last new)
 
 -- Frames that are whole were read, one after another, and their messages taken: all of them, up to one at which the
 -- connection ends; or the first 64, and more may be left.
@@ -230,14 +251,14 @@ TakesOpen site old new more = TakesSome site.watcher (page old) (page new) more 
 abbrev pub TakesRequest : Site → Response → Visitor → Visitor → Bool → Type 0
 TakesRequest site (answer.Socket upgrade) old new more =
     (opened : Visitor) × Answers (answer.Socket upgrade) old opened × TakesOpen site opened new more
-TakesRequest site a old new more = Answers a old new
+TakesRequest site a old new more = (more ≡ false) × Answers a old new
 
 -- what came of a browser is taken, and more may be left
 abbrev pub TakesBytes : Site → Phase → Visitor → Visitor → Bool → Type 0
 TakesBytes site Request old new more =
     (a : Response) × AnswersBytes site old.input.items a × TakesRequest site a old new more
 TakesBytes site Socket old new more = TakesOpen site old new more
-TakesBytes site Last old new more = new ≡ old
+TakesBytes site Last old new more = (more ≡ false) × (new ≡ old)
 
 -- ---- bounds
 

@@ -1,7 +1,7 @@
 //! A browser's own client, and which page a browser is shown.
 
 ghost use Rattle.std.specs.Prelude.{◌≡◌, ◌↔◌, ◌≤◌, OnOk, IsTrue, false};
-ghost use Rattle.web_client.specs.Asking.{AsksFor, HearsFor, Keeps, IsOwn, IfOwn, IsWatcher};
+ghost use Rattle.web_client.specs.Asking.{AsksFor, HearsFor, ShowsFor, OnlyShows, IsOwn, IfOwn, IsWatcher};
 ghost use Rattle.web_client.specs.Rows.{Adds, IsDue, Shows, SendsAll};
 ghost use Rattle.web_client.specs.Frames.{IsWithin};
 
@@ -70,6 +70,7 @@ impl Visitor {
         ensures bound { self.old.wire.phase ≡ Phase.Socket → IsWatcher self.old.identity
             → OnOk result (IsWithin self.new.wire) }
         ensures same { self.new ≡ record self.old { wire = self.new.wire; view = self.new.view } }
+        ensures keeps { OnlyShows shared.old.client shared.new.client }
     {
         if !self.is_open() || !self.is_watcher() {
             return Ok(());
@@ -96,7 +97,7 @@ impl Visitor {
             → OnOk result (self.new.wire.sent ≡ self.old.wire.sent)) }
         ensures adds { OnOk result (Adds self.old.wire self.new.wire) }
         ensures bound { self.old.wire.phase ≡ Phase.Socket → OnOk result (IsWithin self.new.wire) }
-        ensures keeps { Keeps self.old.identity self.new.identity }
+        ensures keeps { ShowsFor self.old.identity self.new.identity }
         ensures same { self.new
             ≡ record self.old { wire = self.new.wire; view = self.new.view; identity = self.new.identity } }
     {

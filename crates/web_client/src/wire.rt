@@ -235,7 +235,7 @@ impl Wire {
         ensures sends { OnOk result (MaySendRows self.old self.new) }
         ensures needed { display.new.sheet.moment ≤ view.old.since → OnOk result (self.new ≡ self.old) }
         ensures welcomed { view.new.is_welcomed ≡ view.old.is_welcomed }
-        ensures told { display.new.told ≡ display.old.told }
+        ensures same { display.new ≡ record display.old { sheet = display.new.sheet } }
     {
         match display.update(view.since)? {
             Some(text) => {
@@ -319,6 +319,7 @@ impl Wire {
         ensures later { (IsDue display.old self.old → ⊥)
             → (view.new.since ≡ view.old.since) × (display.new ≡ display.old)
             × (self.new.sent ≡ self.old.sent) }
+        ensures same { display.new ≡ record display.old { sheet = display.new.sheet } }
     {
         let is_due = self.is_due(display);
         self.welcome(view, display)?;

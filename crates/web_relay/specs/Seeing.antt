@@ -4,7 +4,7 @@ use Rattle.std.specs.Prelude.{List, Option, Some, None, is_none}
 use Rattle.slab.specs.Slab.{with_value}
 use Rattle.web_client.specs.declared.visitor.Visitor.{Visitor}
 use Rattle.web_client.specs.declared.identity.Identity.TheVariants.{Watching}
-use Rattle.web_client.specs.Asking.{IsOwn, IfOwn, IsWatcher, Keeps}
+use Rattle.web_client.specs.Asking.{IsOwn, IfOwn, IsWatcher, OnlyShows, ShowsFor}
 use Rattle.web_client.specs.Rows.{IsDue, Shows, SendsAll}
 use Rattle.web_relay.specs.declared.hall.Hall.{Hall}
 use Rattle.web_relay.specs.declared.halls.Halls.{Halls}
@@ -64,7 +64,7 @@ module _ {S : Type 0} where
   -- the same; it is over if memory is refused, or too much waits
   pub record ShowsOwn (old new : Relay S) : Type 0 where
     pub sees : new.is_over ≡ false → SeesOwn old.visitor new.visitor
-    pub keeps : Keeps old.visitor.identity new.visitor.identity
+    pub keeps : ShowsFor old.visitor.identity new.visitor.identity
     pub over : old.is_over ≡ true → new.is_over ≡ true
     pub rest : new ≡ record old { visitor = new.visitor; is_over = new.is_over }
 
@@ -85,6 +85,7 @@ module _ {S : Type 0} where
     pub identity : new.visitor.identity ≡ old.visitor.identity
     pub over : old.is_over ≡ true → new.is_over ≡ true
     pub rest : new ≡ record old { visitor = new.visitor; is_over = new.is_over }
+    pub shown : OnlyShows hall.client.client after.client.client
     pub counted : after
         ≡ record hall { client = after.client; audience = min (hall.audience + 1) (2 ^ 64 - 1) }
 

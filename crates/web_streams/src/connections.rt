@@ -5,10 +5,11 @@ ghost use Rattle.std.specs.Prelude.{◌≡◌, ◌+◌, ◌-◌, ◌^◌, min};
 ghost use Rattle.web_streams.specs.Tokens.{IsAccepted, IsTokenOf, woken};
 ghost use Rattle.web_streams.specs.declared.connections.Woken.{Woken};
 
+use either::{Either, Left, Right};
 use mio::net::{TcpListener, TcpStream, UnixListener, UnixStream};
 use mio::{Interest, Registry, Token};
 use std::io;
-use std::io::{ErrorKind, Read, Write};
+use std::io::ErrorKind;
 use std::net::Net;
 use std::time::Duration;
 use web_requests::{Loopback, Site};
@@ -80,12 +81,9 @@ pub enum WebListener {
     Unix(UnixListener),
 }
 
-/// A connection.
-#[derive(Drop)]
-pub enum Stream {
-    Tcp(TcpStream),
-    Unix(UnixStream),
-}
+/// A connection. It reads and writes as `Either` does, whose contract holds for all streams: a call of one of these two
+/// kinds shows nothing of its bytes.
+pub type Stream = Either<TcpStream, UnixStream>;
 
 impl WebListener {
     /// Listens on an address of this machine.
@@ -160,7 +158,7 @@ pub trait BridgeStream {
 
 // A new connection to the socket at this path.
 fn connect_at<R: Net>(rt: &R, around: BridgeContext<'_>, token: Token) -> io::Result<Stream> {
-    let mut stream = Stream::Unix(UnixStream::connect(rt, around.socket)?);
+    let mut stream = Right(UnixStream::connect(rt, around.socket)?);
     stream.register(around.registry, token)?;
     Ok(stream)
 }
@@ -171,11 +169,11 @@ fn take_next(listener: &WebListener) -> io::Result<Stream> {
         WebListener::Tcp(it) => {
             let (stream, _) = it.accept()?;
             stream.set_nodelay(true)?;
-            Ok(Stream::Tcp(stream))
+            Ok(Left(stream))
         }
         WebListener::Unix(it) => {
             let (stream, _) = it.accept()?;
-            Ok(Stream::Unix(stream))
+            Ok(Right(stream))
         }
     }
 }
@@ -210,30 +208,8 @@ impl BridgeStream for Stream {
     fn register(&mut self, registry: &Registry, token: Token) -> io::Result<()> {
         let both = Interest::READABLE | Interest::WRITABLE;
         match self {
-            Stream::Tcp(it) => registry.register(it, token, both),
-            Stream::Unix(it) => registry.register(it, token, both),
+            Left(it) => registry.register(it, token, both),
+            Right(it) => registry.register(it, token, both),
         }
-    }
-}
-
-impl Read for Stream {
-    fn read(&mut self, buffer: &mut [u8]) -> io::Result<usize> {
-        match self {
-            Stream::Tcp(it) => it.read(buffer),
-            Stream::Unix(it) => it.read(buffer),
-        }
-    }
-}
-
-impl Write for Stream {
-    fn write(&mut self, bytes: &[u8]) -> io::Result<usize> {
-        match self {
-            Stream::Tcp(it) => it.write(bytes),
-            Stream::Unix(it) => it.write(bytes),
-        }
-    }
-
-    fn flush(&mut self) -> io::Result<()> {
-        Ok(())
     }
 }

@@ -1,5 +1,5 @@
 -- What the files of links say, what a link stands for at a time, and how one is taken.
-use Rattle.std.specs.Prelude.{◌≡◌, ◌⊎◌, ◌<◌, ◌^◌, ◌==◌, ℕ, List, length, Option, Some, None, IfSome}
+use Rattle.std.specs.Prelude.{◌≡◌, ◌⊎◌, ◌<◌, ◌^◌, ◌==◌, ◌∷◌, ◌++◌, ℕ, List, length, Option, Some, None, IfSome}
 use Rattle.std.specs.List.{after_first, before_first, position_or_len}
 use Rattle.std.specs.Str.Parse.{IsNumeral, digits_value, without_leading_plus}
 use Rattle.std.specs.String.{string_bytes}
@@ -27,6 +27,23 @@ pub record IsLinkFile (text name token : List ℕ) (end : ℕ) : Type 0 where
 -- it stands for its user and its token before that many seconds after 1970
 abbrev pub StandsAt : (text : List ℕ) (seconds : ℕ) (name token : List ℕ) → Type 0
 StandsAt text seconds name token = (end : ℕ) × IsLinkFile text name token end × (seconds < end)
+
+-- the path of the link with this secret: the secret is its name in the folder
+abbrev pub file_of : (folder secret : List ℕ) → List ℕ
+file_of folder secret = folder ++ 0x2F ∷ secret
+
+-- a link that was found has the text that was read at its path, and the time
+abbrev pub FindsAt : (tells : ℕ → Type 0) (reads : (path text : List ℕ) → Type 0) (folder secret : List ℕ)
+    → Option FoundLink → Type 0
+FindsAt tells reads folder secret None = Unit {0}
+FindsAt tells reads folder secret (Some found) =
+    tells found.seconds × reads (file_of folder secret) (string_bytes found.text)
+
+-- what was read of a link is given if the file at its path was removed
+abbrev pub RemovesAt : (removes : (path : List ℕ) → Type 0) (folder : List ℕ) → FoundLink → Option (List ℕ × ℕ)
+    → Type 0
+RemovesAt removes folder found None = Unit {0}
+RemovesAt removes folder found (Some taken) = removes (file_of folder found.secret)
 
 -- A link's file was read, and what was read is taken if the file was removed after that. So a link is good for one use.
 abbrev pub TakesLink : (finds : (folder secret : List ℕ) → Option FoundLink → Type 0)

@@ -10,7 +10,7 @@ mod turning;
 mod waiting;
 
 pub use bridge::{Bridge, BridgeOptions, WebHost, serve};
-pub use link_files::LinkFiles;
+pub use link_files::{LinkDisk, LinkFiles};
 pub use links::TakesLinks;
 pub use log::{WebLog, start_log};
 pub use waiting::Waits;

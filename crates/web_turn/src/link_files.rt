@@ -1,16 +1,72 @@
 //! Files of links: each is read, and then removed by its only use.
 
-ghost use Rattle.std.specs.Prelude.{◌≡◌, ◌++◌, ◌∷◌, IfOk};
+ghost use Rattle.std.specs.Prelude.{◌≡◌, IfSome};
 ghost use Rattle.std.specs.String.{string_bytes};
+ghost use Rattle.web_turn.specs.Links.{FindsAt, RemovesAt, file_of};
 
 use attach_proto::Token;
-use std::alloc::{AllocError, AllocGlobal, Global};
+use std::alloc::{AllocGlobal, Global};
 use std::fs;
 use std::fs::{File, Files};
 use std::time::{Clock, SystemTime};
 
 // The file of a link has no more bytes.
 const MOST: u64 = 200;
+
+/// What is at a path, and the time. Each relation is shown by a call of its function alone.
+pub trait LinkDisk {
+    ghost use Rattle.std.specs.Prelude.{◌≡◌, ℕ, List, IfSome};
+    ghost use Rattle.std.specs.String.{string_bytes};
+
+    // The time, in seconds after 1970.
+    ghost tells: { Self → ℕ → Type 0 };
+
+    // A path, and the text of the file there.
+    ghost reads: { Self → (path text : List ℕ) → Type 0 };
+
+    // A path whose file was removed.
+    ghost removes: { Self → (path : List ℕ) → Type 0 };
+
+    fn seconds(&self) -> Option<u64>
+        ensures { IfSome result (tells self.now) };
+
+    /// The text of the file at a path. None if there is none, or something else than a short file.
+    fn read_at(&self, path: &str) -> Option<String>
+        ensures { IfSome result (λ text. reads self.now path.now (string_bytes text)) };
+
+    /// Removes the file at a path. None if there is none.
+    fn remove_at(&self, path: &str) -> Option<()>
+        ensures { IfSome result (λ _. removes self.now path.now) };
+}
+
+impl<R: Files<File = File> + Clock + AllocGlobal> LinkDisk for R {
+    ghost tells = { λ host seconds. Unit {0} };
+
+    ghost reads = { λ host path text. Unit {0} };
+
+    ghost removes = { λ host path. Unit {0} };
+
+    fn seconds(&self) -> Option<u64> {
+        let now = SystemTime::now(self)
+            .ok()?
+            .duration_since(SystemTime::UNIX_EPOCH)
+            .ok()?;
+        Some(now.as_secs())
+    }
+
+    fn read_at(&self, path: &str) -> Option<String> {
+        // Opening a FIFO would wait.
+        let found = fs::metadata(self, path).ok()?;
+        if !found.is_file() || found.len() > MOST {
+            return None;
+        }
+        fs::read_to_string(self, path).ok()
+    }
+
+    fn remove_at(&self, path: &str) -> Option<()> {
+        fs::remove_file(self, path).ok()
+    }
+}
 
 /// A link whose file was read. Only a call of `find_link` makes one, and it isn't dropped: `remove_link` takes it.
 pub struct FoundLink {
@@ -46,34 +102,46 @@ pub trait LinkFiles {
 }
 
 // The path of the link with this secret: the secret is its name in the folder.
-fn path_of(alloc: Global, folder: &str, secret: &str) -> Result<String, AllocError>
-    ensures { IfOk result (λ path. string_bytes path ≡ folder.now ++ 0x2F ∷ secret.now) }
+fn path_of(alloc: Global, folder: &str, secret: &Token) -> Option<String>
+    ensures { IfSome result (λ path. string_bytes path ≡ file_of folder.now secret.now) }
 {
-    format!(in alloc; "{folder}/{secret}")
+    let Ok(secret) = str::from_utf8(secret.as_slice()) else {
+        return None;
+    };
+    match format!(in alloc; "{folder}/{secret}") {
+        Ok(path) => Some(path),
+        Err(_) => None,
+    }
 }
 
-impl<R: Files<File = File> + Clock + AllocGlobal> LinkFiles for R {
-    ghost finds = { λ host folder secret found. Unit {0} };
+// Reads the file of the link with this secret.
+fn read_link<R: LinkDisk + AllocGlobal>(rt: &R, folder: &str, secret: &Token) -> Option<String>
+    ensures { IfSome result (λ text. R.reads rt.now (file_of folder.now secret.now) (string_bytes text)) }
+{
+    let path = path_of(rt.alloc(), folder, secret)?;
+    rt.read_at(path.as_str())
+}
 
-    ghost removes = { λ host folder found taken. Unit {0} };
+// Removes the file of the link with this secret.
+fn remove_file<R: LinkDisk + AllocGlobal>(rt: &R, folder: &str, secret: &Token) -> Option<()>
+    ensures { IfSome result (λ _. R.removes rt.now (file_of folder.now secret.now)) }
+{
+    let path = path_of(rt.alloc(), folder, secret)?;
+    rt.remove_at(path.as_str())
+}
+
+impl<R: LinkDisk + AllocGlobal> LinkFiles for R {
+    ghost finds = { λ host folder secret found. FindsAt (R.tells host) (R.reads host) folder secret found };
+
+    ghost removes = { λ host folder found taken. RemovesAt (R.removes host) folder found taken };
 
     fn find_link(&self, folder: &str, secret: Token) -> Option<FoundLink> {
-        let now = SystemTime::now(self)
-            .ok()?
-            .duration_since(SystemTime::UNIX_EPOCH)
-            .ok()?;
-        let name = str::from_utf8(secret.as_slice()).ok()?;
-        let path = path_of(self.alloc(), folder, name).ok()?;
-        // Opening a FIFO would wait.
-        let found = fs::metadata(self, path.as_str()).ok()?;
-        if !found.is_file() || found.len() > MOST {
-            return None;
-        }
-        let text = fs::read_to_string(self, path.as_str()).ok()?;
+        let now = self.seconds()?;
+        let text = read_link(self, folder, &secret)?;
         Some(FoundLink {
             secret,
             text,
-            seconds: now.as_secs(),
+            seconds: now,
         })
     }
 
@@ -83,9 +151,7 @@ impl<R: Files<File = File> + Clock + AllocGlobal> LinkFiles for R {
             text,
             seconds,
         } = found;
-        let name = str::from_utf8(secret.as_slice()).ok()?;
-        let path = path_of(self.alloc(), folder, name).ok()?;
-        fs::remove_file(self, path.as_str()).ok()?;
+        remove_file(self, folder, &secret)?;
         Some((text, seconds))
     }
 }

@@ -12,3 +12,11 @@ returns-in_ok-show-in-Own-clause-later c =
     rw c.in-Own.is (λ not_due.
     let kept = c.show.ensures.later not_due in
     (kept.0, ap (λ (d : WebDisplay). record c.in-Own.client { display = d }) kept.1))
+
+pub returns-in_ok-show-in-Own-clause-keeps : goal.returns-in_ok-show-in-Own-clause-keeps
+returns-in_ok-show-in-Own-clause-keeps c =
+    rw c.in-Own.is (ap (λ (d : WebDisplay). record c.in-Own.client { display = d }) c.show.ensures.same)
+
+pub returns-in_err-show-in-Own-clause-keeps : goal.returns-in_err-show-in-Own-clause-keeps
+returns-in_err-show-in-Own-clause-keeps c =
+    rw c.in-Own.is (ap (λ (d : WebDisplay). record c.in-Own.client { display = d }) c.show.ensures.same)

@@ -18,7 +18,7 @@ returns-else-is_open-clause-takes c =
             w.in_ok-answer.answer,
             subst (λ (l : List ℕ). AnswersBytes c.args.site.now l w.in_ok-answer.answer) w.deref.ensures.value
                 w.in_ok-answer.ensures,
-            unopened c.args.site.now w.in_ok-answer.answer c.args.self.now c.if-eq.self false
+            unopened c.args.site.now w.in_ok-answer.answer c.args.self.now c.if-eq.self
                 (subst (λ (v : Visitor). Answers w.in_ok-answer.answer c.args.self.now v) (sym w.self-is)
                 w.in_ok-take_answer.ensures.ok)
                 closed,
@@ -26,7 +26,7 @@ returns-else-is_open-clause-takes c =
       | else-eq w ↦
           subst (λ (v : Visitor). TakesBytes c.args.site.now c.args.self.now.wire.phase c.args.self.now v false)
           (sym w.self-is)
-          (ended c.args.site.now c.args.self.now.wire.phase c.args.self.now false (λ e. search rules)
+          (ended c.args.site.now c.args.self.now.wire.phase c.args.self.now (λ e. search rules)
           (λ e. closed (subst (λ (v : Visitor). v.wire.phase ≡ phase.Socket) (sym w.self-is) e)))
     ]
 

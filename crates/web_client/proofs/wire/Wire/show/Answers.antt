@@ -24,7 +24,7 @@ pub returns-clause-sends : goal.returns-clause-sends
 returns-clause-sends c =
     let same : c.if-is_due.display.told ≡ c.args.display.now.told =
     elim c.if-is_due.branch [
-      | then-is_due+in_ok-send_rows w ↦ ap (λ (d : WebDisplay). d.told) w.display-is ∙ w.send_rows.ensures.told
+      | then-is_due+in_ok-send_rows w ↦ ap (λ (d : WebDisplay). d.told) (w.display-is ∙ w.send_rows.ensures.same)
       | else-is_due w ↦ ap (λ (d : WebDisplay). d.told) w.display-is
     ] in
     let rows : MaySendRows c.welcome.new.self c.if-is_due.self =
@@ -81,4 +81,11 @@ returns-clause-later c = λ n.
           let since : c.if-is_due.view.since ≡ c.args.view.now.since = rw w.view-is c.welcome.ensures.since in
           let sent : c.if-is_due.self.sent ≡ c.args.self.now.sent = rw w.self-is c.welcome.ensures.sent in
           (since, w.display-is, c.end.ensures.sent ∙ sent)
+    ]
+
+pub returns-clause-same : goal.returns-clause-same
+returns-clause-same c =
+    elim c.if-is_due.branch [
+      | then-is_due+in_ok-send_rows w ↦ rw w.display-is w.send_rows.ensures.same
+      | else-is_due w ↦ rw w.display-is refl
     ]

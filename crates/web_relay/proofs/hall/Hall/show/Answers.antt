@@ -15,6 +15,7 @@ returns-in-Ok g c = record {
   identity = ap (λ (v : Visitor). v.identity) c.in-Ok.ensures.same;
   over = λ e. e;
   rest = refl;
+  shown = c.in-Ok.ensures.keeps;
   counted = ap (λ (n : ℕ). record c.args.self.now { client = c.show_shared.new.shared; audience = n })
       c.saturating_add-self.ensures;
 }
