@@ -1,7 +1,7 @@
 -- A trail's file: the bytes that were written, and the trail that it has when it is read back.
-use Rattle.std.specs.Prelude.{◌≡◌, ℕ, ◌+◌, Bool, true, List, [], ◌∷◌, ◌++◌, length, take, Option}
+use Rattle.std.specs.Prelude.{◌≡◌, ℕ, ◌+◌, Bool, true, false, List, [], ◌∷◌, ◌++◌, length, take, Option}
 use Rattle.std.specs.Prelude.{Some, None}
-use Rattle.std.specs.Io.KnownBytes.{Appends}
+use Rattle.std.specs.Io.KnownBytes.{Appends, Keeps}
 use Rattle.acl.specs.declared.leaders.Edition.TheVariants as edition
 use Rattle.acl.specs.declared.user_id.UserId.{UserId}
 use Rattle.hub.specs.Trails.{Entry}
@@ -10,6 +10,7 @@ use Rattle.trail_lines.specs.declared.ending.Cause.{Cause}
 use Rattle.trail_lines.specs.declared.ending.Ended.{Ended}
 use Rattle.trail_lines.specs.declared.header.Header.{Header}
 use Rattle.trail_lines.specs.Heading.{end_text, header_text, read_end}
+use Rattle.server_trail.specs.declared.waiting.Written.{Written}
 
 -- ---- writing
 
@@ -29,6 +30,17 @@ pub record HasWritten (old new : Option (List ℕ)) (bytes : List ℕ) (is_all :
 abbrev pub end_line : ℕ → ℕ → Cause → List ℕ
 end_line entries ms cause =
     end_text (record { entries = entries; ms = ms; cause = cause }) ++ 0x0A ∷ []
+
+-- if all lines before it were written, the last line was, with this cause
+pub record HasLastLine (written : Written) (cause : Cause) (old new : Option (List ℕ)) (is_all : Bool) : Type 0 where
+  pub torn : written.is_whole ≡ false → Keeps old new × (is_all ≡ false)
+  pub whole : written.is_whole ≡ true
+      → (ms : ℕ) × HasWritten old new (end_line written.entries ms cause) is_all
+
+-- if no cause is known, there is none
+abbrev pub IsEnded : Written → Option Cause → Option (List ℕ) → Option (List ℕ) → Bool → Type 0
+IsEnded written None old new is_all = Keeps old new × (is_all ≡ false)
+IsEnded written (Some cause) old new is_all = HasLastLine written cause old new is_all
 
 -- ---- reading
 

@@ -1,6 +1,6 @@
 pub mod Merging
 pub mod Files
 pub mod Faults
-pub mod Disks
+pub mod Stopping
 pub mod Journals
 pub mod Waiting

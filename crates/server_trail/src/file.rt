@@ -1,53 +1,17 @@
-//! A file to which a trail is written, and its first line.
+//! The first line of a trail's file.
 
 ghost use Rattle.std.specs.Prelude.{◌≡◌, ◌++◌, ◌∷◌, [], OnOk, IfOk};
-ghost use Rattle.std.specs.Io.KnownBytes.{Appends, Keeps};
+ghost use Rattle.std.specs.Io.KnownBytes.{Appends};
 ghost use Rattle.trail_lines.specs.Heading.{header_text};
 ghost use Rattle.server_trail.specs.Files.{Begins};
 
 use acl::{Edition, UserId};
 use session::Bytes;
 use std::alloc::{AllocError, Global};
-use std::fs::{File, OpenOptions};
-use std::io::{self, Write};
-use std::os::unix::fs::OpenOptionsExt;
-use std::rt::HostRuntime;
+use std::io;
 use std::time::Clock;
+use trail_disk::TrailFile;
 use trail_lines::{Header, print_header};
-
-/// A file to which a trail is written.
-pub trait TrailFile: Write {
-    /// Brings everything that was written to the disk.
-    fn sync(&mut self) -> io::Result<()>
-        ensures bytes { Keeps (Self.contents self.old) (Self.contents self.new) };
-}
-
-impl TrailFile for File {
-    fn sync(&mut self) -> io::Result<()> {
-        self.sync_data()
-    }
-}
-
-/// Makes files. Only a call of `make` shows how a file was made.
-pub trait FileMaker {
-    ghost use Rattle.std.specs.Prelude.{ℕ, List};
-    ghost use Rattle.std.specs.declared.fs.File.{File as Made};
-    ghost use Rattle.std.specs.declared.fs.OpenOptions.{OpenOptions as Options};
-
-    // The path, how the file is opened, its permissions, and the file.
-    ghost makes: { Self → List ℕ → Options → ℕ → Made → Type 0 };
-
-    fn make(&self, path: &str, options: OpenOptions, mode: u32) -> io::Result<File>
-        ensures { IfOk result (makes self.now path.now options mode) };
-}
-
-impl FileMaker for HostRuntime {
-    ghost makes = { λ files path options mode file. Unit {0} };
-
-    fn make(&self, path: &str, mut options: OpenOptions, mode: u32) -> io::Result<File> {
-        options.mode(mode).open(self, path)
-    }
-}
 
 /// The time of day, in milliseconds since 1970.
 pub fn time<R: Clock>(rt: &R) -> Option<u64> {

@@ -2,12 +2,12 @@
 
 ghost use Rattle.std.specs.Prelude.{◌≡◌, IfOk};
 ghost use Rattle.server_trail.specs.Faults.{fault_of, read_as};
-ghost use Rattle.server_trail.specs.Journals.{journal_path};
+ghost use Rattle.server_trail.specs.Journals.{HasEnded, journal_path};
 
-use crate::disk::{Disk, DiskWatch, StopCause, WatchedDisk, last_cause};
-use crate::file::{TrailFile, begin, header_of};
+use crate::file::{begin, header_of};
 use crate::reading::{ReadBack, read_back};
 use crate::recorder::Recorder;
+use crate::stop::{StopCause, last_cause};
 use crate::waiting::Written;
 use acl::{Edition, UserId};
 use hub::EntryList;
@@ -15,12 +15,11 @@ use program_words::SystemError;
 use session::Bytes;
 use std::alloc::Global;
 use std::fs::File;
-use std::io::{BufReader, ErrorKind};
-use std::rt::HostRuntime;
+use std::io::{self, BufReader, ErrorKind};
 use std::sync::{Condvar, Mutex, Wait};
 use std::time::{Clock, Duration};
-use std::{fs, io};
 use thiserror::Error;
+use trail_disk::{Disk, DiskWatch, FileMaker, MadeFile, NeverReady, TrailFile, WatchedDisk};
 use trail_lines::{Cause, Header};
 
 // The version that the file's first line names.
@@ -113,18 +112,14 @@ fn read_as(back: io::Result<Option<ReadBack>>) -> Result<ReadBack, JournalFault>
     }
 }
 
-/// Shows that a server never said that it is ready, and won't.
-pub trait NeverReady {}
-
 /// A new file for the trail of a session.
 #[derive(Drop)]
-pub struct Journal<'a> {
-    files: HostRuntime,
+pub struct Journal<'a, F: TrailFile + Drop = File> {
     alloc: Global,
-    path: &'a str,
+    made: MadeFile<'a>,
     // The time that the file's first line has.
     ms: u64,
-    file: Mutex<Disk<File>>,
+    file: Mutex<Disk<F>>,
     end: Mutex<JournalEnd>,
     ended: Condvar,
 }
@@ -139,9 +134,9 @@ struct JournalEnd {
 }
 
 impl<'a> Journal<'a> {
-    /// Makes a new file, with its first line, for the trail of a session of this owner.
-    pub fn create(
-        files: HostRuntime,
+    /// Makes a new file, with its first line, for the trail of a session of this owner. A file that is there stays.
+    pub fn create<R: FileMaker + Clock + Copy>(
+        files: R,
         alloc: Global,
         path: &'a str,
         owner: UserId,
@@ -151,15 +146,17 @@ impl<'a> Journal<'a> {
         let Ok(header) = header_of(&files, alloc, owner, VERSION) else {
             return Err(JournalFault::Memory);
         };
-        let mut file = Disk::create(&files, path).map_err(JournalFault::of_making)?;
+        let (mut file, made) = match Disk::create(&files, path) {
+            Ok(made) => made,
+            Err(error) => return Err(JournalFault::of_making(error)),
+        };
         if let Err(error) = begin(alloc, &mut file, &header) {
-            let _ = fs::remove_file(&files, path);
+            made.unmake();
             return Err(JournalFault::of_making(error));
         }
         Ok(Journal {
-            files,
             alloc,
-            path,
+            made,
             ms: header.ms,
             file: Mutex::new(file),
             end: Mutex::new(JournalEnd {
@@ -170,15 +167,17 @@ impl<'a> Journal<'a> {
             ended: Condvar::new(),
         })
     }
+}
 
+impl<'a, F: TrailFile + Drop> Journal<'a, F> {
     /// The file's path.
     pub fn path(&self) -> &'a str {
-        self.path
+        self.made.path()
     }
 
     /// Removes the file of a server that was never ready.
-    pub fn remove(&self, _server: &impl NeverReady) {
-        let _ = fs::remove_file(&self.files, self.path);
+    pub fn remove(&self, server: &impl NeverReady) {
+        self.made.remove(server);
     }
 
     /// Writes the lines of entries as they come, until all loops have ended, and tells what becomes of
@@ -204,16 +203,12 @@ impl<'a> Journal<'a> {
         recorder: &Recorder,
         written: Written,
         cause: Option<Cause>,
-    ) {
+    )
+        ensures { HasEnded F.contents written cause }
+    {
         let stopped = recorder.stopped();
         let mut disk = self.file.lock(rt);
-        let is_ended = match last_cause(stopped, cause) {
-            Some(cause) => recorder.end(rt, &mut *disk, written, cause),
-            None => {
-                let _ = disk.sync();
-                false
-            }
-        };
+        let is_ended = recorder.end_for(rt, &mut *disk, written, last_cause(stopped, cause));
         let (refused, unsynced) = (disk.refused(), disk.unsynced());
         let mut end = self.end.lock(rt);
         match fault_of(stopped, is_ended, refused, unsynced) {
@@ -247,8 +242,7 @@ impl<'a> Journal<'a> {
             version: Bytes::of(self.alloc, VERSION)?,
             ms: self.ms,
         };
-        let file = fs::open(&self.files, self.path)?;
-        let mut reader = BufReader::new(self.alloc, file)?;
+        let mut reader = BufReader::new(self.alloc, self.made.open()?)?;
         read_back(self.alloc, &mut reader, &header, entries)
     }
 

@@ -1,20 +1,21 @@
 //! Writes a session's trail to a file, and compares the file with the trail.
 #![tactic(auto)]
 
-mod disk;
 mod file;
 mod journal;
 mod merge;
 mod reading;
 mod recorder;
+mod stop;
 mod waiting;
 mod writing;
 
-pub use disk::{DiskNews, DiskWatch, StopCause};
-pub use file::{TrailFile, begin, header_of};
-pub use journal::{Journal, JournalFault, NeverReady};
+pub use file::{begin, header_of};
+pub use journal::{Journal, JournalFault};
 pub use merge::Merge;
 pub use reading::{ReadBack, read_back};
 pub use recorder::Recorder;
+pub use stop::StopCause;
+pub use trail_disk::{DiskNews, DiskWatch, NeverReady, TrailFile};
 pub use trail_lines::Cause;
-pub use waiting::{MOST, PutLine, Stopped, Written};
+pub use waiting::{Left, MOST, PutLine, Stopped, Written};

@@ -4,9 +4,9 @@ ghost use Rattle.std.specs.Prelude.{◌≡◌, IfOk};
 ghost use Rattle.std.specs.Option.{option_copied};
 ghost use Rattle.server_trail.specs.Waiting.{IsEntrys};
 
-use crate::disk::StopCause;
 use crate::file::time;
-use crate::waiting::{EntryLine, PutLine, Stopped, WaitingLines};
+use crate::stop::StopCause;
+use crate::waiting::{EntryLine, Left, PutLine, Stopped, WaitingLines};
 use hub::TrailEntry;
 use std::alloc::Global;
 use std::sync::atomic::{AtomicU64, Ordering};
@@ -109,9 +109,10 @@ impl Recorder {
         self.stop().map(|stopped| stopped.cause())
     }
 
-    /// A loop has ended, and puts nothing more down.
-    pub fn leave(&self, rt: &impl Wait) {
-        self.waiting.lock(rt).leave();
+    /// A loop has ended, and puts nothing more down. What shows that it is counted so.
+    pub fn leave(&self, rt: &impl Wait) -> Left {
+        let left = self.waiting.lock(rt).leave();
         self.news.notify_one();
+        left
     }
 }

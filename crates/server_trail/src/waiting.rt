@@ -1,5 +1,5 @@
 //! Lines that wait for the writer of a trail's file. Only what stands here says that a line was put down, that
-//! the file can't go on, and that text was written.
+//! the file can't go on, that text was written, and that a loop has ended.
 
 ghost use Rattle.std.specs.Prelude.{◌≡◌, ◌≤◌, ◌==◌, ◌+◌, ◌-◌, ◌<◌, ◌&&◌, ◌||◌, ◌++◌, ◌∷◌, []};
 ghost use Rattle.std.specs.Prelude.{true, ℕ, List, Err, IfOk, IfSome, OnOk, OnErr, nat_le, nat_lt, vec_len};
@@ -8,15 +8,15 @@ ghost use Rattle.std.specs.Io.KnownBytes.{Appends};
 ghost use Rattle.std.specs.List.{list_any};
 ghost use Rattle.std.specs.Option.{option_copied};
 ghost use Rattle.hub.specs.Legal.{asks_for_command};
-ghost use Rattle.server_trail.specs.Disks.{wakes};
 ghost use Rattle.server_trail.specs.Files.{HasWritten};
 ghost use Rattle.server_trail.specs.Merging.{HasMerged, Placed, early_bytes};
+ghost use Rattle.server_trail.specs.Stopping.{wakes};
 ghost use Rattle.server_trail.specs.Waiting.{IsOfEntry};
-ghost use Rattle.server_trail.specs.declared.disk.StopCause.TheVariants.{Disk, Memory};
+ghost use Rattle.server_trail.specs.declared.stop.StopCause.TheVariants.{Disk, Memory};
 ghost use Rattle.trail_lines.specs.Entries.{line_of};
 
-use crate::disk::StopCause;
 use crate::merge::Merge;
+use crate::stop::StopCause;
 use hub::{TrailEntry, asks_for_command};
 use session::Verdict;
 use std::alloc::{AllocError, Global};
@@ -24,6 +24,7 @@ use std::io::Write;
 use std::sync::{Mutex, Wait};
 use std::thread;
 use std::time::{Clock, Duration};
+use trail_disk::LAST_TRIES;
 use trail_lines::print_line;
 
 /// A line is taken as long as at most this number of bytes wait.
@@ -31,9 +32,6 @@ pub const MOST: usize = 16_777_216;
 
 // With this number of bytes ready, the writer waits for no more.
 const BLOCK: usize = 65_536;
-
-/// How often what the disk refuses is tried again after all loops have ended, once a second.
-pub const LAST_TRIES: u32 = 5;
 
 /// The line of an entry, with its line feed.
 #[derive(Drop)]
@@ -59,6 +57,10 @@ pub struct PutLine<'e> {
 pub struct Stopped {
     cause: StopCause,
 }
+
+/// Shows that a loop was counted as one that has ended.
+#[derive(Drop)]
+pub struct Left(());
 
 /// Text that was taken to be written. It isn't dropped.
 pub struct ReadyText {
@@ -143,18 +145,14 @@ impl<'e> EntryLine<'e> {
     ) -> Option<EntryLine<'e>>
         ensures { IfSome result (IsOfEntry place ms (option_copied entry.entry)) }
     {
-        let Some(entry) = entry else {
-            return None;
-        };
-        match line_of(alloc, place, ms, entry) {
-            Ok(text) => Some(EntryLine {
-                place,
-                source: entry,
-                text,
-                is_urgent: is_urgent(entry),
-            }),
-            Err(_) => None,
-        }
+        let source = entry?;
+        let text = line_of(alloc, place, ms, source).ok()?;
+        Some(EntryLine {
+            place,
+            source,
+            text,
+            is_urgent: is_urgent(source),
+        })
     }
 }
 
@@ -212,8 +210,7 @@ impl WaitingLines {
         }
     }
 
-    // Puts a line down. Returns whether the writer must be woken. Bytes that the writer has taken don't
-    // wait, however long the disk takes.
+    // Puts a line down. Returns whether the writer must be woken. Bytes that the writer has taken don't wait.
     fn put(&mut self, place: usize, line: Vec<u8>) -> Result<bool, StopCause>
         ensures ok { (put : List Placed) (taken : List ℕ) → HasMerged put taken self.old.merge
             → OnOk result (HasMerged (put ++ (place, line.items) ∷ []) taken self.new.merge) }
@@ -309,10 +306,11 @@ impl WaitingLines {
     }
 
     /// A loop has ended.
-    pub fn leave(&mut self)
+    pub fn leave(&mut self) -> Left
         ensures { self.new ≡ record self.old { loops = self.old.loops - 1 } }
     {
         self.loops = self.loops.saturating_sub(1);
+        Left(())
     }
 
     /// How much was written, from what was torn and what shows that the file stopped. If nothing was torn, it is

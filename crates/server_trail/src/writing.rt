@@ -1,70 +1,22 @@
 //! The thread that writes a trail's file.
 
-ghost use Rattle.std.specs.Prelude.{◌≡◌, ◌++◌, ◌∷◌, [], ℕ, true, false, IfOk};
+ghost use Rattle.std.specs.Prelude.{◌≡◌, ◌++◌, ◌∷◌, [], ℕ, None, true, false, IfOk};
 ghost use Rattle.std.specs.Io.KnownBytes.{Keeps};
 ghost use Rattle.trail_lines.specs.Heading.{end_text};
-ghost use Rattle.server_trail.specs.Files.{HasWritten, end_line};
+ghost use Rattle.trail_disk.specs.Disks.{HasSynced, SyncsOnce};
+ghost use Rattle.server_trail.specs.Files.{HasWritten, IsEnded, end_line};
 
-use crate::file::TrailFile;
 use crate::recorder::Recorder;
-use crate::waiting::{LAST_TRIES, Written, write_bytes};
+use crate::waiting::{Written, write_bytes};
 use std::alloc::{AllocError, Global};
 use std::sync::Wait;
 use std::sync::atomic::Ordering;
-use std::thread;
 use std::time::{Clock, Duration};
+use trail_disk::{Syncing, TrailFile, sync_last};
 use trail_lines::{Cause, Ended, print_end};
 
 // How many milliseconds the writer waits for more if few bytes are ready.
 const PAUSE: u64 = 100;
-
-// How many seconds the writer sleeps at most if nothing comes.
-const LOOK: u64 = 3_600;
-
-// When a file must be synced to the disk.
-#[derive(Drop)]
-struct Syncing {
-    // Something was written since the last sync.
-    is_behind: bool,
-    last: Duration,
-}
-
-impl Syncing {
-    // How long the writer sleeps if nothing is ready.
-    fn pause(&self) -> Duration {
-        Duration::from_secs(if self.is_behind { 1 } else { LOOK })
-    }
-
-    // Syncs the file if something was written and a second has passed. If the disk refuses, the next
-    // call tries again.
-    fn sync<R: Clock, F: TrailFile>(&mut self, rt: &R, file: &mut F)
-        ensures { Keeps (F.contents file.old) (F.contents file.new) }
-    {
-        if !self.is_behind {
-            return;
-        }
-        if let Ok(now) = rt.monotonic() {
-            if now.saturating_sub(self.last) < Duration::from_secs(1) {
-                return;
-            }
-            self.last = now;
-        }
-        self.is_behind = file.sync().is_err();
-    }
-}
-
-// Syncs the file, and tries again each second for some seconds.
-fn sync_last<R: Clock, F: TrailFile>(rt: &R, file: &mut F) -> bool
-    ensures { Keeps (F.contents file.old) (F.contents file.new) }
-{
-    'tries: for _ in 0..LAST_TRIES {
-        if file.sync().is_ok() {
-            return true;
-        }
-        thread::sleep(rt, Duration::from_secs(1));
-    }
-    false
-}
 
 // The last line, with its line feed.
 fn last_line(alloc: Global, ended: &Ended) -> Result<Vec<u8>, AllocError>
@@ -82,10 +34,7 @@ impl Recorder {
     /// tried again each second, and for five seconds at the end. The file is synced in each second in
     /// which something was written.
     pub fn write_all<R: Clock + Wait, F: TrailFile>(&self, rt: &R, file: &mut F) -> Written {
-        let mut syncing = Syncing {
-            is_behind: false,
-            last: Duration::ZERO,
-        };
+        let mut syncing = Syncing::new();
         for _ in rt.forever() {
             let seen = self.news.notifications();
             let ready = self.waiting.lock(rt).look();
@@ -99,7 +48,7 @@ impl Recorder {
             let torn = match ready.bytes {
                 0 => None,
                 _ => {
-                    syncing.is_behind = true;
+                    syncing.note_write();
                     let text = self.waiting.lock(rt).take();
                     text.write(rt, &self.waiting, file).err()
                 }
@@ -108,7 +57,7 @@ impl Recorder {
             if let Some(written) = self.waiting.lock(rt).written(torn, stopped) {
                 return written;
             }
-            syncing.sync(rt, file);
+            syncing.sync(rt.monotonic().ok(), file);
         }
         unreachable!()
     }
@@ -126,6 +75,7 @@ impl Recorder {
             → Keeps (F.contents file.old) (F.contents file.new) × (result ≡ false) }
         ensures whole { written.is_whole ≡ true → (ms : ℕ) × HasWritten (F.contents file.old)
             (F.contents file.new) (end_line written.entries ms cause) result }
+        ensures synced { result ≡ true → HasSynced F.syncs file.new }
     {
         self.set_time(rt);
         let ended = Ended {
@@ -141,5 +91,25 @@ impl Recorder {
             return false;
         }
         write_bytes(rt, &self.waiting, file, &line) && sync_last(rt, file)
+    }
+
+    /// Ends a file for this cause. If none is known, it has no last line.
+    pub(crate) fn end_for<R: Clock + Wait, F: TrailFile>(
+        &self,
+        rt: &R,
+        file: &mut F,
+        written: Written,
+        cause: Option<Cause>,
+    ) -> bool
+        ensures ended { IsEnded written cause (F.contents file.old) (F.contents file.new) result }
+        ensures alone { cause ≡ None → SyncsOnce F.syncs file.old file.new }
+    {
+        match cause {
+            Some(cause) => self.end(rt, file, written, cause),
+            None => {
+                let _ = file.sync();
+                false
+            }
+        }
     }
 }

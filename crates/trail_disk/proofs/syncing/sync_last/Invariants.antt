@@ -1,5 +1,5 @@
 use Rattle.std.specs.Io.KnownBytes.{Keeps}
-use Rattle.server_trail.proofs.writing.sync_last.Given as goal
+use Rattle.trail_disk.proofs.syncing.sync_last.Given as goal
 
 abbrev pub invariant-tries : goal.invariant-tries
 invariant-tries g l = Keeps (g.F.Write.contents l.fn.file) (g.F.Write.contents l.file)

@@ -1,13 +1,14 @@
-//! A trail's file on its disk, what the disk refuses, and why the file can't go on.
+//! A trail's file on its disk, and what the disk refuses.
 
-ghost use Rattle.std.specs.Prelude.{◌≡◌, IfOk, Some, None, true};
+ghost use Rattle.std.specs.Prelude.{◌≡◌, IfOk, IfSome, Some, None, length, true};
 ghost use Rattle.std.specs.Fs.{new_options, with_create_new, with_write};
-ghost use Rattle.server_trail.specs.Disks.{after_write, last_cause, news_of, no_refusal, one_more, told_of};
+ghost use Rattle.std.specs.Io.{WritesAtMost};
+ghost use Rattle.std.specs.Io.KnownBytes.{WriteAppends};
+ghost use Rattle.trail_disk.specs.Disks.{IsSynced, IsTold, after_write, news_after, news_of, no_refusal, one_more, told_of};
 
-use crate::file::{FileMaker, TrailFile};
+use crate::file::{FileMaker, MadeFile, TrailFile};
 use std::fs::{File, OpenOptions};
 use std::io::{self, Write};
-use trail_lines::Cause;
 
 // Refusals that go on are news again after this many, of which there is one a second.
 const AGAIN: u32 = 60;
@@ -23,9 +24,14 @@ pub enum DiskNews {
     Unsynced(io::Error),
 }
 
-/// Is told what becomes of a trail's file.
+/// Is told what becomes of a trail's file. Only a call of `tell` shows that it was.
 pub trait DiskWatch {
-    fn tell(&self, news: DiskNews);
+    ghost use Rattle.trail_disk.specs.declared.disk.DiskNews.{DiskNews as News};
+
+    ghost tells: { Self → News → Type 0 } = { λ _ _. Unit {0} };
+
+    fn tell(&self, news: DiskNews)
+        ensures { tells self.now news };
 }
 
 /// The refusals in a row, and the error of the last.
@@ -88,18 +94,27 @@ pub struct Disk<F: TrailFile + Drop> {
 
 impl Disk<File> {
     /// Makes a new file, which only its owner may read and write. Nothing was refused yet.
-    pub fn create<R: FileMaker>(files: &R, path: &str) -> io::Result<Disk<File>>
-        ensures made { IfOk result (λ disk. R.makes files.now path.now
-            (with_create_new (with_write new_options true) true) 0o600 disk.file) }
-        ensures none { IfOk result (λ disk. (disk.writes ≡ no_refusal) × (disk.syncs ≡ no_refusal)) }
+    pub fn create<'a, R: FileMaker>(
+        files: &R,
+        path: &'a str,
+    ) -> io::Result<(Disk<File>, MadeFile<'a>)>
+        ensures made { IfOk result (λ made. R.makes files.now path.entry.now
+            (with_create_new (with_write new_options true) true) 0o600 made.0.file) }
+        ensures none { IfOk result (λ made. (made.0.writes ≡ no_refusal) × (made.0.syncs ≡ no_refusal)) }
+        ensures path { IfOk result (λ made. made.1.path.now ≡ path.entry.now) }
     {
         let mut options = OpenOptions::new();
         options.write(true).create_new(true);
-        Ok(Disk {
-            file: files.make(path, options, 0o600)?,
+        let (file, made) = match files.make(path, options, 0o600) {
+            Ok(made) => made,
+            Err(error) => return Err(error),
+        };
+        let disk = Disk {
+            file,
             writes: Refusals::none(),
             syncs: Refusals::none(),
-        })
+        };
+        Ok((disk, made))
     }
 }
 
@@ -133,7 +148,12 @@ impl<F: TrailFile + Drop> Disk<F> {
 impl<F: TrailFile + Drop> Write for Disk<F> {
     ghost contents = { λ disk. F.contents disk.file };
 
-    fn write(&mut self, buf: &[u8]) -> io::Result<usize> {
+    fn write(&mut self, buf: &[u8]) -> io::Result<usize>
+        ensures bound { WritesAtMost result buf.now }
+        ensures bytes { WriteAppends (F.contents self.old.file) (F.contents self.new.file) result buf.now }
+        ensures noted { self.new.writes ≡ after_write result self.old.writes }
+        ensures syncs { self.new.syncs ≡ self.old.syncs }
+    {
         let written = self.file.write(buf);
         self.writes.note(written);
         written
@@ -145,12 +165,16 @@ impl<F: TrailFile + Drop> Write for Disk<F> {
 }
 
 impl<F: TrailFile + Drop> TrailFile for Disk<F> {
+    ghost syncs = { λ old came new. IsSynced F.syncs old came new };
+
     fn sync(&mut self) -> io::Result<()> {
-        let synced = self.file.sync();
-        if let Err(error) = &synced {
-            self.syncs.add(*error);
+        match self.file.sync() {
+            Ok(()) => Ok(()),
+            Err(error) => {
+                self.syncs.add(error);
+                Err(error)
+            }
         }
-        synced
     }
 }
 
@@ -164,7 +188,14 @@ pub struct WatchedDisk<'a, F: TrailFile + Drop, W: DiskWatch> {
 impl<F: TrailFile + Drop, W: DiskWatch> Write for WatchedDisk<'_, F, W> {
     ghost contents = { λ watched. F.contents watched.disk.now.file };
 
-    fn write(&mut self, buf: &[u8]) -> io::Result<usize> {
+    fn write(&mut self, buf: &[u8]) -> io::Result<usize>
+        ensures bound { WritesAtMost result buf.now }
+        ensures bytes { WriteAppends (F.contents self.old.disk.now.file) (F.contents self.new.disk.now.file)
+            result buf.now }
+        ensures noted { self.new.disk.now.writes ≡ after_write result self.old.disk.now.writes }
+        ensures told { IfSome (news_after (length buf.now) self.old.disk.now.writes self.new.disk.now.writes)
+            (W.tells self.old.watch.now) }
+    {
         let was_refused = self.disk.writes.count > 0;
         let written = self.disk.write(buf);
         if let Some(news) = self.disk.news(was_refused, buf.len()) {
@@ -179,42 +210,16 @@ impl<F: TrailFile + Drop, W: DiskWatch> Write for WatchedDisk<'_, F, W> {
 }
 
 impl<F: TrailFile + Drop, W: DiskWatch> TrailFile for WatchedDisk<'_, F, W> {
+    ghost syncs = { λ old came new. IsSynced F.syncs old.disk.now came new.disk.now
+        × IsTold (W.tells old.watch.now) came new.disk.now.syncs };
+
     fn sync(&mut self) -> io::Result<()> {
         let synced = self.disk.sync();
-        if let (Err(_), Some(error)) = (&synced, self.disk.syncs.news()) {
-            self.watch.tell(DiskNews::Unsynced(error));
+        if synced.is_err() {
+            if let Some(error) = self.disk.syncs.news() {
+                self.watch.tell(DiskNews::Unsynced(error));
+            }
         }
         synced
-    }
-}
-
-/// Why a trail's file can't go on.
-#[derive(Clone, Copy, PartialEq, Eq, Debug)]
-pub enum StopCause {
-    /// More than 16 MiB waited for the disk.
-    Disk,
-    /// Memory was refused for a line, or for the copy of its entry.
-    Memory,
-}
-
-impl StopCause {
-    /// The cause that the file's last line names.
-    pub fn cause(self) -> Cause
-        ensures { last_cause (Some self) None ≡ Some result }
-    {
-        match self {
-            StopCause::Disk => Cause::Disk,
-            StopCause::Memory => Cause::Memory,
-        }
-    }
-}
-
-/// The cause that a file's last line names, from why the file stopped, and else why its session ended.
-pub(crate) fn last_cause(stopped: Option<StopCause>, ended: Option<Cause>) -> Option<Cause>
-    ensures { result ≡ last_cause stopped ended }
-{
-    match stopped {
-        Some(stop) => Some(stop.cause()),
-        None => ended,
     }
 }
