@@ -14,7 +14,7 @@ import time
 from pathlib import Path
 
 import peer
-from play import TOP, WORDS, run
+from play import TOP, WORDS, end, run
 
 SITE = TOP / "contrib" / "web"
 WATCH = b"V"
@@ -205,10 +205,11 @@ class Page(WebSocket):
         return [self.line(number) for number in range(self.rows or 0)]
 
     def until(self, has, seconds=20):
-        """Reads on until a line has this text."""
-        self.when(lambda: any(has in it for it in self.text()), seconds, has)
+        """Reads on until a line has this text: True."""
+        return self.when(lambda: any(has in it for it in self.text()), seconds, has)
 
     def when(self, holds, seconds=20, what="it"):
+        """Reads on until something holds: True."""
         until = time.monotonic() + seconds
         while not holds():
             self.socket.settimeout(max(0.01, until - time.monotonic()))
@@ -217,6 +218,7 @@ class Page(WebSocket):
             except TimeoutError:
                 raise AssertionError(f"{what} isn't shown after {seconds} s: {self.text()}") from None
         self.socket.settimeout(seconds)
+        return True
 
     def quiet(self, seconds=0.3):
         """Takes what comes until nothing came for so long."""
@@ -265,9 +267,7 @@ class Bridge(peer.Program):
             raise AssertionError(f"the bridge isn't ready: {line} {self.log()}")
 
     def __exit__(self, *_):
-        if self.program.poll() is None:
-            self.program.kill()
-        self.program.wait()
+        end(self.program)
         self.program.stdout.close()
 
     def log(self):
@@ -275,6 +275,12 @@ class Bridge(peer.Program):
 
     def page(self, user=None, token=peer.TOKEN, **more):
         return Page(self.address, self.origin, user, token, **more)
+
+    def shell(self, user=None, **more):
+        """A page, once it shows the window `shell`."""
+        page = self.page(user, **more)
+        page.until("0 shell")
+        return page
 
     def open(self, **more):
         return WebSocket(self.address, self.origin, **more)

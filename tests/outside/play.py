@@ -8,6 +8,7 @@ import collections
 import contextlib
 import fcntl
 import functools
+import inspect
 import os
 import pty
 import pwd
@@ -21,6 +22,7 @@ import subprocess
 import sys
 import tempfile
 import termios
+import threading
 import time
 from pathlib import Path
 
@@ -66,6 +68,26 @@ def answers(what, done, status=0, text=""):
     return check(what, (done.returncode, said(done)) == (status, text), f"status {done.returncode}: {said(done)}")
 
 
+def equal(what, found, wanted):
+    """Checks that something is what is wanted."""
+    return check(what, found == wanted, f"{found!r}, and not {wanted!r}")
+
+
+def contains(what, found, *wanted):
+    """Checks that something has each of these."""
+    return check(what, all(it in found for it in wanted), found)
+
+
+def lacks(what, found, *unwanted):
+    """Checks that something has none of these."""
+    return check(what, not any(it in found for it in unwanted), found)
+
+
+def empty(what, found):
+    """Checks that there is none of something."""
+    return check(what, not found, found)
+
+
 def figure(what, value, most, unit):
     """A figure and its bound, which is judged if the programs are optimised."""
     if WORDS.unproved:
@@ -90,8 +112,8 @@ def only(is_there, why):
     """Makes a part that is left out unless something is there."""
     def of(part):
         @functools.wraps(part)
-        def played():
-            part() if is_there() else left_out(part.__name__, why)
+        def played(*given):
+            part(*given) if is_there() else left_out(part.__name__, why)
         return played
     return of
 
@@ -135,20 +157,24 @@ def read_words(names, options, verbose):
             setattr(WORDS, name.replace("-", "_"), program(name))
 
 
-def play_part(name, part, *given):
-    """Plays a part to its end, and looks whether it checked something."""
+def play_part(name, part, made):
+    """Plays a part to its end, with what is made for it if it takes that, and looks whether it checked something."""
     before = COUNTS.total()
     try:
-        part(*given)
+        if inspect.signature(part).parameters:
+            with made() as it:
+                part(it)
+        else:
+            part()
     except Exception as error:
         check(f"{name} is played to its end", False, f"{type(error).__name__}: {error}")
     if COUNTS.total() == before:
         check(f"{name} checks something", False)
 
 
-def main(parts, needs=("muxd", "mux"), options=None, verbose=True, around=None):
-    """Plays parts (functions, or functions by their names) that need these programs.  `around` makes a context; what
-    that gives, if anything, each part is given."""
+def main(parts, needs=("muxd", "mux"), options=None, verbose=True, around=None, each=None):
+    """Plays parts (functions, or functions by their names) that need these programs.  `around` makes a context for all
+    of them, and `each` one for each; a part that takes an argument is given what that gives."""
     parts = parts if isinstance(parts, dict) else {it.__name__: it for it in parts}
     WORDS.verbose = verbose
     read_words(parts, options or {}, verbose)
@@ -159,7 +185,7 @@ def main(parts, needs=("muxd", "mux"), options=None, verbose=True, around=None):
     if not lacking:
         with around() if around else contextlib.nullcontext() as it:
             for name in WORDS.parts or parts:
-                play_part(name, parts[name], *[it] * (it is not None))
+                play_part(name, parts[name], each or (lambda: contextlib.nullcontext(it)))
     if not COUNTS["checks"] + COUNTS["figures"]:
         check("something is played", False)
     counts = {**COUNTS, "failed": COUNTS["failed"]}
@@ -240,6 +266,39 @@ def kill(numbers, sign=signal.SIGKILL):
             os.kill(number, sign)
 
 
+def end(*programs):
+    """Ends programs by force, which may have ended by now."""
+    for it in programs:
+        if it.poll() is None:
+            it.kill()
+        it.wait()
+
+
+@contextlib.contextmanager
+def running(words, **how):
+    """A program that runs no longer than what is below it."""
+    with subprocess.Popen(words, **how) as it:
+        try:
+            yield it
+        finally:
+            it.kill()
+
+
+@contextlib.contextmanager
+def meanwhile(*acts):
+    """Does something in threads until what is below it is over: each act is given the event that says so."""
+    over = threading.Event()
+    threads = [threading.Thread(target=act, args=(over,)) for act in acts]
+    for it in threads:
+        it.start()
+    try:
+        yield over
+    finally:
+        over.set()
+        for it in threads:
+            it.join()
+
+
 def plain(data):
     """Draws with their blanks: one that is there already is skipped."""
     return re.sub(rb"\x1b\[1?C", b" ", data)
@@ -258,9 +317,7 @@ class Terminal(contextlib.AbstractContextManager):
         os.close(slave)
 
     def __exit__(self, *_):
-        if self.program.poll() is None:
-            self.program.kill()
-            self.program.wait()
+        end(self.program)
         os.close(self.fd)
 
     def type(self, data):
@@ -399,10 +456,7 @@ class Room(contextlib.AbstractContextManager):
         self.users(*users)
 
     def __exit__(self, *_):
-        for process in self.windows + self.servers:
-            if process.poll() is None:
-                process.kill()
-            process.wait()
+        end(*self.windows, *self.servers)
         shutil.rmtree(self.folder, ignore_errors=True)
 
     def path(self, name):
@@ -446,8 +500,7 @@ class Room(contextlib.AbstractContextManager):
 
     def kill(self):
         """Ends the server by force, and its windows with it."""
-        self.server.kill()
-        self.server.wait()
+        end(self.server)
         for window in self.windows:
             window.wait()
 
@@ -509,6 +562,10 @@ class Server(peer.Server):
         it = self.connect(first)
         assert welcome(it), "the server refused a peer"
         return it
+
+    def shared(self):
+        """A window, and then a client of the owner."""
+        return self.admit(peer.window()), self.admit(peer.attach())
 
     def give(self, line, wait=20, number=peer.NO_WINDOW):
         """What a command is answered, to the end of its connection."""

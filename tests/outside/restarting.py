@@ -7,7 +7,7 @@ import threading
 import time
 
 import peer
-from play import WORDS, once, processes, read, run, script
+from play import WORDS, check, end, once, processes, read, run, script
 
 USERS = ["own", "ann", "bob", "eve", "kim", "gus"]
 # Names and commands of random lines.
@@ -132,8 +132,7 @@ class Session:
         return read(f"{self.at}/log")
 
     def kill(self):
-        self.server.kill()
-        self.server.wait()
+        end(self.server)
         self.server.stdout.close()
 
     def stop(self, *words):
@@ -152,6 +151,11 @@ class Session:
             said += [got[1].decode()] * (got[0] == peer.SAY)
         asked.close()
         return " ".join(said)
+
+    def own(self, *lines):
+        """Gives commands of the owner."""
+        for it in lines:
+            self.give("own", it)
 
     def open(self, user, title, **of):
         self.windows.append(Window(self, user, title, **of))
@@ -178,10 +182,15 @@ class Session:
         time.sleep(0.3)
         return done
 
-    def restart(self):
-        old = self.trail()
+    def anew(self):
+        """Ends the server by force, and begins it again."""
         self.kill()
         self.start()
+
+    def restart(self):
+        """The same, until all came back: the old trail."""
+        old = self.trail()
+        self.anew()
         self.is_back()
         return old
 
@@ -236,6 +245,12 @@ def leaks(old, new):
 
 def differing(one, two):
     return [pair for pair in zip(one, two) if pair[0] != pair[1]]
+
+
+def came_back(what, session, before):
+    """Checks that all comes back, and is as it was."""
+    is_back, after = session.is_back(), differing(before, session.state())
+    check(what, is_back and not after, after)
 
 
 def bits(r):
