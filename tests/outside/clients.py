@@ -1,4 +1,4 @@
-#!/usr/bin/env python3
+#!/usr/bin/env -S python3 -B
 """Clients of servers that hang, and terminals that come back as they were: mux and the scripts that people attach with.
 
 Terminals are pseudo-terminals.  Needs bash, and tput for the part about TERM.
@@ -9,18 +9,16 @@ import shutil
 import signal
 import socket
 import subprocess
-import sys
 import tempfile
 import termios
 import threading
 import time
 from pathlib import Path
 
-sys.dont_write_bytecode = True
 import peer
 import play
 from peer import TOKEN, frame, two
-from play import Server, WORDS, answers, check, contains, empty, equal, left_out, once, plain, script
+from play import Server, WORDS, answers, check, contains, empty, equal, once, plain, script
 
 LEAVE = b"\x1c"
 WELCOME, GONE = b"y\0\1\0", b"g\0\1\0"
@@ -143,7 +141,7 @@ class Terminal(play.Terminal):
     """A program on a pseudo-terminal, with the environment of somebody who attaches."""
 
     def __init__(self, words, **environment):
-        super().__init__(words, known(**{"PS1": "ready> ", "HOME": "/nonexistent", **environment}))
+        super().__init__(words, environment(**{"PS1": "ready> ", "HOME": "/nonexistent", **environment}))
 
     def is_drawn(self):
         """Whether the session is shown: a first draw resets the terminal."""
@@ -177,11 +175,6 @@ def owner_of(server):
 
 def attach_words(server, *more):
     return [script("mux-attach"), *owner_of(server), *more]
-
-
-def known(**more):
-    """The environment in which scripts find mux."""
-    return {**os.environ, "MUX": WORDS.mux, **more}
 
 
 def typed_in(fake, pieces, pause=0.02):
@@ -347,8 +340,8 @@ def nested():
     """mux-attach refuses to attach to the session in whose window it is."""
     with Server() as server, Server() as other:
         shell = subprocess.Popen([script("mux-shell"), *owner_of(server), "--title", "-sh", "env", "PS1=in> ", "sh"],
-                                 env=known(HOME=server.folder.name))
-        subprocess.run([script("muxd-wait"), *owner_of(server), "--window", "-sh"], check=True, env=known())
+                                 env=environment(HOME=server.folder.name))
+        subprocess.run([script("muxd-wait"), *owner_of(server), "--window", "-sh"], check=True, env=environment())
         with Terminal(attach_words(server)) as it:
             assert it.shows(b"in>"), f"no shell: {it.out[-200:]}"
             inner = " ".join(attach_words(server))
@@ -411,7 +404,7 @@ def commands():
               (1, b"line: 1 at 0\n", means))
         equal("a command that is done", ran("multiuser on"), (0, b"", b""))
         equal("one that says something", ran("displays"), (0, b"\n", b""))
-        it = play.run(script("mux-command"), *words[1:], "windows", "x", env=known())
+        it = play.run(script("mux-command"), *words[1:], "windows", "x", env=environment())
         is_said = (it.returncode, it.stdout) == (1, "") and "a word too many" in it.stderr
         check("mux-command says a refusal once", is_said, str(it))
 
@@ -421,7 +414,7 @@ def waits():
     for name, fake in (("accepts and says nothing", Fake()), ("has a full backlog", Fake(accepts=False))):
         for more in ([], ["--window", "sh", "--user", "own", "--token", fake.token]):
             start = time.monotonic()
-            it = play.run(script("muxd-wait"), "--socket", fake.path, "--for", "2", *more, timeout=30, env=known())
+            it = play.run(script("muxd-wait"), "--socket", fake.path, "--for", "2", *more, timeout=30, env=environment())
             took = time.monotonic() - start
             kept = it.returncode == 1 and 1.5 < took < 3.5
             check(f"a server that {name}: 2 s{', of a window' if more else ''}", kept,
@@ -429,22 +422,20 @@ def waits():
         fake.__exit__()
     with Server(log=True) as server:
         for _ in range(3):
-            answers("a server that serves", play.run(script("muxd-wait"), "--socket", server.path, env=known()))
+            answers("a server that serves", play.run(script("muxd-wait"), "--socket", server.path, env=environment()))
         server.give(b"quit")
         said = server.errors.read()
         check("and nothing of it in the log", said.count(b"\n") == 1 and b"a command of own" in said, str(said))
 
 
+@play.only(lambda: shutil.which("tput"), "there is no tput")
 def terms():
     """A window has colours without anything installed, and what leaves it has a plain vt220."""
-    if not shutil.which("tput"):
-        left_out("the terminal's description", "there is no tput")
-        return
     with Server() as server, tempfile.TemporaryDirectory() as room:
         link = f"{room}/a link"
         os.symlink(script("mux-shell"), link)
         say = 'printf "%s " "$TERM" "$(tput colors)" "$(TERMINFO_DIRS= tput colors)" "$COLORTERM" "$MUX_SESSION" >"$1"'
-        environment = known(HOME=room)
+        environment = environment(HOME=room)
         for gone in ("TERMINFO", "TERMINFO_DIRS", "XDG_CACHE_HOME", "COLORTERM"):
             environment.pop(gone, None)
         found = os.stat(server.path)
@@ -462,7 +453,7 @@ def detached_windows():
             words = ["--socket", path, "--user", "own", "--token", token, "--title", "late", "--detach"]
             start = time.monotonic()
             words += ["--wait", str(seconds), "sh", "-c", f": >{room}/ran; exec cat"]
-            it = subprocess.run([script("mux-shell"), *words], capture_output=True, env=known(TMPDIR=room), timeout=30)
+            it = subprocess.run([script("mux-shell"), *words], capture_output=True, env=environment(TMPDIR=room), timeout=30)
             return it.returncode, it.stdout, it.stderr, time.monotonic() - start
 
         with Fake() as fake:

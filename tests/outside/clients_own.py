@@ -1,4 +1,4 @@
-#!/usr/bin/env python3
+#!/usr/bin/env -S python3 -B
 """What clients do by themselves: texts of the server, help, scrolling, fitting, coming back; and windows that stay.
 
 Needs perl.
@@ -8,17 +8,15 @@ import os
 import random
 import socket
 import subprocess
-import sys
 import tempfile
 import threading
 import time
 from pathlib import Path
 
-sys.dont_write_bytecode = True
 import play
-from clients import LEAVE, WELCOME, Client, Fake, Place, Terminal, attach_words, known, owner_of
+from clients import LEAVE, WELCOME, Client, Fake, Place, Terminal, attach_words, owner_of
 from peer import frame, pieces, two
-from play import Server, WORDS, check, equal, once, read, script
+from play import Server, WORDS, check, environment, equal, once, read, script
 
 QUIT, REMOVED = frame(b"g", b"\x04"), frame(b"g", b"\x01")
 DROPPED = b"keys were dropped: they waited for a second"
@@ -244,7 +242,7 @@ def fitted_window():
     """With --fit the window has the terminal's size: at the start, and after each change."""
     with Server() as server, tempfile.TemporaryDirectory() as room:
         shell = subprocess.Popen([script("mux-shell"), *owner_of(server), "--title", "sh", "--rows", "10", "--cols", "40",
-                                  "sh"], env=known(HOME=room))
+                                  "sh"], env=environment(HOME=room))
         check("the shell is a window", once(lambda: b"0 sh" in server.give(b"windows"), 20))
         with Terminal(attach_words(server, "--fit")) as it:
             assert it.has(b"0 sh", 20), f"it isn't attached: {it.out}"
@@ -391,7 +389,7 @@ def survives():
         path, common = server.path, owner_of(server)
         mark(path)
         words = [script("mux-shell"), *common, "--title", "sh", "--stay", "20", "env", "PS1=in> ", "sh"]
-        shell = subprocess.Popen(words, env=known(HOME=room))
+        shell = subprocess.Popen(words, env=environment(HOME=room))
         check("the shell is a window", once(lambda: b"0 sh" in server.give(b"windows"), 20))
         with Terminal(["env", "TMPDIR=" + room, script("mux-attach"), *common, "--again", "20"]) as it:
             assert it.has(b"0 sh", 20), f"it isn't attached: {it.out}"
@@ -399,8 +397,7 @@ def survives():
             it.read(0.5)
             for count in range(3):
                 play.end(server.program)
-                if os.path.exists(path):
-                    os.unlink(path)
+                Path(path).unlink(missing_ok=True)
                 check("the client says so", it.shows(b"the server is gone"), str(it.out[-300:]))
                 words = [WORDS.muxd, "--socket", path, "--users", str(server.users)]
                 server.program = subprocess.Popen(words, stdout=subprocess.PIPE)

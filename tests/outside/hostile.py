@@ -1,17 +1,15 @@
-#!/usr/bin/env python3
+#!/usr/bin/env -S python3 -B
 """One user without any right tries to end a session, to fill its memory and its disk, to take all seats, and to have
 done later what is denied now; and a guest who may only read tries the same."""
 import contextlib
 import os
 import select
 import socket
-import sys
 import tempfile
 import threading
 import time
 from pathlib import Path
 
-sys.dont_write_bytecode = True
 import play
 from peer import (DETACH, DONE, DRAW, KEYS, NO_WINDOW, OUTPUT, RESIZE, SAY, attach, command, cut, frame, pieces, two,
                   window)

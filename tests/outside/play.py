@@ -202,6 +202,12 @@ def script(name):
     return str(CONTRIB / name)
 
 
+def environment(**more):
+    """What scripts find in their environment: the programs that are played, and nothing of a session that runs here."""
+    known = {name: value for name, value in os.environ.items() if not name.startswith("MUX")}
+    return {**known, "MUXD": WORDS.muxd, "MUX": WORDS.mux, "MUX_TRAIL": WORDS.mux_trail, **more}
+
+
 def run(*words, **more):
     """A program that ended, with what it printed as text."""
     words = [str(it) for it in words]
@@ -404,11 +410,14 @@ class Pane:
         """Whether a line has the pattern within some time."""
         return once(lambda: re.search(pattern, self.page(), re.MULTILINE), seconds)
 
+    def told(self, what, text, seconds=30):
+        """Checks that it shows a text within some time."""
+        check(what, self.shows(text, seconds), self.page())
+
     def does(self, line, what, text, by=None, seconds=30):
         """Types a line, and checks that this terminal, or another one, shows a text."""
         self.type(line)
-        by = by or self
-        check(what, by.shows(text, seconds), by.page())
+        (by or self).told(what, text, seconds)
 
     def prompt(self, *lines):
         """Gives commands at the prompt."""
@@ -445,23 +454,35 @@ def end_account(name):
 # Servers.
 
 
-class Room(contextlib.AbstractContextManager):
+class OwnFolder(contextlib.AbstractContextManager):
+    """A folder of a play's own, and the programs that run no longer than it is there."""
+
+    def __init__(self, prefix="mux-play."):
+        self.folder, self.begun = tempfile.mkdtemp(prefix=prefix), []
+
+    def at(self, name):
+        """A path in it."""
+        return os.path.join(self.folder, name)
+
+    def __exit__(self, *_):
+        end(*self.begun)
+        shutil.rmtree(self.folder, ignore_errors=True)
+
+
+class Room(OwnFolder):
     """A folder with users and their tokens, in which servers, windows and scripts run.  The owner is own, the first."""
 
     def __init__(self, *users, setup=""):
-        self.folder, self.setup = tempfile.mkdtemp(prefix="mux-play."), setup
+        super().__init__()
+        self.setup = setup
         self.servers, self.windows, self.trails, self.server = [], [], 0, None
         for at, name in enumerate(users):
-            write(self.path(name + ".token"), self.digits(at) + "\n", 0o600)
+            write(self.at(name + ".token"), self.digits(at) + "\n", 0o600)
         self.users(*users)
 
     def __exit__(self, *_):
         end(*self.windows, *self.servers)
-        shutil.rmtree(self.folder, ignore_errors=True)
-
-    def path(self, name):
-        """A file of the room."""
-        return os.path.join(self.folder, name)
+        super().__exit__()
 
     @staticmethod
     def digits(at):
@@ -470,33 +491,33 @@ class Room(contextlib.AbstractContextManager):
 
     def users(self, *names):
         """Writes the users' file."""
-        write(self.path("users"), "".join(f"{name} {self.digits(at)}\n" for at, name in enumerate(names)), 0o600)
+        write(self.at("users"), "".join(f"{name} {self.digits(at)}\n" for at, name in enumerate(names)), 0o600)
 
     def as_user(self, user="own"):
         """The options of a user."""
-        return ["--socket", self.path("socket"), "--user", user, "--token", self.path(user + ".token")]
+        return ["--socket", self.at("socket"), "--user", user, "--token", self.at(user + ".token")]
 
     def env(self, user="own", **more):
         """What scripts find in their environment."""
-        return dict(os.environ, MUX=program("mux"), MUXD=program("muxd"), MUX_SOCKET=self.path("socket"), MUX_USER=user,
-                    MUX_TOKEN=self.path(user + ".token"), TMPDIR=self.folder, **more)
+        return dict(os.environ, MUX=program("mux"), MUXD=program("muxd"), MUX_SOCKET=self.at("socket"), MUX_USER=user,
+                    MUX_TOKEN=self.at(user + ".token"), TMPDIR=self.folder, **more)
 
     def trail(self):
         """The file of the server's trail."""
-        return self.path(f"trail.{self.trails}")
+        return self.at(f"trail.{self.trails}")
 
     def serve(self, *words):
         """Starts a server."""
         self.trails += 1
         if self.setup:
-            write(self.path("setup"), self.setup)
-            words = ("--setup", self.path("setup"), *words)
-        with open(self.path("log"), "a") as log:
+            write(self.at("setup"), self.setup)
+            words = ("--setup", self.at("setup"), *words)
+        with open(self.at("log"), "a") as log:
             self.server = subprocess.Popen(
-                [program("muxd"), "--socket", self.path("socket"), "--users", self.path("users"), "--trail",
+                [program("muxd"), "--socket", self.at("socket"), "--users", self.at("users"), "--trail",
                  self.trail(), *map(str, words)], stdout=subprocess.PIPE, stderr=log)
         self.servers.append(self.server)
-        assert self.server.stdout.readline() == b"muxd: ready\n", f"no server: {read(self.path('log'))}"
+        assert self.server.stdout.readline() == b"muxd: ready\n", f"no server: {read(self.at('log'))}"
 
     def kill(self):
         """Ends the server by force, and its windows with it."""
@@ -515,7 +536,7 @@ class Room(contextlib.AbstractContextManager):
     def window(self, user, title, text=b""):
         """A window whose program prints a text; what is typed there goes to the file typed.TITLE."""
         before = len(self.titles())
-        with open(self.path("typed." + title), "ab") as typed:
+        with open(self.at("typed." + title), "ab") as typed:
             window = subprocess.Popen([program("mux"), "window", *self.as_user(user), "--rows", "10", "--cols", "40",
                                        "--title", title], stdin=subprocess.PIPE, stdout=typed,
                                       stderr=subprocess.DEVNULL)
@@ -527,7 +548,7 @@ class Room(contextlib.AbstractContextManager):
 
     def attach(self, user):
         """A client, which draws into the file page."""
-        with open(self.path("page"), "wb") as page:
+        with open(self.at("page"), "wb") as page:
             return subprocess.Popen([program("mux"), "attach", *self.as_user(user), "--rows", "12", "--cols", "60"],
                                     stdin=subprocess.PIPE, stdout=page)
 

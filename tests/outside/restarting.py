@@ -7,7 +7,7 @@ import threading
 import time
 
 import peer
-from play import WORDS, check, end, once, processes, read, run, script
+from play import WORDS, check, end, environment, once, processes, read, run, script
 
 USERS = ["own", "ann", "bob", "eve", "kim", "gus"]
 # Names and commands of random lines.
@@ -15,12 +15,6 @@ NAMES = ["ann", "bob", "eve", "kim", "lee", "max", "ned", "oda", "pia", "quo", "
 COMMANDS = ("acladd aclchg acldel aclgrp aclumask writelock defwritelock multiuser wall detach select next prev "
             "other title number kill screen split focus remove only fit scrollview clear reset encoding stuff windows "
             "displays quit").split()
-
-
-def programs():
-    """The environment in which scripts call the programs that are played."""
-    known = {name: value for name, value in os.environ.items() if not name.startswith("MUX")}
-    return {**known, "MUXD": WORDS.muxd, "MUX": WORDS.mux, "MUX_TRAIL": WORDS.mux_trail}
 
 
 class Trail:
@@ -119,7 +113,7 @@ class Session:
     def begin(self):
         words = ["--socket", self.socket, "--users", f"{self.at}/users", "--trails", f"{self.at}/trails", "--again",
                  self.again, "--setup", f"{self.at}/first"]
-        return subprocess.Popen([script("muxd-run"), *words], env=programs(), stdout=subprocess.PIPE, stderr=self.log,
+        return subprocess.Popen([script("muxd-run"), *words], env=environment(), stdout=subprocess.PIPE, stderr=self.log,
                                 stdin=subprocess.DEVNULL)
 
     def start(self):
@@ -138,7 +132,7 @@ class Session:
     def stop(self, *words):
         """Ends it by muxd-stop."""
         done = subprocess.Popen([script("muxd-stop"), "--socket", self.socket, "--users", f"{self.at}/users", *words,
-                                 str(self.server.pid)], env=programs())
+                                 str(self.server.pid)], env=environment())
         self.server.wait(60)
         done.wait(60)
         self.server.stdout.close()

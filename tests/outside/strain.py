@@ -1,4 +1,4 @@
-#!/usr/bin/env python3
+#!/usr/bin/env -S python3 -B
 """A server under strain: peers that stop reading, strangers that say nothing, servers that start at once, its end."""
 import contextlib
 import os
@@ -7,12 +7,10 @@ import shutil
 import socket
 import stat
 import subprocess
-import sys
 import tempfile
 import time
 from pathlib import Path
 
-sys.dont_write_bytecode = True
 import play
 from peer import (DONE, DRAW, KEYS, OUTPUT, OWNER, REFUSED, SAY, TOKEN, WELCOME, Flood, attach, draws_within, frame,
                   pieces, window)

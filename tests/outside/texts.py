@@ -1,4 +1,4 @@
-#!/usr/bin/env python3
+#!/usr/bin/env -S python3 -B
 """Plays the command lines of the texts that users read, as they are printed, from an empty home in a terminal.
 
 A text's command lines are those lines of its blocks that begin with `$ ` (typed by a user), `# ` (by root) or `C-a: `
@@ -23,11 +23,10 @@ import shlex
 import shutil
 import signal
 import subprocess
-import sys
 import tempfile
 import time
+from pathlib import Path
 
-sys.dont_write_bytecode = True
 import bridge
 from play import (CONTRIB, PROGRAMS, TOP, Pane, Tmux, add_account, check, end_account, kill, main, once, processes,
                   program, read, run, write)
@@ -424,8 +423,7 @@ class Accounts:
             end_account(name)
         subprocess.run(["groupdel", "class"], check=False)
         shutil.rmtree(self.MADE[0], ignore_errors=True)
-        if os.path.exists(self.MADE[1]):
-            os.remove(self.MADE[1])
+        Path(self.MADE[1]).unlink(missing_ok=True)
 
     def open(self, pane, account):
         """A terminal of an account; with one login for all its user is named."""

@@ -1,4 +1,4 @@
-#!/usr/bin/env python3
+#!/usr/bin/env -S python3 -B
 """Fills a server's trail: 63 users type into a window until the 4,194,304 entries are there.
 
 One user alone would take more than an hour: a user causes at most 1,000 entries a second in the long run. Each types
@@ -15,11 +15,10 @@ import random
 import resource
 import selectors
 import subprocess
-import sys
 import threading
 import time
+from concurrent.futures import ThreadPoolExecutor
 
-sys.dont_write_bytecode = True
 import peer
 import play
 from peer import GONE, INPUT, KEYS, OWNER, Server, attach, frame, window
@@ -123,11 +122,8 @@ def day():
             it.socket.setblocking(True)
             threading.Thread(target=take_all, args=(it,), daemon=True).start()
         before = server.resident()
-        typing = [threading.Thread(target=type_for_a_day, args=(it.socket, place)) for place, it in enumerate(clients)]
-        for it in typing:
-            it.start()
-        for it in typing:
-            it.join()
+        with ThreadPoolExecutor() as pool:
+            pool.map(type_for_a_day, [it.socket for it in clients], range(TYPISTS))
         # What waits in sockets is taken at 1,000 keys a second and user.
         play.once(lambda: sum(it.typed for it in windows) >= DAY, 60, 0.5)
         taken = server.resident() - before
@@ -154,10 +150,8 @@ def full():
         check("the clients are let go", {client.gone for client in clients} == {7}, [it.gone for it in clients])
         errors = server.program.communicate(timeout=60)[1].decode().splitlines()
         equal("its status", server.program.returncode, 1)
-        wanted = "muxd: the session's trail is full: start another session"
-        equal("what the server says", errors[-1], wanted)
-        found = [line.split()[-2] for line in errors if line.endswith(" percent")]
-        equal("and before", found, ["50", "75", "90", "99"])
+        equal("what the server says", errors[-1], "muxd: the session's trail is full: start another session")
+        equal("and before", [it.split()[-2] for it in errors if it.endswith(" percent")], ["50", "75", "90", "99"])
         went = sum(line.endswith(" went: the trail is full") for line in errors)
         equal("each client and the window is told to have gone", went, len(USERS) + 1)
         # The server is the one child that was waited for.
