@@ -18,7 +18,7 @@ from pathlib import Path
 import peer
 import play
 from peer import TOKEN, frame, two
-from play import Server, WORDS, answers, check, contains, empty, equal, once, plain, script
+from play import Server, WORDS, answers, check, contains, empty, environment, equal, once, plain, script
 
 LEAVE = b"\x1c"
 WELCOME, GONE = b"y\0\1\0", b"g\0\1\0"
@@ -140,8 +140,8 @@ class Client(contextlib.AbstractContextManager):
 class Terminal(play.Terminal):
     """A program on a pseudo-terminal, with the environment of somebody who attaches."""
 
-    def __init__(self, words, **environment):
-        super().__init__(words, environment(**{"PS1": "ready> ", "HOME": "/nonexistent", **environment}))
+    def __init__(self, words, **more):
+        super().__init__(words, environment(**{"PS1": "ready> ", "HOME": "/nonexistent", **more}))
 
     def is_drawn(self):
         """Whether the session is shown: a first draw resets the terminal."""
@@ -414,7 +414,7 @@ def waits():
     for name, fake in (("accepts and says nothing", Fake()), ("has a full backlog", Fake(accepts=False))):
         for more in ([], ["--window", "sh", "--user", "own", "--token", fake.token]):
             start = time.monotonic()
-            it = play.run(script("muxd-wait"), "--socket", fake.path, "--for", "2", *more, timeout=30, env=environment())
+            it = play.run(script("muxd-wait"), "--socket", fake.path, "--for", "2", *more, env=environment())
             took = time.monotonic() - start
             kept = it.returncode == 1 and 1.5 < took < 3.5
             check(f"a server that {name}: 2 s{', of a window' if more else ''}", kept,
@@ -435,14 +435,14 @@ def terms():
         link = f"{room}/a link"
         os.symlink(script("mux-shell"), link)
         say = 'printf "%s " "$TERM" "$(tput colors)" "$(TERMINFO_DIRS= tput colors)" "$COLORTERM" "$MUX_SESSION" >"$1"'
-        environment = environment(HOME=room)
+        known = environment(HOME=room)
         for gone in ("TERMINFO", "TERMINFO_DIRS", "XDG_CACHE_HOME", "COLORTERM"):
-            environment.pop(gone, None)
+            known.pop(gone, None)
         found = os.stat(server.path)
         mark = f"{os.uname().nodename}:{found.st_dev}:{found.st_ino}"
         for words, said in (([], f"vt220 8 -1 8color {mark}"), (["--term", "vt220"], f"vt220 -1 -1  {mark}"),
                             (["--term", "mux-8color"], f"mux-8color 8  8color {mark}"),):
-            subprocess.run([link, *owner_of(server), *words, "sh", "-c", say, "", f"{room}/said"], env=environment, timeout=20)
+            play.run(link, *owner_of(server), *words, "sh", "-c", say, "", f"{room}/said", env=known, timeout=20)
             equal(f"mux-shell {' '.join(words)}, called through a link", Path(room, "said").read_text(), f"{said} ")
 
 
@@ -453,7 +453,7 @@ def detached_windows():
             words = ["--socket", path, "--user", "own", "--token", token, "--title", "late", "--detach"]
             start = time.monotonic()
             words += ["--wait", str(seconds), "sh", "-c", f": >{room}/ran; exec cat"]
-            it = subprocess.run([script("mux-shell"), *words], capture_output=True, env=environment(TMPDIR=room), timeout=30)
+            it = play.run(script("mux-shell"), *words, env=environment(TMPDIR=room), text=False, errors=None)
             return it.returncode, it.stdout, it.stderr, time.monotonic() - start
 
         with Fake() as fake:

@@ -241,8 +241,8 @@ def fitted():
 def fitted_window():
     """With --fit the window has the terminal's size: at the start, and after each change."""
     with Server() as server, tempfile.TemporaryDirectory() as room:
-        shell = subprocess.Popen([script("mux-shell"), *owner_of(server), "--title", "sh", "--rows", "10", "--cols", "40",
-                                  "sh"], env=environment(HOME=room))
+        words = [script("mux-shell"), *owner_of(server), "--title", "sh", "--rows", "10", "--cols", "40", "sh"]
+        shell = subprocess.Popen(words, env=environment(HOME=room))
         check("the shell is a window", once(lambda: b"0 sh" in server.give(b"windows"), 20))
         with Terminal(attach_words(server, "--fit")) as it:
             assert it.has(b"0 sh", 20), f"it isn't attached: {it.out}"

@@ -113,8 +113,8 @@ class Session:
     def begin(self):
         words = ["--socket", self.socket, "--users", f"{self.at}/users", "--trails", f"{self.at}/trails", "--again",
                  self.again, "--setup", f"{self.at}/first"]
-        return subprocess.Popen([script("muxd-run"), *words], env=environment(), stdout=subprocess.PIPE, stderr=self.log,
-                                stdin=subprocess.DEVNULL)
+        return subprocess.Popen([script("muxd-run"), *words], env=environment(), stdin=subprocess.DEVNULL,
+                                stdout=subprocess.PIPE, stderr=self.log)
 
     def start(self):
         self.server = self.begin()
