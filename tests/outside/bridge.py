@@ -237,9 +237,11 @@ class Page(WebSocket):
         except Closed as it:
             return it.code
 
-    def keys(self, data):
+    def keys(self, data, shows=None):
+        """Types keys, and then reads on until a line has a text, perhaps: True."""
         for at in range(0, len(data), peer.LONGEST):
             self.send(peer.KEYS + data[at : at + peer.LONGEST])
+        return shows is None or self.until(shows)
 
     def resize(self, rows, cols):
         self.send(peer.RESIZE + peer.two(rows) + peer.two(cols))
@@ -317,6 +319,11 @@ class World(contextlib.AbstractContextManager):
 
     def bridge(self, *words, **more):
         return Bridge(WORDS.mux_web, self.server.path, self.folder, words, **more)
+
+    def prints(self, data, waits, text):
+        """The window prints something, and a page waits for what becomes of it."""
+        self.window.print(data)
+        return waits(text)
 
 
 def draws_for(path, user, rows, cols):

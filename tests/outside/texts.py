@@ -515,8 +515,7 @@ def browse(name, address, origin, token, caption, keys, shown):
     try:
         page = bridge.Page(address, origin, b"ann", token)
         page.until(caption)
-        page.keys(keys)
-        page.until(shown)
+        page.keys(keys, shows=shown)
         page.close()
     except (AssertionError, OSError, bridge.Closed) as error:
         raise Fault("%s: a page in a browser: %s" % (name, error)) from None
