@@ -155,11 +155,15 @@ class WebSocket:
             if operation in (TEXT, BINARY):
                 return operation, data
 
+    def step(self):
+        """Takes one message."""
+        return self.next()
+
     def end(self):
-        """Reads on to the end: the code of the close, or None if there was none."""
+        """Takes what comes to the end: the code of the close, or None if there was none."""
         try:
             while True:
-                self.next()
+                self.step()
         except Closed as it:
             return it.code
 
@@ -228,14 +232,6 @@ class Page(WebSocket):
                 self.step()
         except TimeoutError:
             self.socket.settimeout(20)
-
-    def end(self):
-        """Takes what comes to the end: the code of the close."""
-        try:
-            while True:
-                self.step()
-        except Closed as it:
-            return it.code
 
     def keys(self, data, shows=None):
         """Types keys, and then reads on until a line has a text, perhaps: True."""

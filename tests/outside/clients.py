@@ -587,9 +587,7 @@ def turned_text():
     check("characters that turn text are printed as their numbers, others as they are", True)
 
 
-PARTS = (draws_only, terminal_reset, turned_text, no_folder, exact_input, hanging_servers, no_right_to_detach,
-         stopped_server, nothing_cleared, suspended,
-         killed_script, nested, commands, waits, terms, detached_windows)
-
 if __name__ == "__main__":
-    play.main(PARTS, each=Server)
+    play.main((draws_only, terminal_reset, turned_text, no_folder, exact_input, hanging_servers, no_right_to_detach,
+               stopped_server, nothing_cleared, suspended, killed_script, nested, commands, waits, terms,
+               detached_windows), each=Server)

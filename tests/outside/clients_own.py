@@ -415,8 +415,5 @@ def survives():
         server.__exit__()
 
 
-PARTS = (said_later, slow_program, helped, scrolled, fitted, fitted_window, attached_again, stays, survives)
-
-
 if __name__ == "__main__":
-    play.main(PARTS)
+    play.main((said_later, slow_program, helped, scrolled, fitted, fitted_window, attached_again, stays, survives))

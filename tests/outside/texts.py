@@ -688,16 +688,12 @@ def operating(play, on, text):
     def left(line):
         """Lines that change the system; tests/outside/consoles plays what they set up."""
         why = "it needs systemd, another login or another host; tests/outside/consoles plays what it sets up"
-        for words, better in (("mux-web", "tests/outside/boot plays it"),
-                              ("mux-console", "tests/outside/boot plays it"),
-                              ("/etc/mux/web", "tests/outside/boot plays it"),
-                              ("tic ", "make lint compiles it"), ("mux-over-ssh", "tests/outside/terminals plays it"),
-                              ("mux-user", "tests/outside/consoles plays it"),
-                              ("muxsim --setup", "tests/outside/policies plays it"),
-                              ("muxd --setup", "tests/outside/policies plays it"),
-                              ("mux-trail", "tests/outside/trailfile plays it"),
-                              ("muxd --trail", "tests/outside/trailfile plays it")):
-            if words in line:
+        for better, *words in (("tests/outside/boot plays it", "mux-web", "mux-console", "/etc/mux/web"),
+                               ("make lint compiles it", "tic "), ("tests/outside/terminals plays it", "mux-over-ssh"),
+                               ("tests/outside/consoles plays it", "mux-user"),
+                               ("tests/outside/policies plays it", "muxsim --setup", "muxd --setup"),
+                               ("tests/outside/trailfile plays it", "mux-trail", "muxd --trail")):
+            if any(it in line for it in words):
                 why = better
         text.leave(why, line)
 
@@ -710,9 +706,9 @@ def operating(play, on, text):
     on.run("root", "export MUX_USER=own; cd")
     leave_until("$ mux-console web1")
     text.leave("tests/outside/boot plays it", text.lines[0][0])
-    on.run("root",
-           play.real("(umask 007; setsid -f muxd-run --socket /run/mux/ops/socket --users /var/lib/mux/ops/users"
-                     " --rights /etc/mux/ops/rights > ~/log 2>&1); muxd-wait --socket /run/mux/ops/socket"))
+    begins = play.real("(umask 007; setsid -f muxd-run --socket /run/mux/ops/socket --users /var/lib/mux/ops/users"
+                       " --rights /etc/mux/ops/rights > ~/log 2>&1); muxd-wait --socket /run/mux/ops/socket")
+    on.run("root", begins)
     leave_until("# export MUX_SOCKET=/run/mux/ops/socket MUX_TOKEN=/var/lib/mux/ops/own.token MUX_LOCK=/etc/mux/ops")
     play.next("root")
     play.run("root", 'own() { mux-rights /etc/mux/ops/rights command "$@"; }')
@@ -758,9 +754,7 @@ def operating(play, on, text):
     # The wall says that the session ended, waits for the next one, and ends by C-c with its terminal as it was.
     on.run("root", play.real("own quit; while [ -e /run/mux/ops/socket ]; do sleep 0.1; done"))
     on.shows("wall", "no session: ", 4)
-    on.run("root",
-           play.real("(umask 007; setsid -f muxd-run --socket /run/mux/ops/socket --users /var/lib/mux/ops/users"
-                     " --rights /etc/mux/ops/rights > ~/log 2>&1); muxd-wait"))
+    on.run("root", begins)
     on.run("root", "setsid -f mux-shell --title web1 sh -c 'echo new; cat'; muxd-wait --window web1")
     on.run("root", play.real("mux-rights /etc/mux/ops/rights window web1"))
     on.shows("wall", "^new")
