@@ -415,5 +415,4 @@ def survives():
         server.__exit__()
 
 
-if __name__ == "__main__":
-    play.main((said_later, slow_program, helped, scrolled, fitted, fitted_window, attached_again, stays, survives))
+play.main((said_later, slow_program, helped, scrolled, fitted, fitted_window, attached_again, stays, survives))

@@ -103,6 +103,5 @@ def rough_peers():
         figure(f"sixteen rough peers, {done} in {WORDS.seconds} s", server.resident() / 1e6, MOST, "MB")
 
 
-if __name__ == "__main__":
-    play.main((steps, rough_peers), ["muxd"],
-              {"--seconds": {"type": int, "default": 60, "help": "how long the rough peers are at it"}})
+play.main((steps, rough_peers), ["muxd"],
+          {"--seconds": {"type": int, "default": 60, "help": "how long the rough peers are at it"}})

@@ -468,6 +468,5 @@ def reads_only():
             check(f"{name}: at most 2,000 entries at once, then six a second", entries < most, f"{entries}")
 
 
-if __name__ == "__main__":
-    play.main((seats, works_on, denied_later, pasted, taken_back, sizes, reads_only, attacked),
-              ["muxd"], {"--seconds": {"type": int, "default": 20, "help": "how long each attack lasts"}})
+play.main((seats, works_on, denied_later, pasted, taken_back, sizes, reads_only, attacked),
+          ["muxd"], {"--seconds": {"type": int, "default": 20, "help": "how long each attack lasts"}})

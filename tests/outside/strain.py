@@ -341,11 +341,10 @@ def drawn_in_a_flood():
                       f"{max(late) * 1000:.0f} ms")
 
 
-if __name__ == "__main__":
-    play.main((dead_window, ends_behind_frames, winding_up, at_once, one_who_floods, few_descriptors, strangers,
-               told_to_go, unread_log, stopped_clients, idle_loops, drawn_in_a_flood), ["muxd"], {
-        "--tries": {"type": int, "default": 100, "help": "how often servers are started at once"},
-        "--draws": {"type": int, "default": 20, "help": "how many draws a second are asked for in a flood"},
-        "--gap": {"type": float, "default": 150, "help": "how many ms may lie between two of them"},
-        "--late": {"type": float, "default": 100, "help": "within how many ms a quiet window's line is drawn"},
-    }, each=Server)
+play.main((dead_window, ends_behind_frames, winding_up, at_once, one_who_floods, few_descriptors, strangers,
+           told_to_go, unread_log, stopped_clients, idle_loops, drawn_in_a_flood), ["muxd"], {
+    "--tries": {"type": int, "default": 100, "help": "how often servers are started at once"},
+    "--draws": {"type": int, "default": 20, "help": "how many draws a second are asked for in a flood"},
+    "--gap": {"type": float, "default": 150, "help": "how many ms may lie between two of them"},
+    "--late": {"type": float, "default": 100, "help": "within how many ms a quiet window's line is drawn"},
+}, each=Server)

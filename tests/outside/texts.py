@@ -947,5 +947,4 @@ def played(name):
     return part
 
 
-if __name__ == "__main__":
-    main({"words": words_agree, "pages": pages_are_played, **{name: played(name) for name in PLAYS}}, PROGRAMS)
+main({"words": words_agree, "pages": pages_are_played, **{name: played(name) for name in PLAYS}}, PROGRAMS)

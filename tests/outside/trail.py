@@ -158,5 +158,4 @@ def full():
         figure("its memory", resource.getrusage(resource.RUSAGE_CHILDREN).ru_maxrss * 1024 / 1e6, MOST, "MB")
 
 
-if __name__ == "__main__":
-    play.main((full, day), ["muxd"], {"--loops": {"type": int, "default": 2, "help": "how many the server has"}})
+play.main((full, day), ["muxd"], {"--loops": {"type": int, "default": 2, "help": "how many the server has"}})
