@@ -217,5 +217,4 @@ def main():
         row("  through mux-door", f"{door:.1f}", unit, f" {door / direct:.2f} times")
 
 
-if __name__ == "__main__":
-    main()
+main()

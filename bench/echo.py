@@ -94,5 +94,4 @@ def main():
         session.end()
 
 
-if __name__ == "__main__":
-    main()
+main()

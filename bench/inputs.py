@@ -97,18 +97,8 @@ def scroll(rng):
     return b"y\r\n"
 
 
-INPUTS = {
-    "ascii": ascii,
-    "long line": long_line,
-    "tabs": tabs,
-    "dense": dense,
-    "edits": edits,
-    "short": short,
-    "latin": latin,
-    "marks": marks,
-    "wide": wide,
-    "scroll": scroll,
-}
+INPUTS = {piece.__name__.replace("_", " "): piece
+          for piece in (ascii, long_line, tabs, dense, edits, short, latin, marks, wide, scroll)}
 
 
 def make(folder, seed):

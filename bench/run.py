@@ -138,5 +138,4 @@ def main():
             line("vtcat : best", [f"{own / other:.2f}" for own, other in zip(table["vtcat"], best)])
 
 
-if __name__ == "__main__":
-    main()
+main()

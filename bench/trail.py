@@ -143,5 +143,4 @@ def main():
                   f"{memory:.0f} MB of memory", flush=True)
 
 
-if __name__ == "__main__":
-    main()
+main()

@@ -7,6 +7,12 @@ import sys
 TOP = os.path.dirname(os.path.dirname(os.path.realpath(__file__)))
 
 
+def stop(why, status=2):
+    """Ends a program of tools/ with a message."""
+    print(f"tools/{os.path.basename(sys.argv[0])}: {why}", file=sys.stderr)
+    sys.exit(status)
+
+
 def load(path, name):
     """A program of Python as a module."""
     loader = importlib.machinery.SourceFileLoader(name, path)

@@ -14,7 +14,7 @@ import time
 from pathlib import Path
 
 import peer
-from play import TOP, WORDS, run
+from play import TOP, WORDS, end, run
 
 SITE = TOP / "contrib" / "web"
 WATCH = b"V"
@@ -155,11 +155,15 @@ class WebSocket:
             if operation in (TEXT, BINARY):
                 return operation, data
 
+    def step(self):
+        """Takes one message."""
+        return self.next()
+
     def end(self):
-        """Reads on to the end: the code of the close, or None if there was none."""
+        """Takes what comes to the end: the code of the close, or None if there was none."""
         try:
             while True:
-                self.next()
+                self.step()
         except Closed as it:
             return it.code
 
@@ -205,10 +209,11 @@ class Page(WebSocket):
         return [self.line(number) for number in range(self.rows or 0)]
 
     def until(self, has, seconds=20):
-        """Reads on until a line has this text."""
-        self.when(lambda: any(has in it for it in self.text()), seconds, has)
+        """Reads on until a line has this text: True."""
+        return self.when(lambda: any(has in it for it in self.text()), seconds, has)
 
     def when(self, holds, seconds=20, what="it"):
+        """Reads on until something holds: True."""
         until = time.monotonic() + seconds
         while not holds():
             self.socket.settimeout(max(0.01, until - time.monotonic()))
@@ -217,6 +222,7 @@ class Page(WebSocket):
             except TimeoutError:
                 raise AssertionError(f"{what} isn't shown after {seconds} s: {self.text()}") from None
         self.socket.settimeout(seconds)
+        return True
 
     def quiet(self, seconds=0.3):
         """Takes what comes until nothing came for so long."""
@@ -227,17 +233,11 @@ class Page(WebSocket):
         except TimeoutError:
             self.socket.settimeout(20)
 
-    def end(self):
-        """Takes what comes to the end: the code of the close."""
-        try:
-            while True:
-                self.step()
-        except Closed as it:
-            return it.code
-
-    def keys(self, data):
+    def keys(self, data, shows=None):
+        """Types keys, and then reads on until a line has a text, perhaps: True."""
         for at in range(0, len(data), peer.LONGEST):
             self.send(peer.KEYS + data[at : at + peer.LONGEST])
+        return shows is None or self.until(shows)
 
     def resize(self, rows, cols):
         self.send(peer.RESIZE + peer.two(rows) + peer.two(cols))
@@ -265,9 +265,7 @@ class Bridge(peer.Program):
             raise AssertionError(f"the bridge isn't ready: {line} {self.log()}")
 
     def __exit__(self, *_):
-        if self.program.poll() is None:
-            self.program.kill()
-        self.program.wait()
+        end(self.program)
         self.program.stdout.close()
 
     def log(self):
@@ -275,6 +273,12 @@ class Bridge(peer.Program):
 
     def page(self, user=None, token=peer.TOKEN, **more):
         return Page(self.address, self.origin, user, token, **more)
+
+    def shell(self, user=None, **more):
+        """A page, once it shows the window `shell`."""
+        page = self.page(user, **more)
+        page.until("0 shell")
+        return page
 
     def open(self, **more):
         return WebSocket(self.address, self.origin, **more)
@@ -311,6 +315,11 @@ class World(contextlib.AbstractContextManager):
 
     def bridge(self, *words, **more):
         return Bridge(WORDS.mux_web, self.server.path, self.folder, words, **more)
+
+    def prints(self, data, waits, text):
+        """The window prints something, and a page waits for what becomes of it."""
+        self.window.print(data)
+        return waits(text)
 
 
 def draws_for(path, user, rows, cols):

@@ -4,6 +4,7 @@ import contextlib
 import json
 import os
 import shutil
+import signal
 import socket
 import subprocess
 import tempfile
@@ -11,12 +12,35 @@ import time
 import urllib.request
 
 import bridge
+from play import once, read
 
 # The virtual codes of keys that are no characters.
 CODES = {"Enter": 13, "Escape": 27, "Tab": 9, "Backspace": 8, "Insert": 45, "Delete": 46, "PageUp": 33, "PageDown": 34,
          "Home": 36, "End": 35, "ArrowLeft": 37, "ArrowUp": 38, "ArrowRight": 39, "ArrowDown": 40,
          **{f"F{n}": 111 + n for n in range(1, 13)}}
 ALT, CTRL, META, SHIFT = 1, 2, 4, 8
+
+
+def port_of(program, path):
+    """The port that a browser which begins writes to a file."""
+    def port():
+        with contextlib.suppress(OSError, ValueError):
+            return int(read(path).partition("\n")[0])
+        assert program.poll() is None, f"{program.args[0]} doesn't start"
+
+    assert once(port, 60, 0.1), f"{program.args[0]} doesn't start"
+    return port()
+
+
+def end(program, folder):
+    """Ends a browser with its processes, and removes its folder."""
+    for how in (signal.SIGTERM, signal.SIGKILL):
+        with contextlib.suppress(ProcessLookupError, subprocess.TimeoutExpired):
+            os.killpg(program.pid, how)
+            program.wait(10)
+    program.wait()
+    time.sleep(0.2)
+    shutil.rmtree(folder, ignore_errors=True)
 
 
 class Browser(contextlib.AbstractContextManager):
@@ -31,25 +55,10 @@ class Browser(contextlib.AbstractContextManager):
                    "--disable-extensions", "--mute-audio", *words, "about:blank"]
         self.program = subprocess.Popen(command, stdout=subprocess.DEVNULL, stderr=subprocess.DEVNULL,
                                         start_new_session=True)
-        until = time.monotonic() + 60
-        while True:
-            try:
-                with open(f"{self.folder}/DevToolsActivePort", encoding="ascii") as it:
-                    self.port = int(it.readline())
-                break
-            except (OSError, ValueError):
-                assert time.monotonic() < until and self.program.poll() is None, "chromium doesn't start"
-                time.sleep(0.1)
+        self.port = port_of(self.program, f"{self.folder}/DevToolsActivePort")
 
     def __exit__(self, *_):
-        with contextlib.suppress(ProcessLookupError, subprocess.TimeoutExpired):
-            os.killpg(self.program.pid, 15)
-            self.program.wait(10)
-        with contextlib.suppress(ProcessLookupError):
-            os.killpg(self.program.pid, 9)
-        self.program.wait()
-        time.sleep(0.2)
-        shutil.rmtree(self.folder, ignore_errors=True)
+        end(self.program, self.folder)
 
     def asks(self, path, method="PUT"):
         with urllib.request.urlopen(urllib.request.Request(f"http://127.0.0.1:{self.port}{path}", method=method)) as it:
@@ -60,19 +69,17 @@ class Document:
     """The page of mux-web in a browser of which `value` gives the value of an expression, and `key` presses a key."""
 
     def wait(self, text, seconds=20):
-        """Waits until an expression is true."""
-        until = time.monotonic() + seconds
-        while not self.value(text):
-            if time.monotonic() > until:
-                raise AssertionError(f"after {seconds} s this doesn't hold: {text}\n" + "\n".join(self.rows()))
-            time.sleep(0.03)
+        """Waits until an expression is true: True."""
+        if not once(lambda: self.value(text), seconds, 0.03):
+            raise AssertionError(f"after {seconds} s this doesn't hold: {text}\n" + "\n".join(self.rows()))
+        return True
 
     def rows(self):
         """The rows of the document, without blanks at their ends."""
         return self.value("[...document.getElementById('page').children].map((it) => it.textContent.trimEnd())")
 
     def shows(self, text, seconds=20):
-        self.wait(f"document.getElementById('page').textContent.includes({json.dumps(text)})", seconds)
+        return self.wait(f"document.getElementById('page').textContent.includes({json.dumps(text)})", seconds)
 
     def said(self):
         return self.value("document.getElementById('said').textContent")

@@ -1,4 +1,4 @@
-#!/usr/bin/env python3
+#!/usr/bin/env -S python3 -B
 """Clients of servers that hang, and terminals that come back as they were: mux and the scripts that people attach with.
 
 Terminals are pseudo-terminals.  Needs bash, and tput for the part about TERM.
@@ -9,18 +9,16 @@ import shutil
 import signal
 import socket
 import subprocess
-import sys
 import tempfile
 import termios
 import threading
 import time
 from pathlib import Path
 
-sys.dont_write_bytecode = True
 import peer
 import play
 from peer import TOKEN, frame, two
-from play import WORDS, Server, check, left_out, once, plain, script
+from play import Server, WORDS, answers, check, contains, empty, environment, equal, once, plain, script
 
 LEAVE = b"\x1c"
 WELCOME, GONE = b"y\0\1\0", b"g\0\1\0"
@@ -142,9 +140,8 @@ class Client(contextlib.AbstractContextManager):
 class Terminal(play.Terminal):
     """A program on a pseudo-terminal, with the environment of somebody who attaches."""
 
-    def __init__(self, words, **environment):
-        known = {"MUX": WORDS.mux, "PS1": "ready> ", "HOME": "/nonexistent"}
-        super().__init__(words, {**os.environ, **known, **environment})
+    def __init__(self, words, **more):
+        super().__init__(words, environment(**{"PS1": "ready> ", "HOME": "/nonexistent", **more}))
 
     def is_drawn(self):
         """Whether the session is shown: a first draw resets the terminal."""
@@ -171,8 +168,13 @@ def token_of(server, name="own", token=TOKEN):
     return str(path)
 
 
+def owner_of(server):
+    """The options of a server's owner."""
+    return ["--socket", server.path, "--user", "own", "--token", token_of(server)]
+
+
 def attach_words(server, *more):
-    return [script("mux-attach"), "--socket", server.path, "--user", "own", "--token", token_of(server), *more]
+    return [script("mux-attach"), *owner_of(server), *more]
 
 
 def typed_in(fake, pieces, pause=0.02):
@@ -197,7 +199,7 @@ def exact_input():
             fake.is_over.wait(2)
             if (status, fake.typed()) != (0, b"ab\x1ccd\x1c\x1ce") or fake.frames()[-1] != (b"D", b""):
                 wrong.append((cut, status, fake.frames()))
-    check("pairs are one byte, and a lone one leaves, at each cut", not wrong, str(wrong))
+    empty("pairs are one byte, and a lone one leaves, at each cut", wrong)
     with Fake(WELCOME) as fake:
         status, took, _ = typed_in(fake, [bytes([byte]) for byte in text[:12]], 0.005)
         fake.is_over.wait(2)
@@ -217,7 +219,7 @@ def hanging_servers():
         with fake:
             status, took, said = typed_in(fake, [before + LEAVE] if before else [LEAVE])
             check(f"{name}: it leaves in time", status == 0 and took < 0.5, f"status {status}, {took:.2f} s")
-            check(f"{name}: and says so", b"left without an answer" in said, str(said))
+            contains(f"{name}: and says so", said, b"left without an answer")
     with Server() as server:
         fake = Fake()
         fake.path, fake.token = server.path, token_of(server)
@@ -234,71 +236,68 @@ def hanging_servers():
         fake.__exit__()
 
 
-def no_right_to_detach():
+def no_right_to_detach(server):
     """Who has no x on detach leaves by the byte."""
-    with Server() as server:
-        bob = b"1" * 64
-        server.users.write_bytes(server.users.read_bytes() + b"bob " + bob + b"\n")
-        time.sleep(1.1)
+    bob = b"1" * 64
+    server.users.write_bytes(server.users.read_bytes() + b"bob " + bob + b"\n")
+    time.sleep(1.1)
+    server.give(b"multiuser on")
+    server.give(b"acladd bob")
+    server.give(b"aclchg bob -x detach")
+    token = token_of(server, "bob", bob)
+    with Terminal([script("mux-attach"), "--socket", server.path, "--user", "bob", "--token", token]) as it:
+        assert it.is_drawn(), "bob isn't attached"
+        it.type(b"\x01d")
+        check("C-a d is denied", it.shows(b"denied: x on detach"))
+        it.type(LEAVE)
+        start = time.monotonic()
+        status = it.ends_within(3)
+        check("C-\\ leaves", status == 0 and time.monotonic() - start < 1, f"{status}")
+        check("and is a detaching", b"[detached from" in it.out, str(it.out[-80:]))
+    time.sleep(0.2)
+    check("the client is gone", b"bob" not in server.give(b"displays"))
+    for line, said in ((b"acldel bob", b": you were removed, and its owner"), (b"multiuser off", b"is single-user now: nobody")):
         server.give(b"multiuser on")
         server.give(b"acladd bob")
-        server.give(b"aclchg bob -x detach")
-        token = token_of(server, "bob", bob)
         with Terminal([script("mux-attach"), "--socket", server.path, "--user", "bob", "--token", token]) as it:
             assert it.is_drawn(), "bob isn't attached"
-            it.type(b"\x01d")
-            check("C-a d is denied", it.shows(b"denied: x on detach"))
-            it.type(LEAVE)
-            start = time.monotonic()
-            status = it.ends_within(3)
-            check("C-\\ leaves", status == 0 and time.monotonic() - start < 1, f"{status}")
-            check("and is a detaching", b"[detached from" in it.out, str(it.out[-80:]))
-        time.sleep(0.2)
-        check("the client is gone", b"bob" not in server.give(b"displays"))
-        for line, said in ((b"acldel bob", b": you were removed, and its owner"), (b"multiuser off", b"is single-user now: nobody")):
-            server.give(b"multiuser on")
-            server.give(b"acladd bob")
-            with Terminal([script("mux-attach"), "--socket", server.path, "--user", "bob", "--token", token]) as it:
-                assert it.is_drawn(), "bob isn't attached"
-                server.give(line)
-                check(f"{line.decode()} sends bob away, who is told", it.shows(said), str(it.out[-90:]))
+            server.give(line)
+            check(f"{line.decode()} sends bob away, who is told", it.shows(said), str(it.out[-90:]))
 
 
-def stopped_server():
+def stopped_server(server):
     """mux-attach beside a server that is stopped: only C-\\ leads out, and the terminal is as before."""
-    with Server() as server:
-        with Terminal(["bash", "--norc", "-i"]) as it:
-            it.shows(b"ready>")
-            before = termios.tcgetattr(it.fd)
-            it.type(" ".join(attach_words(server)).encode() + b"; echo status $?\n")
-            assert it.is_drawn(), "it isn't attached"
-            check("attached: raw", it.is_raw())
-            stop(server)
-            for keys in (b"\x01d", b"\x03", b"\x1a"):
-                it.type(keys)
-                it.read(0.3)
-            check("C-a d, C-c and C-z lead nowhere", it.is_raw())
-            start = time.monotonic()
-            it.type(LEAVE)
-            left = it.shows(b"which doesn't answer]", 3)
-            took = time.monotonic() - start
-            check("C-\\ leaves, and says from what", left and took < 0.8, f"{took:.2f} s")
-            check("with status 0", b"status 0" in it.out or it.shows(b"status 0", 3))
-            it.read(0.5)
-            check("the settings are as before", termios.tcgetattr(it.fd)[:4] == before[:4])
-            server.program.send_signal(signal.SIGCONT)
+    with Terminal(["bash", "--norc", "-i"]) as it:
+        it.shows(b"ready>")
+        before = termios.tcgetattr(it.fd)
+        it.type(" ".join(attach_words(server)).encode() + b"; echo status $?\n")
+        assert it.is_drawn(), "it isn't attached"
+        check("attached: raw", it.is_raw())
+        stop(server)
+        for keys in (b"\x01d", b"\x03", b"\x1a"):
+            it.type(keys)
+            it.read(0.3)
+        check("C-a d, C-c and C-z lead nowhere", it.is_raw())
+        start = time.monotonic()
+        it.type(LEAVE)
+        left = it.shows(b"which doesn't answer]", 3)
+        took = time.monotonic() - start
+        check("C-\\ leaves, and says from what", left and took < 0.8, f"{took:.2f} s")
+        check("with status 0", b"status 0" in it.out or it.shows(b"status 0", 3))
+        it.read(0.5)
+        check("the settings are as before", termios.tcgetattr(it.fd)[:4] == before[:4])
+        server.program.send_signal(signal.SIGCONT)
 
 
-def nothing_cleared():
+def nothing_cleared(server):
     """An attach that fails leaves the page as it was; one that doesn't clears it."""
-    with Server() as server:
-        for name, words in (("no server", [script("mux-attach"), "--socket", "/nope", "--token", token_of(server)]),
-                            ("a wrong token", attach_words(server)[:-1] + [token_of(server, "wrong", b"2" * 64)]),
-                            ("no token", attach_words(server)[:-1] + ["/nope"]),):
-            with Terminal(["sh", "-c", 'echo precious; "$@"; echo status $?', "", *words]) as it:
-                it.ends_within(5)
-                check(f"{name}: nothing is cleared", b"\x1b" not in it.out and b"status 1" in it.out, str(it.out))
-                check(f"{name}: it says what isn't there", b"/nope" in it.out or b"wrong token" in it.out, str(it.out))
+    for name, words in (("no server", [script("mux-attach"), "--socket", "/nope", "--token", token_of(server)]),
+                        ("a wrong token", attach_words(server)[:-1] + [token_of(server, "wrong", b"2" * 64)]),
+                        ("no token", attach_words(server)[:-1] + ["/nope"]),):
+        with Terminal(["sh", "-c", 'echo precious; "$@"; echo status $?', "", *words]) as it:
+            it.ends_within(5)
+            check(f"{name}: nothing is cleared", b"\x1b" not in it.out and b"status 1" in it.out, str(it.out))
+            check(f"{name}: it says what isn't there", b"/nope" in it.out or b"wrong token" in it.out, str(it.out))
 
 
 def suspended():
@@ -333,20 +332,16 @@ def killed_script():
             it.read(1)
             it.type(b"echo $((6 * 7))\n")
             check(f"{shell[0]}: and has the keys", it.shows(b"42", 5), str(it.out[-300:]))
-            said = server.give(b"displays")
-            check(f"{shell[0]}: the client is gone", said == b"y\0\1\0s\0\0g\0\1\0", str(said))
-            check(f"{shell[0]}: no folder stays", not os.listdir(room), str(os.listdir(room)))
+            equal(f"{shell[0]}: the client is gone", server.give(b"displays"), b"y\0\1\0s\0\0g\0\1\0")
+            empty(f"{shell[0]}: no folder stays", os.listdir(room))
 
 
 def nested():
     """mux-attach refuses to attach to the session in whose window it is."""
     with Server() as server, Server() as other:
-        token = token_of(server)
-        common = ["--socket", server.path, "--user", "own", "--token", token]
-        shell = subprocess.Popen([script("mux-shell"), *common, "--title", "-sh", "env", "PS1=in> ", "sh"],
-                                 env={**os.environ, "MUX": WORDS.mux, "HOME": server.folder.name})
-        subprocess.run([script("muxd-wait"), *common, "--window", "-sh"], check=True,
-                       env={**os.environ, "MUX": WORDS.mux})
+        shell = subprocess.Popen([script("mux-shell"), *owner_of(server), "--title", "-sh", "env", "PS1=in> ", "sh"],
+                                 env=environment(HOME=server.folder.name))
+        subprocess.run([script("muxd-wait"), *owner_of(server), "--window", "-sh"], check=True, env=environment())
         with Terminal(attach_words(server)) as it:
             assert it.shows(b"in>"), f"no shell: {it.out[-200:]}"
             inner = " ".join(attach_words(server))
@@ -360,11 +355,8 @@ def nested():
                 is_refused = it.shows(b"status 1", 5) and b"is a window of the session" in plain(it.out[-3000:])
                 check(f"refused {name}", is_refused, str(it.out[-300:]))
             it.type(f"clear; {' '.join(attach_words(other))}\r".encode())
-            for _ in range(100):
-                it.read(0.1)
-                if b"0 own" in other.give(b"displays"):
-                    break
-            check("another session's page is shown", b"0 own" in other.give(b"displays"), str(it.out[-300:]))
+            is_there = lambda: it.read(0.1) is not None and b"0 own" in other.give(b"displays")
+            check("another session's page is shown", once(is_there, 10, 0), str(it.out[-300:]))
             it.type(b"\x1c")
             it.read(1)
             it.type(b"clear; echo $((6 * 7))\r")
@@ -379,7 +371,7 @@ def commands():
         status, out, err, took = run(["command", *fake.who(), "--wait", "1", "windows"])
         check("a server that doesn't answer: a command ends in time", (status, out) == (1, b"") and 0.9 < took < 1.6,
               f"{status} {out} {took:.2f} s")
-        check("and says how long it waited, and where", fake.path.encode() in err and b"within 1 s" in err, str(err))
+        contains("and says how long it waited, and where", err, fake.path.encode(), b"within 1 s")
     with Fake(accepts=False) as fake:
         status, _, err, took = run(["command", *fake.who(), "--wait", "1", "windows"])
         check("a full backlog: the same", status == 1 and took < 1.6 and b"within 1 s" in err, f"{status} {took:.2f} s")
@@ -398,36 +390,31 @@ def commands():
         check("also of a refusal, on both", status == 1 and b"\x1b" not in out + err and out.count(b"\n") == 1 and
               err.startswith(b"mux: \\x1b]0;"), str((out, err)))
     with Server() as server:
-        words = ["command", "--socket", server.path, "--user", "own", "--token", token_of(server)]
-        check("a refusal is on standard output, what its number means on standard error",
-              run([*words, "windows x"])[:3]
-              == (1, b"line: 3 at 8\n", b"mux: line: 3 at 8 (a word too many: x): windows x\n"),
-              str(run([*words, "windows x"])))
-        wanted = (1, b"no window\n", b"mux: no window: kill: 'windows' lists them\n")
-        check("one without a number, too", run([*words, "kill"])[:3] == wanted, str(run([*words, "kill"])))
-        said = run([*words, "windows \u00e9"])[2]
+        words = ["command", *owner_of(server)]
+        ran = lambda line: run([*words, line])[:3]
+        equal("a refusal is on standard output, what its number means on standard error", ran("windows x"),
+              (1, b"line: 3 at 8\n", b"mux: line: 3 at 8 (a word too many: x): windows x\n"))
+        equal("one without a number, too", ran("kill"),
+              (1, b"no window\n", b"mux: no window: kill: 'windows' lists them\n"))
+        said = ran("windows \u00e9")[2]
         check("in place of a line with other characters, it has the user and the socket",
               said.endswith(f": own at {server.path}\n".encode()), str(said))
-        said = run([*words, "no\x1b[31mword"])[:3]
         means = f"mux: line: 1 at 0 (unknown command: no\\x1b[31mword): own at {server.path}\n".encode()
-        check("control characters of the user's own word are visible", said == (1, b"line: 1 at 0\n", means), str(said))
-        check("a command that is done", run([*words, "multiuser on"])[:3] == (0, b"", b""))
-        said = run([*words, "displays"])
-        check("one that says something", said[:3] == (0, b"\n", b""), str(said))
-        it = subprocess.run([script("mux-command"), *words[1:], "windows", "x"], capture_output=True,
-                            env={**os.environ, "MUX": WORDS.mux})
-        is_said = (it.returncode, it.stdout) == (1, b"") and b"a word too many" in it.stderr
+        equal("control characters of the user's own word are visible", ran("no\x1b[31mword"),
+              (1, b"line: 1 at 0\n", means))
+        equal("a command that is done", ran("multiuser on"), (0, b"", b""))
+        equal("one that says something", ran("displays"), (0, b"\n", b""))
+        it = play.run(script("mux-command"), *words[1:], "windows", "x", env=environment())
+        is_said = (it.returncode, it.stdout) == (1, "") and "a word too many" in it.stderr
         check("mux-command says a refusal once", is_said, str(it))
 
 
 def waits():
     """muxd-wait keeps to its time, and leaves no line in the log."""
-    environment = {**os.environ, "MUX": WORDS.mux}
     for name, fake in (("accepts and says nothing", Fake()), ("has a full backlog", Fake(accepts=False))):
         for more in ([], ["--window", "sh", "--user", "own", "--token", fake.token]):
             start = time.monotonic()
-            it = subprocess.run([script("muxd-wait"), "--socket", fake.path, "--for", "2", *more], capture_output=True,
-                                timeout=30, env=environment)
+            it = play.run(script("muxd-wait"), "--socket", fake.path, "--for", "2", *more, env=environment())
             took = time.monotonic() - start
             kept = it.returncode == 1 and 1.5 < took < 3.5
             check(f"a server that {name}: 2 s{', of a window' if more else ''}", kept,
@@ -435,45 +422,38 @@ def waits():
         fake.__exit__()
     with Server(log=True) as server:
         for _ in range(3):
-            it = subprocess.run([script("muxd-wait"), "--socket", server.path], capture_output=True, env=environment)
-            check("a server that serves", (it.returncode, it.stdout, it.stderr) == (0, b"", b""), str(it))
+            answers("a server that serves", play.run(script("muxd-wait"), "--socket", server.path, env=environment()))
         server.give(b"quit")
         said = server.errors.read()
         check("and nothing of it in the log", said.count(b"\n") == 1 and b"a command of own" in said, str(said))
 
 
+@play.only(lambda: shutil.which("tput"), "there is no tput")
 def terms():
     """A window has colours without anything installed, and what leaves it has a plain vt220."""
-    if not shutil.which("tput"):
-        left_out("the terminal's description", "there is no tput")
-        return
     with Server() as server, tempfile.TemporaryDirectory() as room:
         link = f"{room}/a link"
         os.symlink(script("mux-shell"), link)
-        common = ["--socket", server.path, "--user", "own", "--token", token_of(server)]
         say = 'printf "%s " "$TERM" "$(tput colors)" "$(TERMINFO_DIRS= tput colors)" "$COLORTERM" "$MUX_SESSION" >"$1"'
-        environment = {**os.environ, "MUX": WORDS.mux, "HOME": room}
+        known = environment(HOME=room)
         for gone in ("TERMINFO", "TERMINFO_DIRS", "XDG_CACHE_HOME", "COLORTERM"):
-            environment.pop(gone, None)
+            known.pop(gone, None)
         found = os.stat(server.path)
         mark = f"{os.uname().nodename}:{found.st_dev}:{found.st_ino}"
         for words, said in (([], f"vt220 8 -1 8color {mark}"), (["--term", "vt220"], f"vt220 -1 -1  {mark}"),
                             (["--term", "mux-8color"], f"mux-8color 8  8color {mark}"),):
-            subprocess.run([link, *common, *words, "sh", "-c", say, "", f"{room}/said"], env=environment, timeout=20)
-            got = Path(room, "said").read_text()
-            check(f"mux-shell {' '.join(words)}, called through a link", got == f"{said} ", got)
+            play.run(link, *owner_of(server), *words, "sh", "-c", say, "", f"{room}/said", env=known, timeout=20)
+            equal(f"mux-shell {' '.join(words)}, called through a link", Path(room, "said").read_text(), f"{said} ")
 
 
 def detached_windows():
     """mux-shell --detach ends within its time, whatever the server does, and leaves nothing behind."""
     with tempfile.TemporaryDirectory() as room:
-        environment = {**os.environ, "MUX": WORDS.mux, "TMPDIR": room}
-
         def begun(path, token, seconds):
             words = ["--socket", path, "--user", "own", "--token", token, "--title", "late", "--detach"]
             start = time.monotonic()
             words += ["--wait", str(seconds), "sh", "-c", f": >{room}/ran; exec cat"]
-            it = subprocess.run([script("mux-shell"), *words], capture_output=True, env=environment, timeout=30)
+            it = play.run(script("mux-shell"), *words, env=environment(TMPDIR=room), text=False, errors=None)
             return it.returncode, it.stdout, it.stderr, time.monotonic() - start
 
         with Fake() as fake:
@@ -482,7 +462,7 @@ def detached_windows():
                   f"{status} {out} {took:.1f} s")
             wanted = (f"mux-shell: no window: no answer from {fake.path} within 1 s:"
                       " raise --wait, or see whether the server hangs\n")
-            check("and it says so", said == wanted.encode(), str(said))
+            equal("and it says so", said, wanted.encode())
         with Server() as server:
             token = token_of(server)
             stop(server)
@@ -493,7 +473,7 @@ def detached_windows():
             time.sleep(1)
             check("the window isn't there", b"late" not in server.give(b"windows"))
             check("the command wasn't run", not os.path.exists(f"{room}/ran"))
-            check("no folder is left", os.listdir(room) == [], str(os.listdir(room)))
+            equal("no folder is left", os.listdir(room), [])
             status, out, said, took = begun(server.path, token, 10)
             check("a server that serves", (status, out, said) == (0, b"window 0\n", b""), f"{status} {out} {said}")
             check("the window is there", b"late" in server.give(b"windows"))
@@ -532,8 +512,7 @@ def drawn(frames):
 def draws_only():
     """A client passes on what draws consist of, however it is cut, and nothing else."""
     whole = b"".join(DRAWN)
-    wrong = [part for part in DRAWN if drawn(frame(b"d", part))[:2] != (0, part)]
-    check("each function of a draw is passed on", not wrong, str(wrong))
+    empty("each function of a draw is passed on", [part for part in DRAWN if drawn(frame(b"d", part))[:2] != (0, part)])
     cut = b"".join(frame(b"d", whole[at : at + 1]) for at in range(len(whole)))
     check("all of them byte by byte", drawn(cut)[:2] == (0, whole), str(drawn(cut)))
     wrong = []
@@ -546,7 +525,7 @@ def draws_only():
             is_wrong = whole_part or part in out or b"last" in out
             if status != 1 or is_wrong or b"sent what no draw has" not in said:
                 wrong.append((name, part, status, out, said))
-    check("nothing else is, and the client ends with status 1 and says why", not wrong, str(wrong))
+    empty("nothing else is, and the client ends with status 1 and says why", wrong)
     status, out, said = drawn(frame(b"i", b"\x1b]0;t\x07"))
     is_refused = (status, out) == (1, b"") and b"doesn't speak this protocol" in said
     check("nor what is for windows", is_refused, f"{out} {said}")
@@ -572,23 +551,21 @@ def terminal_reset():
             it.read(0.5)
             after = it.out[it.out.rfind(b"\x1b[?1049h") :]
             modes = (b"1000", b"1003", b"1006", b"2004", b"1049")
-            left = [mode for mode in modes if b"\x1b[?" + mode + b"l" not in after]
-            check("what may have been set is reset", not left, str(left))
+            empty("what may have been set is reset", [mode for mode in modes if b"\x1b[?" + mode + b"l" not in after])
             check("and an answer of the terminal isn't a command line", b"uid=" not in after and b"62;6c" not in after,
                   str(after[-200:]))
 
 
-def no_folder():
+def no_folder(server):
     """Without a place for its files mux-attach says so and what to do; mux-watch needs none."""
-    with Server() as server:
-        words = attach_words(server)
-        with Terminal(words, TMPDIR="/nope") as it:
-            status = it.ends_within(5)
-            wanted = "mux-attach: can't make a folder for its files in /nope: No such file or directory: set TMPDIR"
-            check("mux-attach without a TMPDIR that is there", status == 1 and wanted.encode() in it.out,
-                  f"{status} {it.out}")
-        with Terminal([script("mux-watch"), *words[1:]], TMPDIR="/nope") as it:
-            check("mux-watch without it", it.is_drawn(), str(it.out))
+    words = attach_words(server)
+    with Terminal(words, TMPDIR="/nope") as it:
+        status = it.ends_within(5)
+        wanted = "mux-attach: can't make a folder for its files in /nope: No such file or directory: set TMPDIR"
+        check("mux-attach without a TMPDIR that is there", status == 1 and wanted.encode() in it.out,
+              f"{status} {it.out}")
+    with Terminal([script("mux-watch"), *words[1:]], TMPDIR="/nope") as it:
+        check("mux-watch without it", it.is_drawn(), str(it.out))
 
 
 # Characters that turn the direction of text, or end a line or a paragraph (Unicode, UAX #9 and UAX #14).
@@ -610,9 +587,7 @@ def turned_text():
     check("characters that turn text are printed as their numbers, others as they are", True)
 
 
-PARTS = (draws_only, terminal_reset, turned_text, no_folder, exact_input, hanging_servers, no_right_to_detach,
-         stopped_server, nothing_cleared, suspended,
-         killed_script, nested, commands, waits, terms, detached_windows)
-
 if __name__ == "__main__":
-    play.main(PARTS)
+    play.main((draws_only, terminal_reset, turned_text, no_folder, exact_input, hanging_servers, no_right_to_detach,
+               stopped_server, nothing_cleared, suspended, killed_script, nested, commands, waits, terms,
+               detached_windows), each=Server)

@@ -1,4 +1,4 @@
-#!/usr/bin/env python3
+#!/usr/bin/env -S python3 -B
 """What clients do by themselves: texts of the server, help, scrolling, fitting, coming back; and windows that stay.
 
 Needs perl.
@@ -8,17 +8,15 @@ import os
 import random
 import socket
 import subprocess
-import sys
 import tempfile
 import threading
 import time
 from pathlib import Path
 
-sys.dont_write_bytecode = True
 import play
-from clients import LEAVE, WELCOME, Client, Fake, Place, Terminal, attach_words, token_of
+from clients import LEAVE, WELCOME, Client, Fake, Place, Terminal, attach_words, owner_of
 from peer import frame, pieces, two
-from play import WORDS, Server, check, once, read, script
+from play import Server, WORDS, check, environment, equal, once, read, script
 
 QUIT, REMOVED = frame(b"g", b"\x04"), frame(b"g", b"\x01")
 DROPPED = b"keys were dropped: they waited for a second"
@@ -55,6 +53,12 @@ class Servers(Place):
         self.peer.sendall(answer)
         threading.Thread(target=self.keep, args=(self.peer,), daemon=True).start()
 
+    def leave(self, last=b"", seconds=0.2):
+        """Starts a server, and ends it after a while."""
+        self.begin()
+        time.sleep(seconds)
+        self.end(last)
+
     def end(self, last=b""):
         self.listener.close()
         self.listener = None
@@ -83,7 +87,7 @@ def said_later():
             check("a text of the server is shown, with its controls visible", it.shows(wanted), str(it.out))
             it.type(b"a")
             time.sleep(0.2)
-            check("a key at once leaves it there", fake.frames() == [(b"K", b"a")], str(fake.frames()))
+            equal("a key at once leaves it there", fake.frames(), [(b"K", b"a")])
             time.sleep(1)
             it.type(b"b", 0.3)
             whole = two(24) + two(80)
@@ -93,7 +97,7 @@ def said_later():
     with Fake(WELCOME + frame(b"s", b"denied: w on window 0: entry bob -w") + frame(b"s", b"line: 1 at 0")) as fake:
         with Client(fake.words()) as it:
             time.sleep(0.5)
-            check("texts of the session are the status line's", it.out == b"", str(it.out))
+            equal("texts of the session are the status line's", it.out, b"")
         with Fake(WELCOME + frame(b"s", b"line: 1 at 0")) as fake, Client(fake.words("--assist")) as it:
             check("with --assist a refusal by number is explained", it.shows(b"line: 1 at 0 (unknown command)"),
                   str(it.out))
@@ -142,20 +146,17 @@ def helped():
         it.type(b"\x01")
         it.type(b"?")
         check("C-a ? shows the keys", it.shows(b"Any key comes back."), str(it.out))
-        check("without a word to the session", fake.frames() == [], str(fake.frames()))
+        equal("without a word to the session", fake.frames(), [])
         shown = len(it.out)
         fake.kept[-1].sendall(frame(b"d", b"hidden"))
         time.sleep(0.2)
         check("draws wait outside", len(it.out) == shown, str(it.out[shown:]))
         it.type(b"q", 0.3)
-        check("a key asks for a whole draw, and isn't typed", fake.frames() == [(b"R", two(24) + two(80))],
-              str(fake.frames()))
+        equal("a key asks for a whole draw, and isn't typed", fake.frames(), [(b"R", two(24) + two(80))])
         fake.kept[-1].sendall(frame(b"d", b"\x1bcagain"))
         check("and draws are shown again", it.shows(b"\x1bcagain"))
         it.type(b"\x01\x01?\x01:?\r\x01a?\x01d", 0.3)
-        typed = fake.typed()
-        check("in the prompt, after C-a C-a and after C-a a it is a key", typed == b"\x01\x01?\x01:?\r\x01a?\x01d",
-              str(typed))
+        equal("in the prompt, after C-a C-a and after C-a a it is a key", fake.typed(), b"\x01\x01?\x01:?\r\x01a?\x01d")
     with Fake(WELCOME) as fake, Client(fake.words()) as it:
         it.type(b"\x01?")
         check("without --assist it is sent", once(lambda: fake.typed() == b"\x01?", 5), str(fake.typed()))
@@ -167,7 +168,7 @@ def scrolled():
         for keys in (b"\x1b[5;2~", b"\x1b[5;3~", b"\x1b[5$", b"\x1b[6;2~", b"\x1b[6;3~", b"x", b"y"):
             it.type(keys, 0.4)
         wanted = b"".join(b"\x01:scrollview %d\r" % lines for lines in (21, 42, 63, 42, 21, 0)) + b"xy"
-        check("pages up and down, and back by a key", fake.typed() == wanted, str(fake.typed()))
+        equal("pages up and down, and back by a key", fake.typed(), wanted)
         check("with a hint", it.shows(b"42 lines back; Shift-PgDn or Alt-PgDn: forward"), str(it.out))
         before = len(fake.typed())
         it.type(b"\x01:a\x1b[5;2~b\r", 0.3)
@@ -240,9 +241,8 @@ def fitted():
 def fitted_window():
     """With --fit the window has the terminal's size: at the start, and after each change."""
     with Server() as server, tempfile.TemporaryDirectory() as room:
-        common = ["--socket", server.path, "--user", "own", "--token", token_of(server)]
-        shell = subprocess.Popen([script("mux-shell"), *common, "--title", "sh", "--rows", "10", "--cols", "40", "sh"],
-                                 env={**os.environ, "MUX": WORDS.mux, "HOME": room})
+        words = [script("mux-shell"), *owner_of(server), "--title", "sh", "--rows", "10", "--cols", "40", "sh"]
+        shell = subprocess.Popen(words, env=environment(HOME=room))
         check("the shell is a window", once(lambda: b"0 sh" in server.give(b"windows"), 20))
         with Terminal(attach_words(server, "--fit")) as it:
             assert it.has(b"0 sh", 20), f"it isn't attached: {it.out}"
@@ -288,14 +288,11 @@ def attached_again():
             if mark:
                 Path(at.path + ".again").touch()
             at.end(last)
-            got = it.status(1)
-            check(f"{name}: {'it waits' if status is None else f'status {status}'}", got == status, str(got))
+            equal(f"{name}: {'it waits' if status is None else f'status {status}'}", it.status(1), status)
             if status is None:
                 check(f"{name}: until the time is over", it.status(4) in ({0} if mark else {1}), "")
     with Servers() as at, Client(at.words("--again", "60")) as it:
-        at.begin()
-        time.sleep(0.2)
-        at.end()
+        at.leave()
         time.sleep(0.3)
         at.begin(frame(b"s", b"not multiuser") + frame(b"g", b"\6"))
         at.take(WELCOME + frame(b"d", b"later"))
@@ -307,16 +304,12 @@ def attached_again():
         check("and it says why", b"unknown user or wrong token" in it.said())
     for key, words in ((b"\x03", ()), (LEAVE, ("--leave", "28"))):
         with Servers() as at, Client(at.words("--again", "60", *words)) as it:
-            at.begin()
-            time.sleep(0.2)
-            at.end()
+            at.leave()
             time.sleep(0.3)
             it.type(key)
             check(f"{key} ends the wait", it.status(1) is not None)
     with Servers() as at, Client(at.words("--again", "60")) as it:
-        at.begin()
-        time.sleep(0.3)
-        at.end()
+        at.leave(seconds=0.3)
         Path(at.path + ".session").write_text("two")
         check("another session isn't joined", it.status(2) == 1 and b"another session" in it.said())
     with Servers() as at:
@@ -328,9 +321,7 @@ def attached_again():
             check("a FIFO as the session's name stops nobody", at.has(b"K", b"typed"), str(at.frames()))
             check("and is told", f"{at.path}.session isn't a short plain file: remove it".encode() in it.said())
     with Servers() as at, Client(at.words()) as it:
-        at.begin()
-        time.sleep(0.2)
-        at.end()
+        at.leave()
         check("without --again it ends at once", it.status(1) == 1)
 
 
@@ -353,7 +344,7 @@ def stays():
             at.peer.sendall(frame(b"i", b"typed"))
             check("what is typed comes", it.shows(b"typed"))
             time.sleep(0.2)
-            check("the size is told again", read(sizes) == "24 80\n30 100\n30 100\n", read(sizes))
+            equal("the size is told again", read(sizes), "24 80\n30 100\n30 100\n")
             at.end()
             time.sleep(0.2)
             block = b"".join(b"%07d\n" % number for number in range(131072))
@@ -366,22 +357,16 @@ def stays():
             check("a window that is killed ends", it.status() == 0)
     for name, last, status in (("removed", REMOVED, 1), ("quit", QUIT, 0), ("too far behind", frame(b"g", b"\5"), 1)):
         with Servers() as at, Client(at.words("--title", "sh", "--stay", "5", way="window")) as it:
-            at.begin()
-            time.sleep(0.2)
-            at.end(last)
+            at.leave(last)
             check(f"{name}: it ends with {status}", it.status(1) == status)
     with Servers() as at, Client(at.words("--title", "sh", "--stay", "1", way="window")) as it:
-        at.begin()
-        time.sleep(0.2)
-        at.end()
+        at.leave()
         check("it ends when its time is over", it.status(0.6) is None and it.status(2) == 1)
     for name, changes, why in (("of another name", lambda it: it.write_text("two"), b"another session is at"),
                                ("that is missing", Path.unlink, b".session is missing or older"),
                                ("older than the socket", lambda it: os.utime(it, (1, 1)), b".session is missing or older")):
         with Servers() as at, Client(at.words("--title", "sh", "--stay", "30", way="window")) as it:
-            at.begin()
-            time.sleep(0.2)
-            at.end()
+            at.leave()
             at.open()
             changes(Path(at.path + ".session"))
             check(f"with a mark {name} it ends, and says why", it.status(6) == 1 and why in it.said(), it.said())
@@ -401,27 +386,23 @@ def survives():
     """A shell goes on over a server that is killed: same process, and its terminal's program draws anew."""
     with tempfile.TemporaryDirectory() as room:
         server = Server()
-        path, token = server.path, token_of(server)
-        marked = lambda: mark(path)
-        marked()
-        common = ["--socket", path, "--user", "own", "--token", token]
+        path, common = server.path, owner_of(server)
+        mark(path)
         words = [script("mux-shell"), *common, "--title", "sh", "--stay", "20", "env", "PS1=in> ", "sh"]
-        shell = subprocess.Popen(words, env={**os.environ, "MUX": WORDS.mux, "HOME": room})
+        shell = subprocess.Popen(words, env=environment(HOME=room))
         check("the shell is a window", once(lambda: b"0 sh" in server.give(b"windows"), 20))
         with Terminal(["env", "TMPDIR=" + room, script("mux-attach"), *common, "--again", "20"]) as it:
             assert it.has(b"0 sh", 20), f"it isn't attached: {it.out}"
             it.type(b"kept=$((6 * 7))\r")
             it.read(0.5)
             for count in range(3):
-                server.program.kill()
-                server.program.wait()
-                if os.path.exists(path):
-                    os.unlink(path)
+                play.end(server.program)
+                Path(path).unlink(missing_ok=True)
                 check("the client says so", it.shows(b"the server is gone"), str(it.out[-300:]))
                 words = [WORDS.muxd, "--socket", path, "--users", str(server.users)]
                 server.program = subprocess.Popen(words, stdout=subprocess.PIPE)
                 server.program.stdout.readline()
-                marked()
+                mark(path)
                 begin = len(it.out)
                 check("the page comes back", it.is_drawn())
                 check("and the window", it.has(b"0 sh", 20, begin), str(it.out[begin:]))
@@ -434,8 +415,4 @@ def survives():
         server.__exit__()
 
 
-PARTS = (said_later, slow_program, helped, scrolled, fitted, fitted_window, attached_again, stays, survives)
-
-
-if __name__ == "__main__":
-    play.main(PARTS)
+play.main((said_later, slow_program, helped, scrolled, fitted, fitted_window, attached_again, stays, survives))

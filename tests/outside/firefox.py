@@ -1,16 +1,12 @@
 """A headless Firefox, driven by its Marionette protocol with the standard library.  Nothing here judges."""
 import base64
-import contextlib
 import json
 import os
-import shutil
-import signal
 import socket
 import subprocess
 import tempfile
-import time
 
-from cdp import ALT, CTRL, SHIFT, Document
+from cdp import ALT, CTRL, SHIFT, Document, end, port_of
 
 # The characters of keys that are none, of the WebDriver standard.
 CODES = {"Enter": "\ue007", "Escape": "\ue00c", "Tab": "\ue004", "Backspace": "\ue003", "Insert": "\ue016",
@@ -50,14 +46,8 @@ class Tab(Document):
             raise
 
     def connected(self):
-        until = time.monotonic() + 60
-        while True:
-            try:
-                with open(f"{self.folder}/MarionetteActivePort", encoding="ascii") as it:
-                    return socket.create_connection(("127.0.0.1", int(it.read())), timeout=60)
-            except (OSError, ValueError):
-                assert time.monotonic() < until and self.program.poll() is None, "firefox doesn't start"
-                time.sleep(0.1)
+        port = port_of(self.program, f"{self.folder}/MarionetteActivePort")
+        return socket.create_connection(("127.0.0.1", port), timeout=60)
 
     def next(self):
         """The next message: its length, a colon and JSON."""
@@ -132,10 +122,4 @@ class Tab(Document):
     def close(self):
         if self.link:
             self.link.close()
-        for how in (signal.SIGTERM, signal.SIGKILL):
-            with contextlib.suppress(ProcessLookupError, subprocess.TimeoutExpired):
-                os.killpg(self.program.pid, how)
-                self.program.wait(10)
-        self.program.wait()
-        time.sleep(0.2)
-        shutil.rmtree(self.folder, ignore_errors=True)
+        end(self.program, self.folder)

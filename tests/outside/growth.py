@@ -1,15 +1,13 @@
-#!/usr/bin/env python3
+#!/usr/bin/env -S python3 -B
 """What a server keeps for good of each step, and what it takes under sixteen rough peers.
 
 Bytes a step are the growth of its resident memory over 5,000 steps of one kind, after a first 5,000;
 each has a bound of its own. Then sixteen peers attach and type, open windows that print, and give commands, for a
 minute (or --seconds), over eight loops: the server is to stay below 150 MB.
 """
-import sys
-import threading
+import functools
 import time
 
-sys.dont_write_bytecode = True
 import play
 from peer import DRAW, GONE, INPUT, KEYS, OUTPUT, Peer, Server, admitted, attach, command, frame, window
 from play import WORDS, check, figure
@@ -66,10 +64,10 @@ def bytes_a_step(make):
         return (server.resident() - before) / STEPS
 
 
-def rough(path, place, until, counts):
-    """One rough peer after another, until the time has come: how many came to an end of theirs, and how many failed."""
+def rough(path, place, counts, over):
+    """One rough peer after another, until it is over: how many came to an end of theirs, and how many failed."""
     firsts = (attach(), frame(KEYS, b"abc") * 3), (window(), frame(OUTPUT, b"some words of output\r\n" * 20) * 4)
-    while time.monotonic() < until:
+    while not over.wait(0):
         try:
             if place % 3 == 2:
                 list_clients(path)
@@ -97,18 +95,13 @@ def steps():
 def rough_peers():
     with Server(WORDS.muxd, 8) as server:
         counts = [[0, 0] for _ in range(PEERS)]
-        until = time.monotonic() + WORDS.seconds
-        peers = [threading.Thread(target=rough, args=(server.path, place, until, counts)) for place in range(PEERS)]
-        for peer in peers:
-            peer.start()
-        for peer in peers:
-            peer.join()
+        with play.meanwhile(*(functools.partial(rough, server.path, place, counts) for place in range(PEERS))):
+            time.sleep(WORDS.seconds)
         done, failed = map(sum, zip(*counts))
         check("each of sixteen rough peers is served 20 times", min(counts)[0] >= 20, counts)
         check("and one in ten is refused at most", failed <= done / 10, counts)
         figure(f"sixteen rough peers, {done} in {WORDS.seconds} s", server.resident() / 1e6, MOST, "MB")
 
 
-if __name__ == "__main__":
-    play.main((steps, rough_peers), ["muxd"],
-              {"--seconds": {"type": int, "default": 60, "help": "how long the rough peers are at it"}})
+play.main((steps, rough_peers), ["muxd"],
+          {"--seconds": {"type": int, "default": 60, "help": "how long the rough peers are at it"}})

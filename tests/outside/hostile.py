@@ -1,33 +1,34 @@
-#!/usr/bin/env python3
+#!/usr/bin/env -S python3 -B
 """One user without any right tries to end a session, to fill its memory and its disk, to take all seats, and to have
 done later what is denied now; and a guest who may only read tries the same."""
 import contextlib
 import os
 import select
 import socket
-import sys
 import tempfile
 import threading
 import time
 from pathlib import Path
 
-sys.dont_write_bytecode = True
 import play
 from peer import (DETACH, DONE, DRAW, KEYS, NO_WINDOW, OUTPUT, RESIZE, SAY, attach, command, cut, frame, pieces, two,
                   window)
-from play import WORDS, Server, all_of, check, drain, once, welcome
+from play import Server, WORDS, all_of, check, contains, drain, equal, once, welcome
 
 GUEST, STRANGER = (b"eve", b"1" * 64), (b"zoe", b"2" * 64)
 MB = 1_000_000
 
 
-def admit(server):
-    """A guest who is known and has no right at all, and one who has a token and isn't known."""
-    with open(server.users, "ab") as users:
-        for name, token in (GUEST, STRANGER):
-            users.write(name + b" " + token + b"\n")
-    for line in (b"multiuser on", b"aclumask ?-rwx ??-x", b"aclchg eve -rwx #?", b"aclumask eve-rwx"):
-        assert server.give(line).endswith(DONE), line
+@contextlib.contextmanager
+def hosted(**more):
+    """A server with a guest who is known and has no right at all, and one who has a token and isn't known."""
+    with Server(**more) as server:
+        with open(server.users, "ab") as users:
+            for name, token in (GUEST, STRANGER):
+                users.write(name + b" " + token + b"\n")
+        for line in (b"multiuser on", b"aclumask ?-rwx ??-x", b"aclchg eve -rwx #?", b"aclumask eve-rwx"):
+            assert server.give(line).endswith(DONE), line
+        yield server
 
 
 class Attack(threading.Thread):
@@ -125,11 +126,9 @@ def under_attack(name, make, trail):
     with tempfile.TemporaryDirectory() as folder:
         path = f"{folder}/trail"
         what = f"{name}, {'with' if trail else 'without'} --trail"
-        with Server(loops=8, words=("--trail", path) if trail else ()) as server:
-            admit(server)
+        with hosted(loops=8, words=("--trail", path) if trail else ()) as server:
             # (a client that comes before the window shows none)
-            shell = server.admit(window())
-            client = server.admit(attach())
+            shell, client = server.shared()
             length = lambda: os.stat(path).st_size if trail else 0
             size, begin = length(), time.monotonic()
             running = make(server.path)
@@ -170,16 +169,14 @@ def attacked():
 
 def seats():
     """A user has no more clients and windows than the options allow; another user has as many."""
-    with Server(words=("--user-clients", "3", "--user-windows", "2")) as server:
-        admit(server)
+    with hosted(words=("--user-clients", "3", "--user-windows", "2")) as server:
         held = [server.connect(attach(*GUEST)) for _ in range(3)]
         check("a user's three clients are let in", all(welcome(it) for it in held))
-        told = all_of(server.connect(attach(*GUEST)))
-        check("a fourth one is told so", b"s\0\x22too many clients of eve: at most 3g\0\1\6" == told, str(told))
+        equal("a fourth one is told so", all_of(server.connect(attach(*GUEST))),
+              b"s\0\x22too many clients of eve: at most 3g\0\1\6")
         mine = [server.connect(attach()) for _ in range(3)]
         check("the owner has three, too", all(welcome(it) for it in mine))
-        told = all_of(server.connect(attach()))
-        check("and no fourth", b"too many clients of own: at most 3" in told, str(told))
+        contains("and no fourth", all_of(server.connect(attach())), b"too many clients of own: at most 3")
         held[0].close()
         time.sleep(0.3)
         check("one that went makes room", welcome(server.connect(attach(*GUEST))))
@@ -189,22 +186,20 @@ def seats():
         check("and makes room", welcome(held[1]))
         shells = [server.connect(window()) for _ in range(2)]
         check("two windows are let in", all(welcome(it) for it in shells))
-        told = all_of(server.connect(window()))
-        check("a third one is told so", b"s\0\x22too many windows of own: at most 2g\0\1\6" == told, str(told))
+        equal("a third one is told so", all_of(server.connect(window())),
+              b"s\0\x22too many windows of own: at most 2g\0\1\6")
         check("a window is killed", server.give(b"kill", number=0).endswith(DONE))
         time.sleep(0.3)
         check("and makes room", welcome(server.connect(window())))
         # A refused window counts for nobody.
         for _ in range(5):
             all_of(server.connect(window(*GUEST)))
-        told = all_of(server.connect(window(*GUEST)))
-        check("windows that the session refuses don't count", b"denied: x on screen" in told, str(told))
-    with Server() as server:
-        admit(server)
+        contains("windows that the session refuses don't count", all_of(server.connect(window(*GUEST))),
+                 b"denied: x on screen")
+    with hosted() as server:
         held = [server.connect(attach(*GUEST)) for _ in range(64)]
         check("without these words one user may have all 64", all(welcome(it) for it in held))
-        told = all_of(server.connect(attach()))
-        check("and the owner is told by the session", b"too many clients" in told, str(told))
+        contains("and the owner is told by the session", all_of(server.connect(attach())), b"too many clients")
         check("whose command needs none", server.give(b"acldel eve").endswith(DONE))
         time.sleep(0.5)
         check("and makes room", welcome(server.connect(attach())))
@@ -212,8 +207,7 @@ def seats():
 
 def works_on():
     """Whoever is granted what they do isn't slowed down, and gets back what the prompt took."""
-    with Server() as server:
-        admit(server)
+    with hosted() as server:
         shell = server.admit(window())
         assert server.give(b"aclchg eve +rw 0").endswith(DONE)
         client = server.admit(attach(*GUEST))
@@ -277,26 +271,19 @@ def spent(server):
 def denied_later():
     """Keys that were typed more than a second before a right is granted never reach the window, however they come."""
     words = [b"<%d>" % number for number in range(100, 280)]
-    for name in ("a command", "a flood of short frames", "a flood of long frames", "commands that are granted"):
-        with Server() as server:
-            admit(server)
+    for name, data in (("a command", b""), ("a flood of short frames", frame(KEYS, b"x") * 100_000),
+                       ("a flood of long frames", pieces(KEYS, b"x" * 3_000_000)),
+                       ("commands that are granted", frame(KEYS, b"\x01n") * 20_000)):
+        with hosted() as server:
             if name == "commands that are granted":
                 assert server.give(b"aclchg eve +x next").endswith(DONE)
             shell, client, _ = spent(server)
             client.settimeout(30)
-            if name == "commands that are granted":
-                data = frame(KEYS, b"\x01n") * 20_000
-            else:
-                data = {"a command": b"", "a flood of short frames": frame(KEYS, b"x") * 100_000,
-                        "a flood of long frames": pieces(KEYS, b"x" * 3_000_000)}[name]
-            begin = time.monotonic()
-            try:
+            is_read = False
+            with contextlib.suppress(TimeoutError):
                 client.sendall(data + frame(KEYS, b"evil\r"))
-                took = time.monotonic() - begin
-            except TimeoutError:
-                took = None
-            check(f"{name}: a client that has no unit left is read on", took is not None, f"{len(data)} bytes")
-            if took is None:
+                is_read = True
+            if not check(f"{name}: a client that has no unit left is read on", is_read, f"{len(data)} bytes"):
                 continue
             time.sleep(1.2)
             assert server.give(b"aclchg eve +w 0").endswith(DONE)
@@ -306,8 +293,7 @@ def denied_later():
             client.sendall(frame(KEYS, b"good"))
             time.sleep(1.3)
             check(f"{name}: what is typed after it is", shell.typed() == b"good", str(shell.typed()[:40]))
-    with Server() as server:
-        admit(server)
+    with hosted() as server:
         shell, client, heard = spent(server)
         times, granted = [], None
         for number, word in enumerate(words):
@@ -327,8 +313,7 @@ def denied_later():
         check("in order", typed == b"".join(word for word in words if word in typed), str(typed[:60]))
         said = len(heard.said(b"denied: w on window 0"))
         check("the guest read why, for each step", 990 < said < 1_020, str(said))
-    with Server() as server:
-        admit(server)
+    with hosted() as server:
         assert server.give(b"aclchg eve +x detach").endswith(DONE)
         shell, client, heard = spent(server)
         begin = time.monotonic()
@@ -340,8 +325,7 @@ def denied_later():
         check("a guest whose keys are dropped is told so, at most once a second", 2 <= said <= took + 1, str(said))
         begin = time.monotonic()
         client.sendall(frame(KEYS, b"xx\x01d"))
-        while b"g" not in [kind for _, kind, _ in heard.frames] and time.monotonic() - begin < 20:
-            time.sleep(0.01)
+        once(heard.gone, 20, 0.01)
         took = time.monotonic() - begin
         check("a command by keys waits for a second at most", took < 1.5, f"{took:.2f} s")
 
@@ -385,8 +369,7 @@ def pasted():
 def left_behind(name, take, marks, leaves=False):
     """What two users typed ahead into a window that doesn't read, of which the guest loses the right, perhaps after they
     left: what is typed once it reads."""
-    with Server() as server:
-        admit(server)
+    with hosted() as server:
         shell = server.connect(window())
         assert welcome(shell) and server.give(b"aclchg eve +rw 0").endswith(DONE)
         client, mine = server.connect(attach(*GUEST)), server.connect(attach())
@@ -421,8 +404,7 @@ def taken_back():
     left_behind("acldel", b"acldel eve", False)
     left_behind("-w after they left", b"aclchg eve -w 0", False, leaves=True)
     with Server() as server:
-        shell = server.admit(window())
-        client = server.admit(attach())
+        shell, client = server.shared()
         client.sendall(pieces(KEYS, b"x" * 240_000) + frame(KEYS, b"last\r"))
         time.sleep(1)
         client.sendall(frame(DETACH))
@@ -435,8 +417,7 @@ def taken_back():
 
 def sizes():
     """Sizes of one user slow nobody down; the last one counts, and at most ten a second are done."""
-    with Server() as server:
-        admit(server)
+    with hosted() as server:
         shell = server.admit(window(rows=200, cols=300))
         page = b"".join(b"\x1b[%d;1H" % row + b"\x1b[31mab\x1b[32mcd" * 75 for row in range(1, 201))
         shell.sendall(pieces(OUTPUT, page))
@@ -451,8 +432,7 @@ def sizes():
         attack.stop()
         check("while 8 clients tell sizes on and on the owner's keys take their time as ever",
               median < max(2, 5 * idle), f"{idle:.2f} ms before; {median:.2f} and at most {longest:.1f} ms")
-    with Server() as server:
-        admit(server)
+    with hosted() as server:
         client = server.admit(attach())
         heard = Listener(client)
         time.sleep(0.5)
@@ -475,8 +455,7 @@ def reads_only():
     for name, data in (("a command that is granted", scroll * 100), ("the prompt, and then such a command", prompt)):
         with tempfile.TemporaryDirectory() as folder:
             path = f"{folder}/trail"
-            with Server(words=("--trail", path)) as server:
-                admit(server)
+            with hosted(words=("--trail", path)) as server:
                 with server.admit(window()):
                     for line in (b"aclchg eve +x detach,scrollview", b"aclchg eve +r 0"):
                         assert server.give(line).endswith(DONE), line
@@ -489,7 +468,5 @@ def reads_only():
             check(f"{name}: at most 2,000 entries at once, then six a second", entries < most, f"{entries}")
 
 
-PARTS = (seats, works_on, denied_later, pasted, taken_back, sizes, reads_only, attacked)
-
-if __name__ == "__main__":
-    play.main(PARTS, ["muxd"], {"--seconds": {"type": int, "default": 20, "help": "how long each attack lasts"}})
+play.main((seats, works_on, denied_later, pasted, taken_back, sizes, reads_only, attacked),
+          ["muxd"], {"--seconds": {"type": int, "default": 20, "help": "how long each attack lasts"}})

@@ -8,6 +8,7 @@ import collections
 import contextlib
 import fcntl
 import functools
+import inspect
 import os
 import pty
 import pwd
@@ -21,6 +22,7 @@ import subprocess
 import sys
 import tempfile
 import termios
+import threading
 import time
 from pathlib import Path
 
@@ -66,6 +68,26 @@ def answers(what, done, status=0, text=""):
     return check(what, (done.returncode, said(done)) == (status, text), f"status {done.returncode}: {said(done)}")
 
 
+def equal(what, found, wanted):
+    """Checks that something is what is wanted."""
+    return check(what, found == wanted, f"{found!r}, and not {wanted!r}")
+
+
+def contains(what, found, *wanted):
+    """Checks that something has each of these."""
+    return check(what, all(it in found for it in wanted), found)
+
+
+def lacks(what, found, *unwanted):
+    """Checks that something has none of these."""
+    return check(what, not any(it in found for it in unwanted), found)
+
+
+def empty(what, found):
+    """Checks that there is none of something."""
+    return check(what, not found, found)
+
+
 def figure(what, value, most, unit):
     """A figure and its bound, which is judged if the programs are optimised."""
     if WORDS.unproved:
@@ -90,8 +112,8 @@ def only(is_there, why):
     """Makes a part that is left out unless something is there."""
     def of(part):
         @functools.wraps(part)
-        def played():
-            part() if is_there() else left_out(part.__name__, why)
+        def played(*given):
+            part(*given) if is_there() else left_out(part.__name__, why)
         return played
     return of
 
@@ -135,20 +157,24 @@ def read_words(names, options, verbose):
             setattr(WORDS, name.replace("-", "_"), program(name))
 
 
-def play_part(name, part, *given):
-    """Plays a part to its end, and looks whether it checked something."""
+def play_part(name, part, made):
+    """Plays a part to its end, with what is made for it if it takes that, and looks whether it checked something."""
     before = COUNTS.total()
     try:
-        part(*given)
+        if inspect.signature(part).parameters:
+            with made() as it:
+                part(it)
+        else:
+            part()
     except Exception as error:
         check(f"{name} is played to its end", False, f"{type(error).__name__}: {error}")
     if COUNTS.total() == before:
         check(f"{name} checks something", False)
 
 
-def main(parts, needs=("muxd", "mux"), options=None, verbose=True, around=None):
-    """Plays parts (functions, or functions by their names) that need these programs.  `around` makes a context; what
-    that gives, if anything, each part is given."""
+def main(parts, needs=("muxd", "mux"), options=None, verbose=True, around=None, each=None):
+    """Plays parts (functions, or functions by their names) that need these programs.  `around` makes a context for all
+    of them, and `each` one for each; a part that takes an argument is given what that gives."""
     parts = parts if isinstance(parts, dict) else {it.__name__: it for it in parts}
     WORDS.verbose = verbose
     read_words(parts, options or {}, verbose)
@@ -159,7 +185,7 @@ def main(parts, needs=("muxd", "mux"), options=None, verbose=True, around=None):
     if not lacking:
         with around() if around else contextlib.nullcontext() as it:
             for name in WORDS.parts or parts:
-                play_part(name, parts[name], *[it] * (it is not None))
+                play_part(name, parts[name], each or (lambda: contextlib.nullcontext(it)))
     if not COUNTS["checks"] + COUNTS["figures"]:
         check("something is played", False)
     counts = {**COUNTS, "failed": COUNTS["failed"]}
@@ -174,6 +200,12 @@ def main(parts, needs=("muxd", "mux"), options=None, verbose=True, around=None):
 def script(name):
     """The path of a script of contrib/."""
     return str(CONTRIB / name)
+
+
+def environment(**more):
+    """What scripts find in their environment: the programs that are played, and nothing of a session that runs here."""
+    known = {name: value for name, value in os.environ.items() if not name.startswith("MUX")}
+    return {**known, "MUXD": WORDS.muxd, "MUX": WORDS.mux, "MUX_TRAIL": WORDS.mux_trail, **more}
 
 
 def run(*words, **more):
@@ -240,6 +272,39 @@ def kill(numbers, sign=signal.SIGKILL):
             os.kill(number, sign)
 
 
+def end(*programs):
+    """Ends programs by force, which may have ended by now."""
+    for it in programs:
+        if it.poll() is None:
+            it.kill()
+        it.wait()
+
+
+@contextlib.contextmanager
+def running(words, **how):
+    """A program that runs no longer than what is below it."""
+    with subprocess.Popen(words, **how) as it:
+        try:
+            yield it
+        finally:
+            it.kill()
+
+
+@contextlib.contextmanager
+def meanwhile(*acts):
+    """Does something in threads until what is below it is over: each act is given the event that says so."""
+    over = threading.Event()
+    threads = [threading.Thread(target=act, args=(over,)) for act in acts]
+    for it in threads:
+        it.start()
+    try:
+        yield over
+    finally:
+        over.set()
+        for it in threads:
+            it.join()
+
+
 def plain(data):
     """Draws with their blanks: one that is there already is skipped."""
     return re.sub(rb"\x1b\[1?C", b" ", data)
@@ -258,9 +323,7 @@ class Terminal(contextlib.AbstractContextManager):
         os.close(slave)
 
     def __exit__(self, *_):
-        if self.program.poll() is None:
-            self.program.kill()
-            self.program.wait()
+        end(self.program)
         os.close(self.fd)
 
     def type(self, data):
@@ -347,11 +410,14 @@ class Pane:
         """Whether a line has the pattern within some time."""
         return once(lambda: re.search(pattern, self.page(), re.MULTILINE), seconds)
 
+    def told(self, what, text, seconds=30):
+        """Checks that it shows a text within some time."""
+        check(what, self.shows(text, seconds), self.page())
+
     def does(self, line, what, text, by=None, seconds=30):
         """Types a line, and checks that this terminal, or another one, shows a text."""
         self.type(line)
-        by = by or self
-        check(what, by.shows(text, seconds), by.page())
+        (by or self).told(what, text, seconds)
 
     def prompt(self, *lines):
         """Gives commands at the prompt."""
@@ -388,26 +454,35 @@ def end_account(name):
 # Servers.
 
 
-class Room(contextlib.AbstractContextManager):
+class OwnFolder(contextlib.AbstractContextManager):
+    """A folder of a play's own, and the programs that run no longer than it is there."""
+
+    def __init__(self, prefix="mux-play."):
+        self.folder, self.begun = tempfile.mkdtemp(prefix=prefix), []
+
+    def at(self, name):
+        """A path in it."""
+        return os.path.join(self.folder, name)
+
+    def __exit__(self, *_):
+        end(*self.begun)
+        shutil.rmtree(self.folder, ignore_errors=True)
+
+
+class Room(OwnFolder):
     """A folder with users and their tokens, in which servers, windows and scripts run.  The owner is own, the first."""
 
     def __init__(self, *users, setup=""):
-        self.folder, self.setup = tempfile.mkdtemp(prefix="mux-play."), setup
+        super().__init__()
+        self.setup = setup
         self.servers, self.windows, self.trails, self.server = [], [], 0, None
         for at, name in enumerate(users):
-            write(self.path(name + ".token"), self.digits(at) + "\n", 0o600)
+            write(self.at(name + ".token"), self.digits(at) + "\n", 0o600)
         self.users(*users)
 
     def __exit__(self, *_):
-        for process in self.windows + self.servers:
-            if process.poll() is None:
-                process.kill()
-            process.wait()
-        shutil.rmtree(self.folder, ignore_errors=True)
-
-    def path(self, name):
-        """A file of the room."""
-        return os.path.join(self.folder, name)
+        end(*self.windows, *self.servers)
+        super().__exit__()
 
     @staticmethod
     def digits(at):
@@ -416,38 +491,37 @@ class Room(contextlib.AbstractContextManager):
 
     def users(self, *names):
         """Writes the users' file."""
-        write(self.path("users"), "".join(f"{name} {self.digits(at)}\n" for at, name in enumerate(names)), 0o600)
+        write(self.at("users"), "".join(f"{name} {self.digits(at)}\n" for at, name in enumerate(names)), 0o600)
 
     def as_user(self, user="own"):
         """The options of a user."""
-        return ["--socket", self.path("socket"), "--user", user, "--token", self.path(user + ".token")]
+        return ["--socket", self.at("socket"), "--user", user, "--token", self.at(user + ".token")]
 
     def env(self, user="own", **more):
         """What scripts find in their environment."""
-        return dict(os.environ, MUX=program("mux"), MUXD=program("muxd"), MUX_SOCKET=self.path("socket"), MUX_USER=user,
-                    MUX_TOKEN=self.path(user + ".token"), TMPDIR=self.folder, **more)
+        return dict(os.environ, MUX=program("mux"), MUXD=program("muxd"), MUX_SOCKET=self.at("socket"), MUX_USER=user,
+                    MUX_TOKEN=self.at(user + ".token"), TMPDIR=self.folder, **more)
 
     def trail(self):
         """The file of the server's trail."""
-        return self.path(f"trail.{self.trails}")
+        return self.at(f"trail.{self.trails}")
 
     def serve(self, *words):
         """Starts a server."""
         self.trails += 1
         if self.setup:
-            write(self.path("setup"), self.setup)
-            words = ("--setup", self.path("setup"), *words)
-        with open(self.path("log"), "a") as log:
+            write(self.at("setup"), self.setup)
+            words = ("--setup", self.at("setup"), *words)
+        with open(self.at("log"), "a") as log:
             self.server = subprocess.Popen(
-                [program("muxd"), "--socket", self.path("socket"), "--users", self.path("users"), "--trail",
+                [program("muxd"), "--socket", self.at("socket"), "--users", self.at("users"), "--trail",
                  self.trail(), *map(str, words)], stdout=subprocess.PIPE, stderr=log)
         self.servers.append(self.server)
-        assert self.server.stdout.readline() == b"muxd: ready\n", f"no server: {read(self.path('log'))}"
+        assert self.server.stdout.readline() == b"muxd: ready\n", f"no server: {read(self.at('log'))}"
 
     def kill(self):
         """Ends the server by force, and its windows with it."""
-        self.server.kill()
-        self.server.wait()
+        end(self.server)
         for window in self.windows:
             window.wait()
 
@@ -462,7 +536,7 @@ class Room(contextlib.AbstractContextManager):
     def window(self, user, title, text=b""):
         """A window whose program prints a text; what is typed there goes to the file typed.TITLE."""
         before = len(self.titles())
-        with open(self.path("typed." + title), "ab") as typed:
+        with open(self.at("typed." + title), "ab") as typed:
             window = subprocess.Popen([program("mux"), "window", *self.as_user(user), "--rows", "10", "--cols", "40",
                                        "--title", title], stdin=subprocess.PIPE, stdout=typed,
                                       stderr=subprocess.DEVNULL)
@@ -474,7 +548,7 @@ class Room(contextlib.AbstractContextManager):
 
     def attach(self, user):
         """A client, which draws into the file page."""
-        with open(self.path("page"), "wb") as page:
+        with open(self.at("page"), "wb") as page:
             return subprocess.Popen([program("mux"), "attach", *self.as_user(user), "--rows", "12", "--cols", "60"],
                                     stdin=subprocess.PIPE, stdout=page)
 
@@ -509,6 +583,10 @@ class Server(peer.Server):
         it = self.connect(first)
         assert welcome(it), "the server refused a peer"
         return it
+
+    def shared(self):
+        """A window, and then a client of the owner."""
+        return self.admit(peer.window()), self.admit(peer.attach())
 
     def give(self, line, wait=20, number=peer.NO_WINDOW):
         """What a command is answered, to the end of its connection."""

@@ -7,7 +7,7 @@ import threading
 import time
 
 import peer
-from play import WORDS, once, processes, read, run, script
+from play import WORDS, check, end, environment, once, processes, read, run, script
 
 USERS = ["own", "ann", "bob", "eve", "kim", "gus"]
 # Names and commands of random lines.
@@ -15,12 +15,6 @@ NAMES = ["ann", "bob", "eve", "kim", "lee", "max", "ned", "oda", "pia", "quo", "
 COMMANDS = ("acladd aclchg acldel aclgrp aclumask writelock defwritelock multiuser wall detach select next prev "
             "other title number kill screen split focus remove only fit scrollview clear reset encoding stuff windows "
             "displays quit").split()
-
-
-def programs():
-    """The environment in which scripts call the programs that are played."""
-    known = {name: value for name, value in os.environ.items() if not name.startswith("MUX")}
-    return {**known, "MUXD": WORDS.muxd, "MUX": WORDS.mux, "MUX_TRAIL": WORDS.mux_trail}
 
 
 class Trail:
@@ -119,8 +113,8 @@ class Session:
     def begin(self):
         words = ["--socket", self.socket, "--users", f"{self.at}/users", "--trails", f"{self.at}/trails", "--again",
                  self.again, "--setup", f"{self.at}/first"]
-        return subprocess.Popen([script("muxd-run"), *words], env=programs(), stdout=subprocess.PIPE, stderr=self.log,
-                                stdin=subprocess.DEVNULL)
+        return subprocess.Popen([script("muxd-run"), *words], env=environment(), stdin=subprocess.DEVNULL,
+                                stdout=subprocess.PIPE, stderr=self.log)
 
     def start(self):
         self.server = self.begin()
@@ -132,14 +126,13 @@ class Session:
         return read(f"{self.at}/log")
 
     def kill(self):
-        self.server.kill()
-        self.server.wait()
+        end(self.server)
         self.server.stdout.close()
 
     def stop(self, *words):
         """Ends it by muxd-stop."""
         done = subprocess.Popen([script("muxd-stop"), "--socket", self.socket, "--users", f"{self.at}/users", *words,
-                                 str(self.server.pid)], env=programs())
+                                 str(self.server.pid)], env=environment())
         self.server.wait(60)
         done.wait(60)
         self.server.stdout.close()
@@ -152,6 +145,11 @@ class Session:
             said += [got[1].decode()] * (got[0] == peer.SAY)
         asked.close()
         return " ".join(said)
+
+    def own(self, *lines):
+        """Gives commands of the owner."""
+        for it in lines:
+            self.give("own", it)
 
     def open(self, user, title, **of):
         self.windows.append(Window(self, user, title, **of))
@@ -178,10 +176,15 @@ class Session:
         time.sleep(0.3)
         return done
 
-    def restart(self):
-        old = self.trail()
+    def anew(self):
+        """Ends the server by force, and begins it again."""
         self.kill()
         self.start()
+
+    def restart(self):
+        """The same, until all came back: the old trail."""
+        old = self.trail()
+        self.anew()
         self.is_back()
         return old
 
@@ -236,6 +239,12 @@ def leaks(old, new):
 
 def differing(one, two):
     return [pair for pair in zip(one, two) if pair[0] != pair[1]]
+
+
+def came_back(what, session, before):
+    """Checks that all comes back, and is as it was."""
+    is_back, after = session.is_back(), differing(before, session.state())
+    check(what, is_back and not after, after)
 
 
 def bits(r):

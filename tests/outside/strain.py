@@ -1,4 +1,4 @@
-#!/usr/bin/env python3
+#!/usr/bin/env -S python3 -B
 """A server under strain: peers that stop reading, strangers that say nothing, servers that start at once, its end."""
 import contextlib
 import os
@@ -7,25 +7,21 @@ import shutil
 import socket
 import stat
 import subprocess
-import sys
 import tempfile
-import threading
 import time
 from pathlib import Path
 
-sys.dont_write_bytecode = True
 import play
 from peer import (DONE, DRAW, KEYS, OUTPUT, OWNER, REFUSED, SAY, TOKEN, WELCOME, Flood, attach, draws_within, frame,
                   pieces, window)
-from play import WORDS, Server, all_of, check, drain, has_come, left_out, welcome
+from play import Server, WORDS, all_of, check, drain, empty, equal, has_come, left_out, once, welcome
 
 
 def dead_window():
     """A window whose program asks for reports and reads none is given up, and its client shows that without another
     event."""
     with Server(loops=1) as server:
-        shell = server.admit(window())
-        client = server.admit(attach())
+        shell, client = server.shared()
         drain(client, 1)
         ended = select.poll()
         ended.register(shell, select.POLLHUP)
@@ -42,57 +38,52 @@ def dead_window():
         check("its client is drawn at once", DRAW in drawn)
 
 
-def ends_behind_frames():
+def ends_behind_frames(server):
     """What was sent before an end is done."""
-    with Server() as server:
-        shell = server.admit(window())
-        for letter in (b"a", b"b", b"c", b"d"):
-            client = server.admit(attach())
-            # What is sent to a closed connection is a fault of it: the first draw is to be over.
-            drain(client, 0.5)
-            client.sendall(frame(KEYS, letter))
-            client.close()
-        typed = drain(shell, 1)
-        check("keys before an end arrive", sorted(typed[3::4]) == sorted(b"abcd"), str(typed))
-        check("and their clients are gone", server.give(b"displays") == frame(WELCOME, b"\0") + frame(SAY) + DONE, "")
-
-
-def strangers():
-    with Server() as server:
-        first = [server.connect() for _ in range(44)]
-        others = [server.connect() for _ in range(256)]
-        begin = time.time()
-        has_come(first[-1], 5)
-        time.sleep(0.2)
-        gone = sum(has_come(it, 0) and all_of(it) == REFUSED for it in first)
-        left = sum(not has_come(it, 0) for it in others)
-        check("of 300 strangers the first 44 go", (gone, left) == (44, 256), f"{gone} went, {left} stay")
-        check("the owner is answered", server.give(b"windows").endswith(DONE))
-        check("the others are told to go", all(all_of(it) == REFUSED for it in others))
-        took = time.time() - begin
-        check("when 10 seconds are over", 8 < took < 13, f"{took:.1f} s")
-
-
-def told_to_go():
-    """A window that was told to go, and doesn't read what waits for it, is closed when 10 seconds are over."""
-    with Server() as server:
-        deaf = server.admit(window())
+    shell = server.admit(window())
+    for letter in (b"a", b"b", b"c", b"d"):
         client = server.admit(attach())
-        # (of more than 256 KiB the client has to wait)
-        for _ in range(30):
-            client.sendall(frame(KEYS, b"x" * 8192))
-        time.sleep(1)
-        check("a window is killed", server.give(b"kill", number=0).endswith(DONE))
-        begin = time.time()
-        ended = select.poll()
-        ended.register(deaf, select.POLLHUP)
-        has_ended = ended.poll(20_000)
-        took = time.time() - begin
-        check("and closed when 10 seconds are over, though it doesn't read", has_ended and 8 < took < 13,
-              f"{took:.1f} s")
-        typed = all_of(deaf)
-        check("what it didn't take is dropped", 0 < typed.count(b"x") < 30 * 8192 and not typed.endswith(b"g\0\1\3"),
-              f"{len(typed)} bytes")
+        # What is sent to a closed connection is a fault of it: the first draw is to be over.
+        drain(client, 0.5)
+        client.sendall(frame(KEYS, letter))
+        client.close()
+    typed = drain(shell, 1)
+    check("keys before an end arrive", sorted(typed[3::4]) == sorted(b"abcd"), str(typed))
+    check("and their clients are gone", server.give(b"displays") == frame(WELCOME, b"\0") + frame(SAY) + DONE, "")
+
+
+def strangers(server):
+    first = [server.connect() for _ in range(44)]
+    others = [server.connect() for _ in range(256)]
+    begin = time.time()
+    has_come(first[-1], 5)
+    time.sleep(0.2)
+    gone = sum(has_come(it, 0) and all_of(it) == REFUSED for it in first)
+    left = sum(not has_come(it, 0) for it in others)
+    check("of 300 strangers the first 44 go", (gone, left) == (44, 256), f"{gone} went, {left} stay")
+    check("the owner is answered", server.give(b"windows").endswith(DONE))
+    check("the others are told to go", all(all_of(it) == REFUSED for it in others))
+    took = time.time() - begin
+    check("when 10 seconds are over", 8 < took < 13, f"{took:.1f} s")
+
+
+def told_to_go(server):
+    """A window that was told to go, and doesn't read what waits for it, is closed when 10 seconds are over."""
+    deaf, client = server.shared()
+    # (of more than 256 KiB the client has to wait)
+    for _ in range(30):
+        client.sendall(frame(KEYS, b"x" * 8192))
+    time.sleep(1)
+    check("a window is killed", server.give(b"kill", number=0).endswith(DONE))
+    begin = time.time()
+    ended = select.poll()
+    ended.register(deaf, select.POLLHUP)
+    has_ended = ended.poll(20_000)
+    took = time.time() - begin
+    check("and closed when 10 seconds are over, though it doesn't read", has_ended and 8 < took < 13, f"{took:.1f} s")
+    typed = all_of(deaf)
+    check("what it didn't take is dropped", 0 < typed.count(b"x") < 30 * 8192 and not typed.endswith(b"g\0\1\3"),
+          f"{len(typed)} bytes")
 
 
 def few_descriptors():
@@ -123,30 +114,25 @@ def few_descriptors():
         check("quit too", server.give(b"quit").endswith(DONE) and server.ends_within(5) == 0)
 
 
-def winding_up():
-    with Server() as server:
-        # The window is one that reads nothing.
-        client, _ = server.admit(attach()), server.admit(window())
-        for _ in range(60):
-            client.sendall(frame(KEYS, b"x" * 8192))
-        stop = threading.Event()
+def winding_up(server):
+    # The window is one that reads nothing.
+    client, _ = server.admit(attach()), server.admit(window())
+    for _ in range(60):
+        client.sendall(frame(KEYS, b"x" * 8192))
 
-        def knock():
-            while not stop.wait(0.019):
-                with contextlib.suppress(OSError):
-                    server.connect().close()
+    def knock(over):
+        while not over.wait(0.019):
+            with contextlib.suppress(OSError):
+                server.connect().close()
 
-        knocker = threading.Thread(target=knock)
-        knocker.start()
+    with play.meanwhile(knock):
         time.sleep(0.2)
         begin = time.time()
         server.give(b"quit")
         status = server.ends_within(30)
         took = time.time() - begin
-        stop.set()
-        knocker.join()
-        check("winding up ends, though somebody connects and one doesn't read", status == 0 and took < 2.6,
-              f"{took:.1f} s, status {status}")
+    check("winding up ends, though somebody connects and one doesn't read", status == 0 and took < 2.6,
+          f"{took:.1f} s, status {status}")
 
 
 def at_once():
@@ -173,7 +159,7 @@ def at_once():
             for it in ready:
                 it.kill()
                 it.communicate()
-        check(f"of three servers at once over a stale socket one serves, {WORDS.tries} times", not wrong, str(wrong))
+        empty(f"of three servers at once over a stale socket one serves, {WORDS.tries} times", wrong)
         check("and the two others say why", told == 2 * WORDS.tries, f"{told}")
         os.remove(path)
         hung = socket.socket(socket.AF_UNIX)
@@ -186,31 +172,27 @@ def at_once():
             with contextlib.suppress(BlockingIOError):
                 it.connect(path)
             waiting.append(it)
-        try:
-            late = subprocess.run(words, capture_output=True, timeout=5)
-            check("one that hangs with a full backlog is there",
-                  late.returncode == 1 and b"a server listens there" in late.stderr, str(late.stderr))
-        except subprocess.TimeoutExpired:
-            check("one that hangs with a full backlog is there", False, "the probe hangs")
+        late = "the probe hangs"
+        with contextlib.suppress(subprocess.TimeoutExpired):
+            done = play.run(*words, timeout=5)
+            late = f"status {done.returncode}: {done.stderr}"
+        check("one that hangs with a full backlog is there",
+              late.startswith("status 1: ") and "a server listens there" in late, late)
 
 
 def one_who_floods():
     """One user's entries have a rate in the long run, and nobody is cut off. Keys alone are joined, and all arrive."""
     with Server() as server:
-        shell = server.admit(window())
-        client = server.admit(attach())
-        sender = threading.Thread(target=lambda: client.sendall(frame(KEYS, b"x") * 50_000))
-        sender.start()
+        shell, client = server.shared()
         typed, begin = 0, time.time()
-        while typed < 50_000 and has_come(shell, 5):
-            typed += shell.recv(1 << 20).count(b"x")
-            if has_come(client, 0):
-                client.recv(1 << 20)
-        sender.join()
+        with play.meanwhile(lambda _: client.sendall(frame(KEYS, b"x") * 50_000)):
+            while typed < 50_000 and has_come(shell, 5):
+                typed += shell.recv(1 << 20).count(b"x")
+                if has_come(client, 0):
+                    client.recv(1 << 20)
         check("50,000 keys, each in a frame, arrive", typed == 50_000, f"{typed} in {time.time() - begin:.1f} s")
     with Server() as server:
-        shell = server.admit(window())
-        client = server.admit(attach())
+        shell, client = server.shared()
         client.setblocking(False)
         shell.setblocking(False)
         # More than may be done.
@@ -263,8 +245,7 @@ def calls_a_key(server, client, shell, count=100):
 def stopped_clients():
     """Clients that don't read cost no system call for a key of another one."""
     with Server(loops=1) as server:
-        shell = server.admit(window())
-        client = server.admit(attach())
+        shell, client = server.shared()
         few = calls_a_key(server, client, shell)
         deaf = [server.admit(attach()) for _ in range(60)]
         # Each is sent draws until its socket is full.
@@ -292,8 +273,7 @@ def idle_loops():
     took = {}
     for loops in (2, 8):
         with Server(loops=loops) as server:
-            shell = server.admit(window())
-            client = server.admit(attach())
+            shell, client = server.shared()
             took[loops] = calls_a_key(server, client, shell)
             others = [server.admit(attach()) for _ in range(loops - 2)]
             for it in (client, *others):
@@ -311,13 +291,11 @@ def unread_log():
     """Nobody waits for a log that isn't read, and the lines that are left out are counted."""
     with Server(log=True) as server:
         answered = sum(server.give(b"windows").endswith(DONE) for _ in range(6000))
-        check("beside a log that nobody reads 6,000 commands are done", answered == 6000, str(answered))
+        equal("beside a log that nobody reads 6,000 commands are done", answered, 6000)
         said = []
-        reader = threading.Thread(target=lambda: said.extend(server.errors))
-        reader.start()
-        server.give(b"quit")
-        check("once it is read the server ends", server.ends_within(10) == 0)
-        reader.join()
+        with play.meanwhile(lambda _: said.extend(server.errors)):
+            server.give(b"quit")
+            check("once it is read the server ends", server.ends_within(10) == 0)
         told = sum(line.endswith(b" a command of own\n") for line in said)
         left_out = [int(line.split()[1]) for line in said if b" lines were left out here: " in line]
         check("each command is told, or counted as left out", sum(left_out) > 0 and told + sum(left_out) == 6001,
@@ -326,10 +304,7 @@ def unread_log():
         for _ in range(2000):
             server.give(b"windows")
         server.give(b"quit")
-        began = time.monotonic()
-        while os.path.lexists(server.path) and time.monotonic() < began + 4:
-            time.sleep(0.05)
-        check("its socket goes though nobody reads the log", not os.path.lexists(server.path))
+        check("its socket goes though nobody reads the log", once(lambda: not os.path.lexists(server.path), 4))
         check("and so does the server, some seconds later", server.ends_within(12) == 0)
 
 
@@ -366,13 +341,10 @@ def drawn_in_a_flood():
                       f"{max(late) * 1000:.0f} ms")
 
 
-PARTS = (dead_window, ends_behind_frames, winding_up, at_once, one_who_floods, few_descriptors, strangers, told_to_go,
-         unread_log, stopped_clients, idle_loops, drawn_in_a_flood)
-
-if __name__ == "__main__":
-    play.main(PARTS, ["muxd"], {
-        "--tries": {"type": int, "default": 100, "help": "how often servers are started at once"},
-        "--draws": {"type": int, "default": 20, "help": "how many draws a second are asked for in a flood"},
-        "--gap": {"type": float, "default": 150, "help": "how many ms may lie between two of them"},
-        "--late": {"type": float, "default": 100, "help": "within how many ms a quiet window's line is drawn"},
-    })
+play.main((dead_window, ends_behind_frames, winding_up, at_once, one_who_floods, few_descriptors, strangers,
+           told_to_go, unread_log, stopped_clients, idle_loops, drawn_in_a_flood), ["muxd"], {
+    "--tries": {"type": int, "default": 100, "help": "how often servers are started at once"},
+    "--draws": {"type": int, "default": 20, "help": "how many draws a second are asked for in a flood"},
+    "--gap": {"type": float, "default": 150, "help": "how many ms may lie between two of them"},
+    "--late": {"type": float, "default": 100, "help": "within how many ms a quiet window's line is drawn"},
+}, each=Server)

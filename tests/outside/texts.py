@@ -1,4 +1,4 @@
-#!/usr/bin/env python3
+#!/usr/bin/env -S python3 -B
 """Plays the command lines of the texts that users read, as they are printed, from an empty home in a terminal.
 
 A text's command lines are those lines of its blocks that begin with `$ ` (typed by a user), `# ` (by root) or `C-a: `
@@ -23,11 +23,10 @@ import shlex
 import shutil
 import signal
 import subprocess
-import sys
 import tempfile
 import time
+from pathlib import Path
 
-sys.dont_write_bytecode = True
 import bridge
 from play import (CONTRIB, PROGRAMS, TOP, Pane, Tmux, add_account, check, end_account, kill, main, once, processes,
                   program, read, run, write)
@@ -162,13 +161,17 @@ class Terminals:
         if not once(holds, seconds, 0.1):
             raise Fault("no %s; terminal %s shows\n%s" % (what, name, self.panes[name].page()))
 
-    def keys(self, name, *keys):
-        """Types keys by tmux's names."""
+    def keys(self, name, *keys, shows=None, by=None):
+        """Types keys by tmux's names; then this terminal, or another one, shows a line with a pattern perhaps."""
         self.panes[name].key(*keys)
+        if shows:
+            self.shows(by or name, shows)
 
-    def type(self, name, text):
-        """Types text as it is."""
+    def type(self, name, text, shows=None, by=None):
+        """Types text as it is; then this terminal, or another one, shows a line with a pattern perhaps."""
         self.panes[name].type(text, enter=False)
+        if shows:
+            self.shows(by or name, shows)
 
     def shows(self, name, pattern, seconds=20):
         """A line with the pattern is shown."""
@@ -220,16 +223,21 @@ class Play:
         line = re.sub(r"/(var/lib/mux|etc/mux|run/mux)(?=/\w)", self.on.far + r"/\1", line)
         return re.sub(r"(?<![\w/])/srv/(?=\w)", self.on.far + "/", line)
 
-    def run(self, pane, line):
-        """A command line that ends, of a user or of root, or one of the prose."""
-        here = self.text.lines[0][0] if self.text.lines else ""
-        if here == "# " + line:
-            taken = here
-        elif here != "$ " + line and line in self.text.spans:
-            taken = line
-        else:
-            taken = "$ " + line
-        self.on.run(pane, self.real(line), self.text.take(taken))
+    def run(self, pane, *lines):
+        """Command lines that end, each of a user or of root, or one of the prose."""
+        for line in lines:
+            here = self.text.lines[0][0] if self.text.lines else ""
+            if here == "# " + line:
+                taken = here
+            elif here != "$ " + line and line in self.text.spans:
+                taken = line
+            else:
+                taken = "$ " + line
+            self.on.run(pane, self.real(line), self.text.take(taken))
+
+    def next(self, pane):
+        """The next command line of the text's blocks."""
+        self.run(pane, self.text.lines[0][0][2:])
 
     def attach(self, pane, line, caption, taken=None):
         """A command line that attaches the terminal, which then shows a caption."""
@@ -259,14 +267,11 @@ class Play:
 def surprises(on):
     """What FIRST-SESSION says that surprises people, with ann in the shell `sh`."""
     # An arrow key closes the prompt, and the rest of the line goes to the window.
-    on.type("ann", "clear\n")
-    on.shows("ann", r"^\$ *$")
+    on.type("ann", "clear\n", shows=r"^\$ *$")
     on.keys("ann", "C-a")
-    on.type("ann", ":wall rm x")
-    on.shows("ann", "^:wall rm x")
+    on.type("ann", ":wall rm x", shows="^:wall rm x")
     on.keys("ann", "Left")
-    on.type("ann", "echo in the window")
-    on.shows("ann", r"^\$ .*echo in the window")
+    on.type("ann", "echo in the window", shows=r"^\$ .*echo in the window")
     if any(line.startswith(":wall") for line in on.page("ann")):
         raise Fault("docs/FIRST-SESSION.md: an arrow key leaves the prompt open")
     on.keys("ann", "C-c")
@@ -285,44 +290,36 @@ def surprises(on):
     on.wait("ann", "C-a that came through", lambda: on.page("ann").count("^A") == 2)
     on.keys("ann", "C-d")
     # SGR 38 and 48 are read value by value: 5 blinks, 4 underlines.
-    on.type("ann", r"clear; printf '\033[38;5;9mred\033[m \033[48;5;4mblue\033[m\n'" + "\n")
-    on.shows("ann", "^red blue")
+    on.type("ann", r"clear; printf '\033[38;5;9mred\033[m \033[48;5;4mblue\033[m\n'" + "\n", shows="^red blue")
     shown = on.tmux("capture-pane", "-p", "-e", "-t", "ann")
     if not re.search("\033\\[5mred", shown) or not re.search("\033\\[(4;5|5;4|4m\033\\[5)mblue", shown):
         raise Fault("docs/FIRST-SESSION.md: 38 and 48 are shown as %r" % shown)
-    on.type("ann", "echo $TERM; tput colors\n")
-    on.shows("ann", "^vt220")
+    on.type("ann", "echo $TERM; tput colors\n", shows="^vt220")
     on.shows("ann", "^8$")
     # A window that closes leaves an empty page until C-a n.
     who = "--user ann --token ~/first/ann.token"
     on.type("ann", "clear; setsid -f mux-shell %s --title other cat; " % who)
-    on.type("ann", "muxd-wait %s --window other && echo o\"\"pen\n" % who)
-    on.shows("ann", "^open")
-    on.keys("ann", "C-a", "n")
-    on.shows("ann", "^1 other")
-    on.keys("ann", "C-d")
-    on.shows("ann", "^--")
+    on.type("ann", "muxd-wait %s --window other && echo o\"\"pen\n" % who, shows="^open")
+    on.keys("ann", "C-a", "n", shows="^1 other")
+    on.keys("ann", "C-d", shows="^--")
     if any(line.strip() not in ("", "--") for line in on.page("ann")):
         raise Fault("docs/FIRST-SESSION.md: the page of a window that closed isn't empty")
-    on.keys("ann", "C-a", "n")
-    on.shows("ann", "^0 sh")
+    on.keys("ann", "C-a", "n", shows="^0 sh")
     on.type("ann", "clear\n")
 
 
-def first_session(play):
+def first_session(play, on, text):
     """docs/FIRST-SESSION.md: two terminals of 8 lines by 44 columns."""
-    on = play.on
-    play.text.leave("tests/outside/share plays it, with three accounts", "mux-share --give cole", "mux-share --take",
+    text.leave("tests/outside/share plays it, with three accounts", "mux-share --give cole", "mux-share --take",
                     "mux-share --with eve --for 30m", "mux-share --list", "mux-share --drop cole", "mux-share --end",
                     "mux-join dana@host")
-    play.text.leave("tests/outside/web plays it", "mux-share --web fay")
+    text.leave("tests/outside/web plays it", "mux-share --web fay")
     on.open("ann", 8, 44)
     on.open("bob", 8, 44)
-    for line in ("mkdir -m 700 ~/first && cd ~/first", "new-token --users users ann; new-token --users users bob",
-                 "export MUX_SOCKET=~/first/socket", "setsid -f muxd --socket ~/first/socket --users users > log 2>&1",
-                 "muxd-wait", "setsid -f mux-shell --user ann --token ann.token sh",
-                 "muxd-wait --user ann --token ann.token --window sh"):
-        play.run("ann", line)
+    play.run("ann", "mkdir -m 700 ~/first && cd ~/first", "new-token --users users ann; new-token --users users bob",
+             "export MUX_SOCKET=~/first/socket", "setsid -f muxd --socket ~/first/socket --users users > log 2>&1",
+             "muxd-wait", "setsid -f mux-shell --user ann --token ann.token sh",
+             "muxd-wait --user ann --token ann.token --window sh")
     play.attach("ann", "mux-attach --user ann --token ann.token", r"^0 sh")
     for line in ("multiuser on", "aclumask ?-rwx ??-x", "aclchg bob +rw 0", "aclchg bob +x detach,windows",
                  "aclumask -rwx"):
@@ -330,8 +327,7 @@ def first_session(play):
     play.run("bob", "cd ~/first; export MUX_SOCKET=~/first/socket")
     play.attach("bob", "mux-attach --user bob --token bob.token", r"^0 sh")
     on.shows("bob", r"^\$")
-    on.type("bob", "echo hello ann\n")
-    on.shows("ann", "^hello ann")
+    on.type("bob", "echo hello ann\n", shows="^hello ann", by="ann")
     on.type("ann", "echo hello bob\n")
     play.picture("ann", "bob")
     on.keys("ann", "C-a")
@@ -357,14 +353,13 @@ def first_session(play):
     with on.ending("bob", "mux-attach"):
         play.prompt("ann", "quit")
     on.run("bob", "echo status $?", ["status 0"])
-    play.text.take("rm -r ~/first")
+    text.take("rm -r ~/first")
     on.run("ann", "rm -r ~/first; ls ~ | wc -l", ["0"])
-    play.text.leave("it is played with docs/TEACHING.md", "mux-shell --title lesson sudo -iu lab")
+    text.leave("it is played with docs/TEACHING.md", "mux-shell --title lesson sudo -iu lab")
 
 
-def readme(play):
+def readme(play, on, text):
     """README.md: a first session with the defaults."""
-    on, text = play.on, play.text
     text.leave("tests/outside/share plays it, with three accounts", "mux-share --give cole", "mux-share --take",
                "mux-join dana@host")
     text.leave("it builds; tests/outside/package plays what it gives", "make try-server", "make build",
@@ -378,8 +373,7 @@ def readme(play):
     play.attach("ann", "mux-attach --user ann", "^0 shell")
     on.ends("ann", "mux-attach", "C-a", "d")
     play.attach("ann", "mux-attach --user ann", "^0 shell", taken="mux-attach --user ann")
-    on.type("ann", "echo $((6 * 7))\n")
-    on.shows("ann", "^42")
+    on.type("ann", "echo $((6 * 7))\n", shows="^42")
     with on.ending("ann", "mux-attach"):
         on.keys("ann", "C-a")
         on.type("ann", ":quit\n")
@@ -388,13 +382,13 @@ def readme(play):
     text.leave("make examples compares what it prints", "make demo SCRIPT=classroom")
 
 
-def teaching(play):
+def teaching(play, on, text):
     """docs/TEACHING.md: a lesson in two terminals, with a shell of another login."""
-    play.text.leave("make examples compares what it prints", "make demo SCRIPT=class", "make examples")
-    play.text.leave("tests/outside/package plays it", "make install")
-    play.text.leave("tests/outside/share plays it, with three accounts", "mux-share --with ann,bob,eve")
+    text.leave("make examples compares what it prints", "make demo SCRIPT=class", "make examples")
+    text.leave("tests/outside/package plays it", "make install")
+    text.leave("tests/outside/share plays it, with three accounts", "mux-share --with ann,bob,eve")
     with Accounts(play) as accounts:
-        lesson(play, accounts)
+        lesson(play, on, text, accounts)
 
 
 class Accounts:
@@ -429,8 +423,7 @@ class Accounts:
             end_account(name)
         subprocess.run(["groupdel", "class"], check=False)
         shutil.rmtree(self.MADE[0], ignore_errors=True)
-        if os.path.exists(self.MADE[1]):
-            os.remove(self.MADE[1])
+        Path(self.MADE[1]).unlink(missing_ok=True)
 
     def open(self, pane, account):
         """A terminal of an account; with one login for all its user is named."""
@@ -446,9 +439,8 @@ class Accounts:
             self.play.text.leave(why, "# " + line)
 
 
-def lesson(play, accounts):
+def lesson(play, on, text, accounts):
     """TEACHING's lesson."""
-    on, text = play.on, play.text
     on.open("root")
     for line in ("useradd -m -s /bin/bash lab", "echo 'tess ALL = (lab) NOPASSWD: ALL' > /etc/sudoers.d/mux-lab",
                  "install -d -m 2750 -o tess -g class /srv/class"):
@@ -478,64 +470,59 @@ def lesson(play, accounts):
     on.run("tess", "clear")
     accounts.open("lesson", "tess")
     play.attach("lesson", "mux-attach --socket /srv/class/socket --token ~/class/tess.token", "^0 lesson")
-    on.type("lesson", "echo I am tess\n")
-    on.shows("lesson", "^I am tess")
+    on.type("lesson", "echo I am tess\n", shows="^I am tess")
     accounts.open("ann", "ann")
     accounts.open("bob", "bob")
     if not accounts.real:
         on.run("ann", "mkdir -p ~/.config/mux; cp -p ~/class/[ab]*.token ~/.config/mux/; clear")
     for pupil in ("ann", "bob"):
-        on.type(pupil, play.real("mux-attach --socket /srv/class/socket\n"))
-        on.shows(pupil, "^0 lesson")
-    turns(play, accounts)
-    again(play)
+        on.type(pupil, play.real("mux-attach --socket /srv/class/socket\n"), shows="^0 lesson")
+    turns(play, on, text, accounts)
+    again(on)
     # A shell for each of them.
-    play.run("tess", text.lines[0][0][2:])
-    on.keys("ann", "C-a", "n")
-    on.shows("ann", "^1 ann")
-    on.type("ann", "echo mine\n")
-    on.shows("ann", r"^(\$ )?mine")
+    play.next("tess")
+    on.keys("ann", "C-a", "n", shows="^1 ann")
+    on.type("ann", "echo mine\n", shows=r"^(\$ )?mine")
     # A pupil who comes late: the server that runs reads the new token.
     for line in ("mux-user --users users add fay", "mux-command 'aclchg fay -wx #?'", "mux-command 'aclumask fay-wx'",
                  "mux-command 'aclchg fay -wx #'", "mux-command 'aclchg fay +x detach,next,prev,scrollview,wall'"):
         play.run("tess", line)
     on.run("tess", "clear; mux-command --user fay --token ~/class/fay.token windows",
            ["denied: x on windows: entry fay -x"])
-    browsers(play, accounts)
-    text.take("mux-command acldel bob")
-    with on.ending("bob", "mux-attach"):
-        on.run("tess", "mux-command acldel bob")
-    text.take("mux-command quit")
-    with on.ending("ann", "mux-attach"):
-        on.run("tess", "mux-command quit")
+    browsers(play, text, accounts)
+    for line, who in (("mux-command acldel bob", "bob"), ("mux-command quit", "ann")):
+        text.take(line)
+        with on.ending(who, "mux-attach"):
+            on.run("tess", line)
 
 
-def browsers(play, accounts):
+def browsers(play, text, accounts):
     """TEACHING's class in browsers: ann's page has the lesson, and she can't type there."""
-    text = play.text
     text.leave("it needs nginx; tests/outside/web plays it", "# usermod -aG class www-data && systemctl restart nginx")
     for _ in range(2):
-        play.run("tess", text.lines[0][0][2:])
+        play.next("tess")
     text.leave("tests/outside/browser plays it", "$ mux-user --users users --page $ORIGIN link ann")
     home = os.path.expanduser("~tess") if accounts.real else play.on.home
     token = read(os.path.join(home, "class/ann.token")).strip().encode()
     path = play.real("/srv/class/web")
-    until = time.time() + 20
-    while not os.path.exists(path) and time.time() < until:
-        time.sleep(0.1)
+    once(lambda: os.path.exists(path), 20, 0.1)
+    browse("docs/TEACHING.md", path, "https://mux.example.org", token, "0 lesson", b"x",
+           "denied: w on window 0: entry ann -w")
+
+
+def browse(name, address, origin, token, caption, keys, shown):
+    """What a text's page in a browser shows as ann attaches, and types."""
     try:
-        page = bridge.Page(path, "https://mux.example.org", b"ann", token)
-        page.until("0 lesson")
-        page.keys(b"x")
-        page.until("denied: w on window 0: entry ann -w")
+        page = bridge.Page(address, origin, b"ann", token)
+        page.until(caption)
+        page.keys(keys, shows=shown)
         page.close()
     except (AssertionError, OSError, bridge.Closed) as error:
-        raise Fault("docs/TEACHING.md: a page in a browser: %s" % error) from None
+        raise Fault("%s: a page in a browser: %s" % (name, error)) from None
 
 
-def turns(play, accounts):
+def turns(play, on, text, accounts):
     """What a teacher types during the lesson: ann and bob are attached, and tess in the terminal `lesson`."""
-    on, text = play.on, play.text
 
     def denied(pane):
         on.type(pane, "x")
@@ -557,44 +544,36 @@ def turns(play, accounts):
         on.shows("ann", "Permission denied")
         on.shows("ann", "^I am " + who)
     # A prompt may come between what is typed and what is printed.
-    on.type("lesson", "echo tess types\n")
-    on.shows("ann", r"^(\$ )?tess types")
+    on.type("lesson", "echo tess types\n", shows=r"^(\$ )?tess types", by="ann")
     denied("bob")
     text.take("turn --for 5m bob")
-    on.type("tess", "turn --for 5m bob\n")
-    on.shows("bob", "^own: bob may type for 5m")
-    on.type("bob", "echo bob types\n")
-    on.shows("ann", r"^(\$ )?bob types")
+    on.type("tess", "turn --for 5m bob\n", shows="^own: bob may type for 5m", by="bob")
+    on.type("bob", "echo bob types\n", shows=r"^(\$ )?bob types", by="ann")
     denied("ann")
     on.ends("tess", "mux-turn", "C-c")
     denied("bob")
     text.take("turn none")
     on.run("tess", "turn none; clear")
     denied("ann")
-    on.type("lesson", "echo still tess\n")
-    on.shows("ann", r"^(\$ )?still tess")
+    on.type("lesson", "echo still tess\n", shows=r"^(\$ )?still tess", by="ann")
 
 
-def again(play):
+def again(on):
     """The shell ends, and the next one begins in the same window."""
-    on = play.on
     on.type("lesson", "exit\n")
-    on.type("lesson", "echo hers again\n")
-    on.shows("ann", r"^(\$ )?hers again")
+    on.type("lesson", "echo hers again\n", shows=r"^(\$ )?hers again", by="ann")
 
 
-def policies(play):
+def policies(play, on, text):
     """docs/POLICIES.md: each policy on a server of its own, and what its guests may not."""
-    on, text = play.on, play.text
     text.leave("it is played with docs/TEACHING.md", "mux-shell --title shop sudo -iu lab")
     text.leave("tests/outside/policies plays it, for a shorter time", "$ mux-guest --read shop --for 30m sue")
     text.leave("it needs podman, and fetches an image", "mux-shell --title shop podman run --rm -it debian bash")
     on.open("own")
     on.run("own", "for name in own sue pia ben kay fay ann bob jo lee kim; do"
            " new-token --users ~/session/users $name; done")
-    for line in ("export MUX_SOCKET=~/session/socket", "export MUX_TOKEN=~/session/own.token",
-                 'own() { mux-command --user own "$@"; }'):
-        play.run("own", line)
+    play.run("own", "export MUX_SOCKET=~/session/socket", "export MUX_TOKEN=~/session/own.token",
+             'own() { mux-command --user own "$@"; }')
     on.run("own", "as() { name=$1; shift; mux-command --user $name --token ~/session/$name.token \"$@\"; }")
 
     def opened(user, title):
@@ -688,16 +667,14 @@ def policies(play):
     for name in ("support", "support.mux"):
         shutil.copy(os.path.join(TOP, "contrib/policies", name), on.home)
     on.run("own", "cd; clear")
-    play.run("own", "muxsim --trail support.trail --setup support own < support.mux > /dev/null")
-    play.run("own", "mux-trail check support.trail")
-    play.run("own", "mux-trail why --at 20 support.trail sue w 0")
-    play.run("own", "mux-trail why support.trail sue w 2")
+    play.run("own", "muxsim --trail support.trail --setup support own < support.mux > /dev/null",
+             "mux-trail check support.trail", "mux-trail why --at 20 support.trail sue w 0",
+             "mux-trail why support.trail sue w 2")
     on.shows("own", "^no$")
 
 
-def operating(play):
+def operating(play, on, text):
     """docs/OPERATING.md: what its units start is started by hand."""
-    on, text = play.on, play.text
     for path in ("var/lib/mux/ops", "etc/mux/ops", "run/mux/ops"):
         os.makedirs(os.path.join(on.far, path))
     for name in ("own", "ann", "bob", "wall"):
@@ -711,16 +688,12 @@ def operating(play):
     def left(line):
         """Lines that change the system; tests/outside/consoles plays what they set up."""
         why = "it needs systemd, another login or another host; tests/outside/consoles plays what it sets up"
-        for words, better in (("mux-web", "tests/outside/boot plays it"),
-                              ("mux-console", "tests/outside/boot plays it"),
-                              ("/etc/mux/web", "tests/outside/boot plays it"),
-                              ("tic ", "make lint compiles it"), ("mux-over-ssh", "tests/outside/terminals plays it"),
-                              ("mux-user", "tests/outside/consoles plays it"),
-                              ("muxsim --setup", "tests/outside/policies plays it"),
-                              ("muxd --setup", "tests/outside/policies plays it"),
-                              ("mux-trail", "tests/outside/trailfile plays it"),
-                              ("muxd --trail", "tests/outside/trailfile plays it")):
-            if words in line:
+        for better, *words in (("tests/outside/boot plays it", "mux-web", "mux-console", "/etc/mux/web"),
+                               ("make lint compiles it", "tic "), ("tests/outside/terminals plays it", "mux-over-ssh"),
+                               ("tests/outside/consoles plays it", "mux-user"),
+                               ("tests/outside/policies plays it", "muxsim --setup", "muxd --setup"),
+                               ("tests/outside/trailfile plays it", "mux-trail", "muxd --trail")):
+            if any(it in line for it in words):
                 why = better
         text.leave(why, line)
 
@@ -733,11 +706,11 @@ def operating(play):
     on.run("root", "export MUX_USER=own; cd")
     leave_until("$ mux-console web1")
     text.leave("tests/outside/boot plays it", text.lines[0][0])
-    on.run("root",
-           play.real("(umask 007; setsid -f muxd-run --socket /run/mux/ops/socket --users /var/lib/mux/ops/users"
-                     " --rights /etc/mux/ops/rights > ~/log 2>&1); muxd-wait --socket /run/mux/ops/socket"))
+    begins = play.real("(umask 007; setsid -f muxd-run --socket /run/mux/ops/socket --users /var/lib/mux/ops/users"
+                       " --rights /etc/mux/ops/rights > ~/log 2>&1); muxd-wait --socket /run/mux/ops/socket")
+    on.run("root", begins)
     leave_until("# export MUX_SOCKET=/run/mux/ops/socket MUX_TOKEN=/var/lib/mux/ops/own.token MUX_LOCK=/etc/mux/ops")
-    play.run("root", text.lines[0][0][2:])
+    play.next("root")
     play.run("root", 'own() { mux-rights /etc/mux/ops/rights command "$@"; }')
     play.run("root", 'user() { mux-user --users /var/lib/mux/ops/users --rights /etc/mux/ops/rights "$@"; }')
     on.run("root", "setsid -f mux-shell --title web1 -- cat; muxd-wait --window web1")
@@ -746,10 +719,8 @@ def operating(play):
     on.shows("root", "^0 web1")
     on.open("ann")
     on.run("ann", play.real("export MUX_SOCKET=/run/mux/ops/socket"))
-    on.type("ann", play.real("mux-attach --user ann --token /var/lib/mux/ops/ann.token\n"))
-    on.shows("ann", "^0 web1")
-    on.type("ann", "hello wall\n")
-    on.shows("ann", "^hello wall")
+    on.type("ann", play.real("mux-attach --user ann --token /var/lib/mux/ops/ann.token\n"), shows="^0 web1")
+    on.type("ann", "hello wall\n", shows="^hello wall")
     play.run("root", "own wall 'back at three'")
     on.shows("ann", "^own: back at three")
     # A name that becomes known by own has nothing on windows that open later.
@@ -757,9 +728,8 @@ def operating(play):
     on.run("root", play.real("new-token --users /var/lib/mux/ops/users carl; own aclchg carl +x windows; clear;"
                              " mux-command --user carl --token /var/lib/mux/ops/carl.token windows"), ["0 ?  1 ?"])
     line = "mux-guest --read web1 guest1"
-    play.text.take("# " + line)
-    on.type("root", line + "\n")
-    on.shows("root", "^guest1 reads web1 for 30m")
+    text.take("# " + line)
+    on.type("root", line + "\n", shows="^guest1 reads web1 for 30m")
     on.ends("root", "mux-guest", "C-c")
     on.run("root", "clear; own aclgrp guest1", ["acl: 1"])
     leave_until("$ mux-watch --user wall --token wall.token --window web1")
@@ -768,8 +738,7 @@ def operating(play):
     play.attach("wall", "mux-watch --user wall --token wall.token --window web1", "^0 web1")
     on.shows("wall", "^hello wall")
     on.type("wall", "x")
-    on.type("ann", "again\n")
-    on.shows("wall", "^again")
+    on.type("ann", "again\n", shows="^again", by="wall")
     if any(line.startswith("denied") for line in on.page("wall")):
         raise Fault("mux-watch types")
     on.tmux("resize-window", "-t", "wall", "-x", "60", "-y", "12")
@@ -785,9 +754,7 @@ def operating(play):
     # The wall says that the session ended, waits for the next one, and ends by C-c with its terminal as it was.
     on.run("root", play.real("own quit; while [ -e /run/mux/ops/socket ]; do sleep 0.1; done"))
     on.shows("wall", "no session: ", 4)
-    on.run("root",
-           play.real("(umask 007; setsid -f muxd-run --socket /run/mux/ops/socket --users /var/lib/mux/ops/users"
-                     " --rights /etc/mux/ops/rights > ~/log 2>&1); muxd-wait"))
+    on.run("root", begins)
     on.run("root", "setsid -f mux-shell --title web1 sh -c 'echo new; cat'; muxd-wait --window web1")
     on.run("root", play.real("mux-rights /etc/mux/ops/rights window web1"))
     on.shows("wall", "^new")
@@ -796,33 +763,30 @@ def operating(play):
     on.run("root", "own quit")
 
 
-def words_alone(play):
+def words_alone(play, on, text):
     """docs/FOR-SCREEN-USERS.md and examples/README.md: no line to be typed as it stands."""
-    if play.text.name == "examples/README.md":
-        play.text.leave("it builds, or plays itself", "make shell", "make try-server", "make build",
+    if text.name == "examples/README.md":
+        text.leave("it builds, or plays itself", "make shell", "make try-server", "make build",
                         "make demo SCRIPT=rights", "make examples",
                         "muxsim --show --setup contrib/policies/support own < contrib/policies/support.mux")
     else:
-        play.text.leave("it is a pattern", "mux-attach --user NAME", "mux-attach --rows 24 --cols 80",
+        text.leave("it is a pattern", "mux-attach --user NAME", "mux-attach --rows 24 --cols 80",
                         "mux-attach --fit", "mux-shell --detach", "mux-console db7", "muxsim --edition 1")
-        play.text.leave("tests/outside/share plays it, with three accounts", "mux-share --with cole", "mux-join dana",
+        text.leave("tests/outside/share plays it, with three accounts", "mux-share --with cole", "mux-join dana",
                         "mux-share --give", "mux-share --take")
 
 
-def muxd_page(play):
+def muxd_page(play, on, text):
     """man/muxd.8: a session of one's own, and one of a group with a shell of another login."""
-    on = play.on
     on.open("ann")
-    play.run("ann", "new-token ann")
-    play.run("ann", "mkdir -p -m 700 $XDG_RUNTIME_DIR/mux")
-    play.run("ann", "setsid -f muxd --socket $XDG_RUNTIME_DIR/mux/socket --users ~/.config/mux/users")
-    play.run("ann", "setsid -f mux-shell --user ann --title shell")
-    play.run("ann", "muxd-wait --user ann --window shell")
+    play.run("ann", "new-token ann", "mkdir -p -m 700 $XDG_RUNTIME_DIR/mux",
+             "setsid -f muxd --socket $XDG_RUNTIME_DIR/mux/socket --users ~/.config/mux/users",
+             "setsid -f mux-shell --user ann --title shell", "muxd-wait --user ann --window shell")
     play.attach("ann", "mux-attach --user ann", "^0 shell")
     on.ends("ann", "mux-attach", "C-a", "d")
     on.run("ann", "mux-command --user ann quit; clear")
-    play.text.leave("it needs systemd", "$ loginctl enable-linger", "$ systemctl --user start muxd")
-    play.text.leave("it needs other logins", "# install -d -m 2750 -o ann -g ops /srv/ops")
+    text.leave("it needs systemd", "$ loginctl enable-linger", "$ systemctl --user start muxd")
+    text.leave("it needs other logins", "# install -d -m 2750 -o ann -g ops /srv/ops")
     os.mkdir(os.path.join(on.far, "ops"))
     play.run("ann", "new-token --users ~/ops/users own; new-token --users ~/ops/users ann")
     play.run("ann", "(umask 007; setsid -f muxd --socket /srv/ops/socket --users ~/ops/users)")
@@ -842,14 +806,13 @@ def muxd_page(play):
     on.shows("ann", "^legal: 1 entries$")
     on.shows("ann", r"^whole: it ended \(quit\) at ")
     # The page's .Dl lines stand in its prose.
-    play.text.leave("as above", "$ mux-shell --title lesson sudo -iu lab")
+    text.leave("as above", "$ mux-shell --title lesson sudo -iu lab")
 
 
-def mux_users_page(play):
+def mux_users_page(play, on, text):
     """man/mux-users.5: the folder and the umask of a group."""
-    on = play.on
     on.open("ann")
-    play.text.leave("it needs other logins", "# install -d -m 2750 -o ann -g ops /srv/ops")
+    text.leave("it needs other logins", "# install -d -m 2750 -o ann -g ops /srv/ops")
     os.mkdir(os.path.join(on.far, "ops"))
     on.run("ann", "new-token --users ~/ops/users own")
     play.run("ann", "(umask 007; setsid -f muxd --socket /srv/ops/socket --users ~/ops/users)")
@@ -857,49 +820,38 @@ def mux_users_page(play):
     on.run("ann", play.real("mux-command --socket /srv/ops/socket --user own --token ~/ops/own.token quit"))
 
 
-def web_page(play):
+def web_page(play, on, text):
     """man/mux-web.1: a bridge beside a session of one's own, and a page that attaches."""
-    on = play.on
     on.open("ann")
     on.run("ann", "new-token ann; mkdir $XDG_RUNTIME_DIR/mux; setsid -f muxd --socket $XDG_RUNTIME_DIR/mux/socket"
            " --users ~/.config/mux/users > log 2>&1; muxd-wait; export MUX_USER=ann;"
            " setsid -f mux-shell --title shell cat; muxd-wait --window shell; clear")
-    line = play.text.lines[0][0]
-    on.type("ann", play.real(line[2:]) + "\n")
-    on.shows("ann", r"^(\$ )?mux-web: ready")
-    play.text.take(line)
+    line = text.lines[0][0]
+    on.type("ann", play.real(line[2:]) + "\n", shows=r"^(\$ )?mux-web: ready")
+    text.take(line)
     token = read(os.path.join(on.home, ".config/mux/ann.token")).strip().encode()
-    try:
-        page = bridge.Page(8090, "http://127.0.0.1:8090", b"ann", token)
-        page.until("0 shell")
-        page.keys(b"by a browser\r")
-        page.until("by a browser")
-        page.close()
-    except (AssertionError, OSError, bridge.Closed) as error:
-        raise Fault("man/mux-web.1: a page in a browser: %s" % error) from None
+    browse("man/mux-web.1", 8090, "http://127.0.0.1:8090", token, "0 shell", b"by a browser\r", "by a browser")
     on.run("ann", "clear; mux-command quit")
 
 
-def printing_page(play):
+def printing_page(play, on, text):
     """man/muxsim.1, man/vtcat.1: the example prints what stands below it."""
-    play.on.open("ann")
-    line = play.text.lines[0][0][2:]
-    play.run("ann", line)
+    on.open("ann")
+    play.next("ann")
 
 
-def trail_page(play):
+def trail_page(play, on, text):
     """man/mux-trail.1: a trail of examples/, and one in which a line was changed."""
     for name in ("support.trail", "support-tampered.trail"):
-        shutil.copy(os.path.join(TOP, "examples", name), play.on.home)
-    play.on.open("ann")
-    play.on.run("ann", "cd; clear")
-    while play.text.lines:
-        play.run("ann", play.text.lines[0][0][2:])
+        shutil.copy(os.path.join(TOP, "examples", name), on.home)
+    on.open("ann")
+    on.run("ann", "cd; clear")
+    while text.lines:
+        play.next("ann")
 
 
-def session_pages(play):
+def session_pages(play, on, text):
     """Pages of scripts that join a session: their examples, on a server with a window, without restrictions."""
-    on = play.on
     on.open("ann")
     on.run("ann", "new-token ann; for name in own bob wall pia ben; do new-token $name; done;"
            " mkdir $XDG_RUNTIME_DIR/mux")
@@ -907,12 +859,12 @@ def session_pages(play):
            " --users ~/.config/mux/users > log 2>&1")
     on.run("ann", "muxd-wait; for title in shell second board; do setsid -f mux-shell --user ann --title $title cat;"
            " muxd-wait --window $title; done; mux-command multiuser on; mux-command acladd bob,wall,pia,ben; clear")
-    while play.text.lines:
-        line = play.text.lines[0][0][2:]
+    while text.lines:
+        line = text.lines[0][0][2:]
         if "ssh" in line:
-            play.text.leave("tests/outside/terminals plays it", "$ " + line)
+            text.leave("tests/outside/terminals plays it", "$ " + line)
         elif "mux-guest" in line:
-            play.text.leave("tests/outside/policies plays it, for a shorter time", "$ " + line)
+            text.leave("tests/outside/policies plays it, for a shorter time", "$ " + line)
         elif "mux-attach" in line or "mux-watch" in line:
             play.attach("ann", line, "^[02] (shell|board)")
             on.ends("ann", line, *(["C-c"] if "mux-watch" in line else ["C-a", "d"]))
@@ -987,7 +939,7 @@ def played(name):
             programs(folder)
             play = Play(name, folder)
             try:
-                PLAYS[name](play)
+                PLAYS[name](play, play.on, play.text)
                 play.text.end()
             finally:
                 play.on.end()
@@ -995,5 +947,4 @@ def played(name):
     return part
 
 
-if __name__ == "__main__":
-    main({"words": words_agree, "pages": pages_are_played, **{name: played(name) for name in PLAYS}}, PROGRAMS)
+main({"words": words_agree, "pages": pages_are_played, **{name: played(name) for name in PLAYS}}, PROGRAMS)

@@ -1,4 +1,4 @@
-#!/usr/bin/env python3
+#!/usr/bin/env -S python3 -B
 """Fills a server's trail: 63 users type into a window until the 4,194,304 entries are there.
 
 One user alone would take more than an hour: a user causes at most 1,000 entries a second in the long run. Each types
@@ -15,15 +15,14 @@ import random
 import resource
 import selectors
 import subprocess
-import sys
 import threading
 import time
+from concurrent.futures import ThreadPoolExecutor
 
-sys.dont_write_bytecode = True
 import peer
 import play
 from peer import GONE, INPUT, KEYS, OWNER, Server, attach, frame, window
-from play import WORDS, check, figure
+from play import WORDS, check, equal, figure
 
 ENTRIES = 4_194_304
 USERS = [OWNER] + [b"u%d" % number for number in range(1, 63)]
@@ -123,16 +122,12 @@ def day():
             it.socket.setblocking(True)
             threading.Thread(target=take_all, args=(it,), daemon=True).start()
         before = server.resident()
-        typing = [threading.Thread(target=type_for_a_day, args=(it.socket, place)) for place, it in enumerate(clients)]
-        for it in typing:
-            it.start()
-        for it in typing:
-            it.join()
+        with ThreadPoolExecutor() as pool:
+            pool.map(type_for_a_day, [it.socket for it in clients], range(TYPISTS))
         # What waits in sockets is taken at 1,000 keys a second and user.
         play.once(lambda: sum(it.typed for it in windows) >= DAY, 60, 0.5)
         taken = server.resident() - before
-        check(f"each of {DAY:,} keys reaches its window", [it.typed for it in windows] == [DAY // TYPISTS] * TYPISTS,
-              [it.typed for it in windows])
+        equal(f"each of {DAY:,} keys reaches its window", [it.typed for it in windows], [DAY // TYPISTS] * TYPISTS)
         check("no client was let go", not any(it.ended for it in clients))
         figure("bytes of a key", taken / DAY, MOST_A_KEY, "bytes")
         server.give(b"quit")
@@ -148,22 +143,19 @@ def full():
         server.give(b"acladd " + b",".join(USERS[1:]))
         clients = [Peer(server.path, attach(user, **size)) for user in USERS]
         sent = fill(shell, clients)
-        check("the window's bytes, beside its own entry, two commands' and the clients'",
-              shell.typed == ENTRIES - 3 - len(USERS), shell.typed)
+        equal("the window's bytes, beside its own entry, two commands' and the clients'", shell.typed,
+              ENTRIES - 3 - len(USERS))
         check("more was sent than found room", sent > shell.typed, sent)
-        check("the window is let go", shell.gone == 7, shell.gone)
+        equal("the window is let go", shell.gone, 7)
         check("the clients are let go", {client.gone for client in clients} == {7}, [it.gone for it in clients])
         errors = server.program.communicate(timeout=60)[1].decode().splitlines()
-        check("its status", server.program.returncode == 1, server.program.returncode)
-        wanted = "muxd: the session's trail is full: start another session"
-        check("what the server says", errors[-1] == wanted, errors[-1])
-        found = [line.split()[-2] for line in errors if line.endswith(" percent")]
-        check("and before", found == ["50", "75", "90", "99"], found)
+        equal("its status", server.program.returncode, 1)
+        equal("what the server says", errors[-1], "muxd: the session's trail is full: start another session")
+        equal("and before", [it.split()[-2] for it in errors if it.endswith(" percent")], ["50", "75", "90", "99"])
         went = sum(line.endswith(" went: the trail is full") for line in errors)
-        check("each client and the window is told to have gone", went == len(USERS) + 1, went)
+        equal("each client and the window is told to have gone", went, len(USERS) + 1)
         # The server is the one child that was waited for.
         figure("its memory", resource.getrusage(resource.RUSAGE_CHILDREN).ru_maxrss * 1024 / 1e6, MOST, "MB")
 
 
-if __name__ == "__main__":
-    play.main((full, day), ["muxd"], {"--loops": {"type": int, "default": 2, "help": "how many the server has"}})
+play.main((full, day), ["muxd"], {"--loops": {"type": int, "default": 2, "help": "how many the server has"}})
