@@ -1,6 +1,8 @@
 -- The folder of a path, by its last '/'.
-use Rattle.std.proofs.Common.{◌≡◌, ◌∙◌, ◌<◌, ℕ, List, [], ◌∷◌, ◌++◌, length, take, drop, refl, sym, ap, ap₂, subst, arith, eqb}
+use Rattle.std.proofs.Common.{◌≡◌, ◌∙◌, ℕ, List, [], ◌∷◌, ◌++◌, take, drop, refl, sym, ap, ap₂, subst, arith, eqb}
+use Rattle.std.proofs.Common.{Option, None}
 use Rattle.std.specs.List.{Contains}
+use Rattle.std.specs.Option.{MatchOption}
 use Rattle.std.specs.Str.{NoCharPasses}
 use Rattle.std.specs.Str.Pattern.{RFindsChar, SplitsAroundMatch}
 use Rattle.std.proofs.lemmas.Grind.{get_or_default_zero}
@@ -8,6 +10,10 @@ use Rattle.std.proofs.lemmas.List.{take-append-drop}
 use Rattle.std.proofs.lemmas.List.Elements.{Contains-append_right}
 use Rattle.std.proofs.lemmas.Str.Pattern.{NoCharPasses-char, drop_at_char}
 use Rattle.server_client.specs.Comebacks.{IsIn}
+
+-- what a match says of no value
+pub none_of : {A : Type 0} (o : Option A) (P : Type 0) (Q : A → Type 0) → o ≡ None → MatchOption o P Q → P
+none_of o P Q none h = subst (λ p. MatchOption p P Q) none h
 
 has_none : (l : List ℕ) → NoCharPasses (λ d. eqb d 47) l → Contains l 47 → ⊥
 has_none l none c =

@@ -1,8 +1,7 @@
 //! Writes to standard output and the sizes' file, and sends frames to the server.
 
-ghost use Rattle.std.specs.Prelude.{◌≡◌, ◌↔◌, ◌≤◌, length, [], IfOk, IsTrue, OnOk};
+ghost use Rattle.std.specs.Prelude.{◌≤◌, length, OnOk};
 ghost use Rattle.std.specs.Io.KnownBytes.{Appends};
-ghost use Rattle.client_peer.specs.Sending.{left};
 ghost use Rattle.server_client.specs.Sending.{SendsSome};
 
 use crate::shared::SharedPeer;
@@ -11,7 +10,8 @@ use client_peer::{Batch, Output};
 use client_words::{PeerFault, RefusedPart};
 use std::alloc::Global;
 use std::fs::File;
-use std::io::{self, ErrorKind, Write};
+use std::io;
+use std::io::{ErrorKind, Write};
 use std::os::unix::net::UnixStream;
 use std::sync::{Arc, Wait};
 
@@ -42,9 +42,10 @@ pub fn write_out<R: PeerHost + Wait, O: Sink>(
             .wait_while(rt, seat, |seat| !seat.peer.has_output());
         let waiting = seat.peer.begin_writing();
         drop(seat);
-        let fault = write(output, sizes, waiting)
-            .err()
-            .map(|error| PeerFault::Refused(RefusedPart::Output, error));
+        let fault = match write(output, sizes, waiting) {
+            Ok(()) => None,
+            Err(error) => Some(PeerFault::Refused(RefusedPart::Output, error)),
+        };
         let mut seat = shared.seat.lock(rt);
         seat.peer.end_writing(fault);
         let has_ended = seat.peer.end.is_some();
@@ -66,25 +67,24 @@ fn send_once<S: Write>(stream: &mut S, batch: &mut Batch) -> io::Result<usize>
     Ok(count)
 }
 
-// Sends all bytes, or fewer if the socket has a time limit and takes nothing for that time. Returns whether all are
-// sent; after an error the socket takes no more.
-fn send_some<S: Write>(stream: &mut S, batch: &mut Batch) -> io::Result<bool>
-    ensures sends { SendsSome (S.contents stream.old) batch.old (S.contents stream.new) batch.new }
-    ensures whole { IfOk result (λ is_whole. IsTrue is_whole ↔ (left batch.new ≡ [])) }
+// Sends all bytes, or fewer if the socket has a time limit and takes nothing for that time. Returns
+// whether the socket is open.
+fn send_some<S: Write>(stream: &mut S, batch: &mut Batch) -> bool
+    ensures { SendsSome (S.contents stream.old) batch.old (S.contents stream.new) batch.new }
 {
     'writes: for _ in 0..=batch.frames.len() {
         if batch.sent >= batch.frames.len() {
             break;
         }
         match send_once(stream, batch) {
-            Ok(0) => return Err(ErrorKind::WriteZero.into()),
+            Ok(0) => return false,
             Ok(_) => {}
             Err(error) if error.kind() == ErrorKind::WouldBlock => break,
             Err(error) if error.kind() == ErrorKind::Interrupted => {}
-            Err(error) => return Err(error),
+            Err(_) => return false,
         }
     }
-    Ok(batch.sent >= batch.frames.len())
+    true
 }
 
 // Takes the frames that wait, with their connection.
@@ -102,9 +102,9 @@ pub fn send<R: Wait>(rt: &R, shared: &SharedPeer) {
             break;
         };
         let mut socket: &UnixStream = &stream;
-        let sent = send_some(&mut socket, &mut batch);
+        let is_open = send_some(&mut socket, &mut batch);
         let mut seat = shared.seat.lock(rt);
-        let kept = seat.peer.end_sending(batch, sent.is_ok());
+        let kept = seat.peer.end_sending(batch, is_open);
         let goes_on = kept.is_ok() && !seat.peer.is_stuck;
         drop(seat);
         shared.work.notify_all();

@@ -1,5 +1,5 @@
 use Rattle.std.proofs.Common.{rules, refl, inl, inr}
-use Rattle.server_client.proofs.Places.{in_front, in_none, in_root}
+use Rattle.server_client.proofs.Places.{in_front, in_none, in_root, none_of}
 use Rattle.server_client.proofs.waiting.has_place.Goals as goal
 
 pub returns-in-Some : goal.returns-in-Some
@@ -25,5 +25,9 @@ returns-in_default g c = record {
 
 pub returns-in_default-2 : goal.returns-in_default-2
 returns-in_default-2 g c = record {
-  is = inr (in_none c.args.arguments.now.socket.now c.in_default.ensures.cases, refl);
+  is = inr (
+    in_none c.args.arguments.now.socket.now
+        (none_of c.rsplit_once.result _ _ c.in_default.is c.rsplit_once.ensures.cases),
+    refl,
+  );
 }
