@@ -1,5 +1,7 @@
 -- What the system says of files and does with connections, and the mark beside a socket.
-use Rattle.std.specs.Prelude.{◌≡◌, ◌⊎◌, ℕ, ℤ, ◌<ℤ◌, ◌≤ℤ◌, Bool, false, MatchBool, List, [], ◌++◌, codes, Option, Some}
+use Rattle.std.specs.Prelude.{◌≡◌, ◌⊎◌, ℕ, ℤ, ◌<ℤ◌, ◌≤ℤ◌, Bool, false, MatchBool, List, [], ◌++◌, codes, Option, Some, None}
+use Rattle.std.specs.Arc.{arc_value}
+use Rattle.std.specs.declared.sync.Arc.{Arc}
 use Rattle.std.specs.declared.net.unix.UnixStream.{UnixStream}
 use Rattle.client_peer.specs.declared.meeting.SessionMark.{SessionMark}
 
@@ -13,8 +15,8 @@ IsAsNew (Some it) (Some other) = IsNoEarlier it other
 IsAsNew it other = ⊥
 
 -- What files say: whether one is there, this was read of one, nothing was, and one was written at this time, if there
--- is one. What was done with connections: one was made to a socket, one took these bytes, and the sending side of one
--- was ended.
+-- is one. What was done with connections: one was made to a socket, one took these bytes, the sending side of one was
+-- ended, and whether the other end of one is still there.
 pub record Disk : Type 1 where
   pub stands : List ℕ → Bool → Type 0
   pub has : List ℕ → List ℕ → Type 0
@@ -23,6 +25,7 @@ pub record Disk : Type 1 where
   pub reached : List ℕ → UnixStream → Type 0
   pub took : UnixStream → List ℕ → Type 0
   pub ended : UnixStream → Type 0
+  pub is_open : UnixStream → Bool → Type 0
 
 abbrev pub anything : Disk
 anything = record {
@@ -33,7 +36,13 @@ anything = record {
   reached = λ path stream. Unit {0};
   took = λ stream bytes. Unit {0};
   ended = λ stream. Unit {0};
+  is_open = λ stream is. Unit {0};
 }
+
+-- whether the server is there that a connection was made to; without a connection none is
+abbrev pub IsHere : {Z : Type 0} → Disk → Option (Arc UnixStream Z) → Bool → Type 0
+IsHere disk (Some stream) is_here = disk.is_open (arc_value stream) is_here
+IsHere disk None is_here = is_here ≡ false
 
 -- The answer is what the times say at which two files were written.
 pub record Compares (disk : Disk) (path other : List ℕ) (is_new : Bool) : Type 0 where

@@ -6,12 +6,11 @@ ghost use Rattle.server_client.specs.Marks.{Compares, Disk, IsMarkOf, IsNoEarlie
 use client_peer::SessionMark;
 use client_words::Arguments;
 use std::alloc::{AllocError, Global};
-use std::fs::File;
-use std::io::Write;
+use std::fs::{self, File};
+use std::io::{self, Write};
 use std::net::Shutdown;
 use std::os::unix::fs::MetadataExt;
 use std::os::unix::net::UnixStream;
-use std::{fs, io};
 
 // The most bytes of a file beside the socket that is read.
 const MOST_BESIDE: u64 = 65_536;
@@ -32,6 +31,10 @@ pub trait Connects {
     /// Ends the sending side of a connection.
     fn shut(&self, stream: &UnixStream) -> io::Result<()>
         ensures { OnOk result ((disk self.now).ended stream.now) };
+
+    /// Whether the server hasn't hung up.
+    fn is_open(&self, stream: &UnixStream) -> bool
+        ensures { (disk self.now).is_open stream.now result };
 
     /// Whether there is a file.
     fn is_there(&self, path: &str) -> bool
@@ -61,6 +64,12 @@ impl Connects for HostRuntime {
 
     fn shut(&self, stream: &UnixStream) -> io::Result<()> {
         stream.shutdown(Shutdown::Write)
+    }
+
+    // A write of no bytes tells.
+    fn is_open(&self, stream: &UnixStream) -> bool {
+        let mut writer = stream;
+        writer.write(b"").is_ok()
     }
 
     fn is_there(&self, path: &str) -> bool {

@@ -67,12 +67,12 @@ fn tell_left<E: Write>(ending: &PeerEnding, arguments: &Arguments<'_>, errors: &
     if !arguments.why {
         return;
     }
+    let socket = arguments.socket;
     let _ = match ending.end {
         Ok(why) => writeln!(errors, "mux: {}", gone(why)),
         Err(_) => writeln!(
             errors,
-            "mux: left without an answer of the server at {}",
-            arguments.socket
+            "mux: left without an answer of the server at {socket}"
         ),
     };
 }
@@ -97,7 +97,8 @@ pub fn tell_end<E: Write>(
     if ending.is_unsure {
         let _ = writeln!(
             errors,
-            "mux: the window isn't opened again, in case the session is another one: {}.session is missing or older than the socket (see muxd-run --again)",
+            "mux: the window isn't opened again, in case the session is another one: \
+             {}.session is missing or older than the socket (see muxd-run --again)",
             arguments.socket
         );
     }

@@ -2,7 +2,7 @@
 
 use crate::PeerHost;
 use crate::opening::Door;
-use crate::shared::{PeerSeat, SharedPeer, is_open};
+use crate::shared::{PeerSeat, SharedPeer};
 use attach_proto::{LONGEST, Why};
 use client_peer::ReadPiece;
 use client_words::{PeerFault, RefusedPart};
@@ -80,7 +80,7 @@ fn wait_for_room<R: PeerHost + Wait>(rt: &R, shared: &SharedPeer, stream: &UnixS
         if !waited.timed_out() {
             return false;
         }
-        if !is_open(stream) {
+        if !rt.is_open(stream) {
             return true;
         }
     }

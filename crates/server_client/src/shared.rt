@@ -4,18 +4,16 @@ ghost use Rattle.std.specs.Prelude.{◌≡◌, Bool};
 ghost use Rattle.client_peer.specs.Meeting.{Learns, Meets};
 ghost use Rattle.client_peer.specs.declared.meeting.Meeting.TheVariants.{Same};
 ghost use Rattle.server_client.specs.Comebacks.{BeginsAgain};
-ghost use Rattle.server_client.specs.Marks.{IsMarkOf};
+ghost use Rattle.server_client.specs.Marks.{IsHere, IsMarkOf};
 
 use crate::PeerHost;
 use attach_proto::{Reader, Side};
 use client_peer::{Meeting, Peer, SessionMark};
 use client_words::Arguments;
 use std::alloc::{AllocError, Global};
-use std::io::Write;
 use std::os::unix::net::UnixStream;
 use std::sync::{Arc, Condvar, Mutex, Wait};
-use std::thread;
-use std::thread::Threads;
+use std::thread::{self, Threads};
 
 /// A peer with its present connection.
 #[derive(Drop)]
@@ -48,18 +46,21 @@ impl PeerSeat {
     }
 
     /// Takes the session's name for the peer, as long as its server is there.
-    pub fn learn<R: PeerHost>(&mut self, _rt: &R, arguments: &Arguments<'_>, mark: SessionMark)
-        requires { IsMarkOf (R.disk _rt.now) arguments.now.socket.now mark }
-        ensures { (is_here : Bool) × Learns self.old.peer mark is_here self.new.peer }
+    pub fn learn<R: PeerHost>(&mut self, rt: &R, arguments: &Arguments<'_>, mark: SessionMark)
+        requires { IsMarkOf (R.disk rt.now) arguments.now.socket.now mark }
+        ensures { (is_here : Bool) × IsHere (R.disk rt.now) self.old.stream is_here
+            × Learns self.old.peer mark is_here self.new.peer }
     {
-        let is_here = self.is_here();
+        let is_here = self.is_here(rt);
         self.peer.learn(mark, is_here);
     }
 
     /// Whether the server is there that the peer is connected to.
-    pub fn is_here(&self) -> bool {
+    pub fn is_here<R: PeerHost>(&self, rt: &R) -> bool
+        ensures { IsHere (R.disk rt.now) self.now.stream result }
+    {
         match &self.stream {
-            Some(stream) => is_open(stream),
+            Some(stream) => rt.is_open(stream),
             None => false,
         }
     }
@@ -97,12 +98,6 @@ impl SharedPeer {
     }
 }
 
-/// Whether the server hasn't hung up, which a write of no bytes tells.
-pub fn is_open(stream: &UnixStream) -> bool {
-    let mut stream = stream;
-    stream.write(b"").is_ok()
-}
-
 /// Starts a thread for a peer. Nobody joins it: it may wait for its source for ever, and the program
 /// ends without it.
 pub fn start_thread<R, F>(
@@ -117,8 +112,6 @@ where
 {
     let theirs = Arc::try_clone(shared)?;
     let rt_there = *rt;
-    match thread::spawn(rt, move || run(&rt_there, &theirs)) {
-        Ok(_) => Ok(()),
-        Err(error) => Err(AllocError::from(error)),
-    }
+    thread::spawn(rt, move || run(&rt_there, &theirs))?;
+    Ok(())
 }

@@ -1,8 +1,9 @@
 //! Waits for a peer's end, and does in time what it does by itself.
 
-ghost use Rattle.std.specs.Prelude.{◌≡◌, ◌++◌, Bool, IfOk};
-ghost use Rattle.client_peer.specs.declared.meeting.Meeting.TheVariants.{Same};
-ghost use Rattle.server_client.specs.Comebacks.{Judges, LetsPass, OpensAgain, Returns, WaitsForMark};
+ghost use Rattle.std.specs.Prelude.{◌≡◌, ◌++◌, Bool, IfOk, OnErr};
+ghost use Rattle.client_peer.specs.Meeting.{Meets};
+ghost use Rattle.client_peer.specs.declared.meeting.Meeting.TheVariants.{Older, Same};
+ghost use Rattle.server_client.specs.Comebacks.{HasPlace, IsSeen, Judges, LetsPass, OpensAgain, Returns, WaitsForMark};
 ghost use Rattle.server_client.specs.Lines.{IsHidden, has_line};
 ghost use Rattle.server_client.specs.Marks.{IsMarkOf};
 
@@ -19,8 +20,7 @@ use client_words::{Arguments, PeerFault};
 use std::alloc::{AllocError, Global};
 use std::fs::{File, Files};
 use std::sync::{Arc, Wait};
-use std::thread;
-use std::thread::Threads;
+use std::thread::{self, Threads};
 use std::time::{Duration, Instant};
 
 // How long to wait before the next look at the time, and before the next try to connect, in
@@ -69,21 +69,59 @@ impl Comeback {
         self.older = if waits && is_here { self.older + 1 } else { 0 };
         waits
     }
+
+    // What comes of what the peer met (`met.0`), if the socket is there or isn't (`met.1`, which counts for an older
+    // mark alone). A window waits for a mark of the server that made the socket, but not for long.
+    fn judge<R: PeerHost>(&mut self, _rt: &R, socket: &str, peer: &mut Peer, met: (Meeting, bool))
+        requires { met.0 ≡ Older → (R.disk _rt.now).stands socket.now met.1 }
+        ensures counts { (waits : Bool) × WaitsForMark self.old met.0 met.1 waits self.new
+            × Judges met.0 waits peer.old peer.new }
+    {
+        let (met, is_here) = met;
+        if !self.waits(met, is_here) && met != Meeting::Same {
+            peer.stay_away(met);
+        }
+    }
+
+    // Judges what the peer met at a socket. No lock is held while the disk is asked, which may take long.
+    fn weigh<R: PeerHost + Wait>(&mut self, rt: &R, shared: &SharedPeer, path: &str, met: Meeting) {
+        let is_here = met == Meeting::Older && rt.is_there(path);
+        self.judge(rt, path, &mut shared.seat.lock(rt).peer, (met, is_here));
+    }
+
+    // Tries to open the window again by the mark as it is now. While it may be an earlier server's, it rests a moment.
+    fn open<R: PeerHost + Wait>(&mut self, rt: &R, shared: &SharedPeer, arguments: &Arguments<'_>) {
+        let Ok(mark) = mark_of(rt, arguments.socket) else {
+            return thread::sleep(rt, Duration::from_millis(PAUSE));
+        };
+        let number = shared.seat.lock(rt).peer.page_number;
+        let Ok(is_hidden) = is_hidden(rt, arguments, number) else {
+            return thread::sleep(rt, Duration::from_millis(PAUSE));
+        };
+        let page = (number, is_hidden);
+        let opened = open_again(rt, &mut shared.seat.lock(rt), arguments, &mark, page);
+        match opened {
+            Ok(met) => self.weigh(rt, shared, arguments.socket, met),
+            Err(_) => shared.seat.lock(rt).peer.end_by(Err(PeerFault::NoMemory)),
+        }
+        shared.work.notify_all();
+        if matches!(opened, Ok(Meeting::Older)) {
+            thread::sleep(rt, Duration::from_millis(PAUSE));
+        }
+    }
 }
 
 // Milliseconds since the peer began. A clock that can't be read stands still.
 fn now<R: PeerHost>(rt: &R, began: Option<Instant>) -> u64 {
-    let Some(began) = began else {
-        return 0;
-    };
-    match began.elapsed(rt) {
-        Ok(time) => u64::try_from(time.as_millis()).unwrap_or(u64::MAX),
-        Err(_) => 0,
+    match began.map(|began| began.elapsed(rt)) {
+        Some(Ok(time)) => u64::try_from(time.as_millis()).unwrap_or(u64::MAX),
+        _ => 0,
     }
 }
 
 // Looks at the time. Waits if there is nothing to do.
 fn look<R: PeerHost + Wait>(rt: &R, shared: &SharedPeer, began: Option<Instant>) -> PeerTask {
+    let shortly = Duration::from_millis(SHORTLY);
     let mut seat = shared.seat.lock(rt);
     // Without memory it looks again.
     let task = seat
@@ -95,11 +133,7 @@ fn look<R: PeerHost + Wait>(rt: &R, shared: &SharedPeer, began: Option<Instant>)
     }
     match task {
         PeerTask::Wait => drop(shared.news.wait(rt, seat)),
-        PeerTask::WaitShortly => drop(
-            shared
-                .news
-                .wait_timeout(rt, seat, Duration::from_millis(SHORTLY)),
-        ),
+        PeerTask::WaitShortly => drop(shared.news.wait_timeout(rt, seat, shortly)),
         _ => drop(seat),
     }
     task
@@ -115,7 +149,9 @@ fn is_beside<R: PeerHost>(rt: &R, socket: &str, name: &str) -> Result<bool, Allo
 }
 
 // Whether the socket's folder is there. Without it no server comes back.
-fn has_place<R: PeerHost>(rt: &R, arguments: &Arguments<'_>) -> bool {
+fn has_place<R: PeerHost>(rt: &R, arguments: &Arguments<'_>) -> bool
+    ensures { HasPlace (R.disk rt.now) arguments.now.socket.now result }
+{
     match arguments.socket.rsplit_once('/') {
         Some((folder, _)) if !folder.is_empty() => rt.is_there(folder),
         _ => true,
@@ -154,60 +190,23 @@ fn has_line(lines: &[u8], wanted: &[u8]) -> bool
         .any(|line| line == wanted)
 }
 
-// What comes of what the peer met. A window waits for a mark of the server that made the socket, but not for long.
-fn judge<R: PeerHost>(
-    rt: &R,
-    peer: &mut Peer,
-    arguments: &Arguments<'_>,
-    comeback: &mut Comeback,
-    met: Meeting,
-)
-    ensures counts { (is_here waits : Bool) × (R.disk rt.now).stands arguments.now.socket.now is_here
-        × WaitsForMark comeback.old met is_here waits comeback.new × Judges met waits peer.old peer.new }
-{
-    let waits = comeback.waits(met, rt.is_there(arguments.socket));
-    if !waits && met != Meeting::Same {
-        peer.stay_away(met);
-    }
-}
-
-// Opens a window again in a server that has let it in, if what stands beside the socket is that server's.
+// Opens a window again in a server that has let it in, if the mark is that server's. `page` is the number that the
+// window had when its page was looked for, and whether the page is hidden.
 fn open_again<R: PeerHost>(
     rt: &R,
     seat: &mut PeerSeat,
     arguments: &Arguments<'_>,
     mark: &SessionMark,
+    page: (u8, bool),
 ) -> Result<Meeting, AllocError>
-    requires { IsMarkOf (R.disk rt.now) arguments.now.socket.now mark.now }
-    ensures { IfOk result (λ met. met ≡ Same
-        → OpensAgain (R.disk rt.now) arguments.now seat.old.peer seat.new.peer) }
+    requires mark { IsMarkOf (R.disk rt.now) arguments.now.socket.now mark.now }
+    requires page { IsHidden (R.disk rt.now) arguments.now page.0 page.1 }
+    ensures opens { IfOk result (λ met.
+        OpensAgain (R.disk rt.now) arguments.now mark.now page.0 seat.old met seat.new) }
+    ensures fault { OnErr result (Meets seat.old.peer mark.now Same) }
 {
-    let is_hidden = is_hidden(rt, arguments, seat.peer.page_number)?;
-    let is_here = seat.is_here();
-    seat.peer.reopen(mark, is_here, is_hidden)
-}
-
-// Tries to open the window again by the mark as it is now. While it may be an earlier server's mark, it rests a moment.
-fn reopen<R: PeerHost + Wait>(
-    rt: &R,
-    shared: &SharedPeer,
-    arguments: &Arguments<'_>,
-    comeback: &mut Comeback,
-) {
-    let Ok(mark) = mark_of(rt, arguments.socket) else {
-        return thread::sleep(rt, Duration::from_millis(PAUSE));
-    };
-    let mut seat = shared.seat.lock(rt);
-    let opened = open_again(rt, &mut seat, arguments, &mark);
-    match opened {
-        Ok(met) => judge(rt, &mut seat.peer, arguments, comeback, met),
-        Err(_) => seat.peer.end_by(Err(PeerFault::NoMemory)),
-    }
-    drop(seat);
-    shared.work.notify_all();
-    if matches!(opened, Ok(Meeting::Older)) {
-        thread::sleep(rt, Duration::from_millis(PAUSE));
-    }
+    let is_here = seat.is_here(rt) && seat.peer.page_number == page.0;
+    seat.peer.reopen(mark, is_here, page.1)
 }
 
 // Takes the session's name for the peer. The server's mark may come a moment after its socket. Returns whether no more
@@ -246,26 +245,35 @@ fn come_back<R: PeerHost + Threads + Wait + Files<File = File>>(
     let mark = mark_of(rt, arguments.socket)?;
     let mut seat = shared.seat.lock(rt);
     let met = seat.begin(rt, arguments, &mark);
-    judge(rt, &mut seat.peer, arguments, comeback, met);
+    let size = (seat.peer.rows, seat.peer.columns);
+    drop(seat);
+    comeback.weigh(rt, shared, arguments.socket, met);
     if met != Meeting::Same {
         return Ok(());
     }
-    let size = (seat.peer.rows, seat.peer.columns);
-    drop(seat);
     start(rt, shared, another_door(rt, arguments, size, mark.name)?)
 }
 
-// Decides whether the peer comes back after its connection has ended, by what stands beside the socket.
+// Whether the server ended as planned, to start again, and whether the socket's folder is there.
+fn look_around<R: PeerHost>(rt: &R, arguments: &Arguments<'_>) -> Result<(bool, bool), AllocError>
+    ensures { IfOk result (λ seen. IsSeen (R.disk rt.now) arguments.now seen.0 seen.1) }
+{
+    let is_planned = is_beside(rt, arguments.socket, ".again")?;
+    Ok((is_planned, has_place(rt, arguments)))
+}
+
+// Decides whether the peer comes back after its connection has ended, by what was seen beside the socket.
 fn returns<R: PeerHost>(
-    rt: &R,
+    _rt: &R,
     peer: &mut Peer,
     arguments: &Arguments<'_>,
     time: u64,
+    seen: (bool, bool),
 ) -> Result<bool, AllocError>
-    ensures { IfOk result (λ comes. Returns (R.disk rt.now) arguments.now time comes peer.old peer.new) }
+    requires { IsSeen (R.disk _rt.now) arguments.now seen.0 seen.1 }
+    ensures { IfOk result (λ comes. Returns (R.disk _rt.now) arguments.now time comes peer.old peer.new) }
 {
-    let is_planned = is_beside(rt, arguments.socket, ".again")?;
-    peer.comes_back(time, is_planned, has_place(rt, arguments))
+    peer.comes_back(time, seen.0, seen.1)
 }
 
 // Asks whether the peer comes back after its connection has ended, and lets it.
@@ -276,7 +284,10 @@ fn ask<R: PeerHost + Threads + Wait + Files<File = File>>(
     time: u64,
     comeback: &mut Comeback,
 ) {
-    let comes_back = returns(rt, &mut shared.seat.lock(rt).peer, arguments, time);
+    let Ok(seen) = look_around(rt, arguments) else {
+        return thread::sleep(rt, Duration::from_millis(PAUSE));
+    };
+    let comes_back = returns(rt, &mut shared.seat.lock(rt).peer, arguments, time, seen);
     let Ok(comes_back) = comes_back else {
         return thread::sleep(rt, Duration::from_millis(PAUSE));
     };
@@ -303,7 +314,7 @@ pub fn wait<R: PeerHost + Threads + Wait + Files<File = File>, I: Source>(
         match look(rt, shared, began) {
             PeerTask::Wait | PeerTask::WaitShortly => {}
             PeerTask::Send => send(rt, shared),
-            PeerTask::Reopen => reopen(rt, shared, arguments, &mut comeback),
+            PeerTask::Reopen => comeback.open(rt, shared, arguments),
             PeerTask::Begin => {
                 // Input that is sent may end the server, so the first try comes before it.
                 let is_known = arguments.again == 0 || learn(rt, shared, arguments, 1);
