@@ -1,5 +1,10 @@
 //! What the program does with its words.
 
+ghost use Rattle.std.specs.Prelude.{◌≡◌, IfOk, IfSome, None};
+ghost use Rattle.clap.specs.Words.{kind_of};
+ghost use Rattle.trail_files.specs.Showing.{ShowsFrom};
+ghost use Rattle.mux_trail.specs.Statuses.{IsChecked, IsHelped, IsShown, fault_status};
+
 use crate::ask::ask;
 use crate::diary::tell_log;
 use crate::streams::{Following, Outlet};
@@ -25,7 +30,9 @@ fn check<R: BufRead, W: Write>(
     owner: Option<UserId>,
     reader: &mut R,
     output: &mut W,
-) -> Result<u8, TrailFault> {
+) -> Result<u8, TrailFault>
+    ensures { IfOk result (λ status. IsChecked status owner (R.remaining reader.old)) }
+{
     let heading = heading_of(alloc, reader)?;
     let owner = owner.unwrap_or(heading.owner);
     match judge(alloc, heading.edition, owner, reader, output) {
@@ -42,7 +49,9 @@ fn show_all<R: BufRead, W: Write>(
     heading: Heading,
     reader: &mut R,
     output: &mut W,
-) -> io::Result<Option<u64>> {
+) -> io::Result<Option<u64>>
+    ensures { IfOk result (λ stray. IfSome (R.remaining reader.old) (ShowsFrom 2 stray)) }
+{
     match form {
         LineFormat::Plain => tell_heading(alloc, heading, output)?,
         LineFormat::Json => {}
@@ -56,7 +65,9 @@ fn show<R: BufRead, W: Write>(
     form: LineFormat,
     reader: &mut R,
     output: &mut W,
-) -> Result<u8, TrailFault> {
+) -> Result<u8, TrailFault>
+    ensures { IfOk result (λ status. (status ≡ 0) × IsShown None (R.remaining reader.old)) }
+{
     let heading = heading_of(alloc, reader)?;
     match show_all(alloc, form, heading, reader, output) {
         Ok(None) => Ok(LEGAL),
@@ -126,7 +137,9 @@ fn tell_misused<E: Write>(alloc: Global, error: &Error, errors: &mut E) -> io::R
 }
 
 /// Writes the help, with status 0, or which words aren't understood, with status 2.
-fn tell<W: Write, E: Write>(alloc: Global, error: &Error, output: &mut W, errors: &mut E) -> u8 {
+fn tell<W: Write, E: Write>(alloc: Global, error: &Error, output: &mut W, errors: &mut E) -> u8
+    ensures { IsHelped (kind_of error.now) result }
+{
     if error.use_stderr() {
         let _ = tell_misused(alloc, error, errors);
         return TROUBLE;
@@ -177,7 +190,9 @@ fn asked_by<'a, W: Write, E: Write>(
 }
 
 /// Writes why a file isn't read to its end, and gives the status to exit with.
-fn tell_fault<E: Write>(alloc: Global, fault: TrailFault, path: &str, errors: &mut E) -> u8 {
+fn tell_fault<E: Write>(alloc: Global, fault: TrailFault, path: &str, errors: &mut E) -> u8
+    ensures { result ≡ fault_status fault }
+{
     let _ = fault.write(alloc, path, errors);
     match fault {
         TrailFault::NoHeader(_) | TrailFault::NoLine(_) => ILLEGAL,

@@ -1,6 +1,9 @@
 //! A file that grows while it is read, and standard output, which may take no more.
 
+ghost use Rattle.std.specs.Prelude.{◌≡◌, is_err};
 ghost use Rattle.std.specs.Io.{ReadsAtMost, WritesAtMost};
+ghost use Rattle.std.specs.Io.KnownBytes.{WriteAppends};
+ghost use Rattle.mux_trail.specs.Statuses.{fault_with};
 
 use std::io::{self, Read, Write};
 use std::thread;
@@ -62,7 +65,9 @@ impl<'a, W: Write> Outlet<'a, W> {
     }
 
     /// The fault that stopped the program, which is one of standard output if that failed.
-    pub fn fault_of(&self, fault: TrailFault) -> TrailFault {
+    pub fn fault_of(&self, fault: TrailFault) -> TrailFault
+        ensures { result ≡ fault_with self.now.has_failed fault }
+    {
         match fault {
             TrailFault::Io(error) if self.has_failed => TrailFault::NotWritten(error),
             fault => fault,
@@ -71,7 +76,9 @@ impl<'a, W: Write> Outlet<'a, W> {
 
     /// Writes once, and notes whether that failed.
     fn write_some(&mut self, buf: &[u8]) -> io::Result<usize>
-        ensures { WritesAtMost result buf.now }
+        ensures bound { WritesAtMost result buf.now }
+        ensures bytes { WriteAppends (W.contents self.old.output.now) (W.contents self.new.output.now) result buf.now }
+        ensures failed { self.new.has_failed ≡ is_err result }
     {
         let written = self.output.write(buf);
         self.has_failed = written.is_err();
@@ -80,6 +87,8 @@ impl<'a, W: Write> Outlet<'a, W> {
 }
 
 impl<W: Write> Write for Outlet<'_, W> {
+    ghost contents = { λ o. W.contents o.output.now };
+
     fn write(&mut self, buf: &[u8]) -> io::Result<usize> {
         self.write_some(buf)
     }
