@@ -3,7 +3,6 @@
 
 mod acceptor;
 mod latch;
-mod log_lines;
 mod loop_handle;
 mod loops;
 mod serving;

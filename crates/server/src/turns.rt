@@ -4,13 +4,14 @@ ghost use Rattle.std.specs.Prelude.{◌≡◌, IfSome};
 ghost use Rattle.server.specs.Events.{Shows, came_by, polled, token_of};
 
 use crate::acceptor::{Acceptor, NONE};
-use crate::log_lines::NewsLine;
 use crate::loop_handle::{EndCause, HandCalls, HandedStream, LoopHandle, LoopStart, Shared};
+use attach_proto::Why;
 use mio::event::Event;
 use mio::{Events, Poll, Registry, Token};
-use server_loop::{Gate, Loop, News, ServerEnd, SessionSeat};
+use server_loop::{Gate, Loop, Name, News, ServerEnd, SessionSeat};
 use server_system::{KnownUsers, Looks, PeerSocket, SharedLooks, Wired};
 use server_turns::{Around, Backlog, Came, Learned, Turner};
+use std::fmt::{self, Display, Formatter};
 use std::io::{self, ErrorKind};
 use std::sync::atomic::{AtomicU64, Ordering};
 use std::sync::{OnceLock, Wait};
@@ -194,6 +195,38 @@ impl<'a, L: SharedLooks, E: EndCause> Around<Wired<PeerSocket<'a>>> for Inlet<'a
 
     fn pause(&mut self) -> io::Result<()> {
         self.poll(Some(Duration::from_millis(PAUSE)))
+    }
+}
+
+fn cause(why: Option<Why>) -> &'static str {
+    match why {
+        None => "its connection ended",
+        Some(Why::Detached) => "detached",
+        Some(Why::Removed) => "its user was removed",
+        Some(Why::SingleUser) => "the session is single-user",
+        Some(Why::Killed) => "killed",
+        Some(Why::Quit) => "quit",
+        Some(Why::TooFarBehind) => "too far behind",
+        Some(Why::Fault) => "a fault",
+        Some(Why::TrailFull) => "the trail is full",
+    }
+}
+
+// News, and how many strangers of its kind there were by now.
+#[derive(Clone, Copy)]
+struct NewsLine(News, u64);
+
+impl Display for NewsLine {
+    fn fmt<W: fmt::Write>(&self, f: &mut Formatter<W>) -> fmt::Result {
+        match self.0 {
+            News::Came(guest) => write!(f, "{guest} came"),
+            News::Went(guest, why) => write!(f, "{guest} went: {}", cause(why)),
+            News::Done(user) => write!(f, "a command of {}", Name(user)),
+            News::Refused(user) => write!(f, "a command of {} was refused", Name(user)),
+            News::WrongToken => write!(f, "unknown user or wrong token: {} by now", self.1),
+            News::Misfit => write!(f, "no first message: {} by now", self.1),
+            News::Filled(percent) => write!(f, "the trail is full to {percent} percent"),
+        }
     }
 }
 
