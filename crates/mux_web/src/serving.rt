@@ -23,7 +23,7 @@ const EAFNOSUPPORT: i32 = 97;
 const EVENTS: usize = 1024;
 
 // A bridge that does what the arguments ask for.
-fn bridge_of<'a, R: Host + Send + Sync + Threads + Wait + Eprint>(
+fn bridge_of<'a, R: Host + Send + Sync + Threads + Wait + Eprint + 'static>(
     rt: &R,
     options: WebOptions<'a>,
     site: Site,
@@ -49,7 +49,7 @@ fn bridge_of<'a, R: Host + Send + Sync + Threads + Wait + Eprint>(
 }
 
 // Serves browsers that come in through these listeners.
-fn serve_at<R: Host + Send + Sync + Threads + Wait + Eprint, O: Write>(
+fn serve_at<R: Host + Send + Sync + Threads + Wait + Eprint + 'static, O: Write>(
     rt: &R,
     options: WebOptions<'_>,
     site: Site,
@@ -96,7 +96,7 @@ fn listeners_at<R: Host>(
 }
 
 // Serves at an address of this machine.
-fn serve_address<R: Host + Send + Sync + Threads + Wait + Eprint, O: Write>(
+fn serve_address<R: Host + Send + Sync + Threads + Wait + Eprint + 'static, O: Write>(
     rt: &R,
     options: WebOptions<'_>,
     site: Site,
@@ -111,7 +111,7 @@ fn serve_address<R: Host + Send + Sync + Threads + Wait + Eprint, O: Write>(
 
 // Serves at a socket, which is removed if the system refuses to wait. A signal ends the program at once and
 // leaves it: the next start replaces it.
-fn serve_socket<R: Host + Send + Sync + Threads + Wait + Eprint, O: Write>(
+fn serve_socket<R: Host + Send + Sync + Threads + Wait + Eprint + 'static, O: Write>(
     rt: &R,
     options: WebOptions<'_>,
     site: Site,
@@ -149,7 +149,7 @@ fn site_at<R: ReadsFiles + AllocGlobal>(
     }
 }
 
-fn serve_asked<R: Host + Send + Sync + Threads + Wait + Eprint, O: Write>(
+fn serve_asked<R: Host + Send + Sync + Threads + Wait + Eprint + 'static, O: Write>(
     rt: &R,
     options: WebOptions<'_>,
     origins: &[&str],
@@ -168,7 +168,7 @@ fn serve_asked<R: Host + Send + Sync + Threads + Wait + Eprint, O: Write>(
 /// Serves until the system refuses to wait. Returns the status to exit with.
 pub fn run<R, O, E>(rt: &R, words: &[String], output: &mut O, errors: &mut E) -> u8
 where
-    R: Host + Send + Sync + Threads + Wait + Eprint,
+    R: Host + Send + Sync + Threads + Wait + Eprint + 'static,
     O: Write,
     E: Write,
 {
