@@ -1,9 +1,8 @@
 -- The list commands of the GNU Screen manual (acladd, aclchg, acldel, aclgrp, aclumask): the fault
 -- that refuses a command, which is the first from the left, and the acts of a command that is done.
 -- A name is `None` if its word is no name.
-use Rattle.std.specs.Prelude.{◌≡◌, ◌≤◌, Bool, true, false, not, ◌||◌, ◌&&◌, nat_lt, nat_le, List}
-use Rattle.std.specs.Prelude.{[], ◌∷◌, ◌++◌, Option, Some, None, Result, Ok, Err, map, length}
-use Rattle.std.specs.Prelude.{if◌then◌else◌}
+use Rattle.std.specs.Prelude.{◌≡◌, ◌≤◌, Bool, true, false, not, ◌||◌, ◌&&◌, nat_lt, nat_le, List, [], ◌∷◌, ◌++◌, Option}
+use Rattle.std.specs.Prelude.{Some, None, Result, Ok, Err, map, length, if◌then◌else◌}
 use Rattle.std.specs.Option.{option_or}
 use Rattle.acl_words.specs.Same.{same_user}
 pub use Rattle.acl_words.specs.Faults.{number_of_fault}
@@ -15,14 +14,11 @@ use Rattle.acl_words.specs.declared.bits.Bit.TheVariants.{Read, Write, Execute}
 use Rattle.acl_words.specs.declared.bits.BitChange.{BitChange}
 use Rattle.acl_words.specs.declared.act.Object.{Object}
 use Rattle.acl_words.specs.declared.act.Act.{Act}
-use Rattle.acl_words.specs.declared.act.Act.TheVariants.{Known, Gone, Set, Grouped, Masked, Preset}
-use Rattle.acl_words.specs.declared.act.Act.TheVariants.{Attached, Parted, Entered, Left, Mode}
-use Rattle.acl_words.specs.declared.act.Act.TheVariants.{Default}
+use Rattle.acl_words.specs.declared.act.Act.TheVariants.{Known, Gone, Set, Grouped, Masked, Preset, Attached, Parted}
+use Rattle.acl_words.specs.declared.act.Act.TheVariants.{Entered, Left, Mode, Default}
 use Rattle.acl_words.specs.declared.entries.AclFault.{AclFault}
-use Rattle.acl_words.specs.declared.entries.AclFault.TheVariants.{UnknownUser, OwnerKept}
-use Rattle.acl_words.specs.declared.entries.AclFault.TheVariants.{TooManyUsers, ReservedName}
-use Rattle.acl_words.specs.declared.entries.AclFault.TheVariants.{NoSuchGroup, NoMemory}
-use Rattle.acl_words.specs.declared.entries.AclFault.TheVariants.{TooManyGroups}
+use Rattle.acl_words.specs.declared.entries.AclFault.TheVariants.{UnknownUser, OwnerKept, TooManyUsers, ReservedName}
+use Rattle.acl_words.specs.declared.entries.AclFault.TheVariants.{NoSuchGroup, NoMemory, TooManyGroups}
 use Rattle.acl_words.specs.declared.leaders.Edition.{Edition}
 use Rattle.acl_words.specs.declared.entries.NewLeader.{NewLeader}
 use Rattle.acl_words.specs.declared.entries.NewLeader.TheVariants.{Nobody, Named}

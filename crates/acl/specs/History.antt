@@ -14,8 +14,7 @@ use Rattle.acl_words.specs.declared.act.Object.TheVariants.{Window, Command}
 use Rattle.acl_words.specs.declared.act.PresetKind.{PresetKind}
 use Rattle.acl_words.specs.declared.act.PresetKind.TheVariants as preset
 use Rattle.acl_words.specs.declared.act.Act.{Act}
-use Rattle.acl_words.specs.declared.act.Act.TheVariants.{Known, Gone, Set, Grouped, Masked, Preset}
-use Rattle.acl_words.specs.declared.act.Act.TheVariants.{Opened, Closed}
+use Rattle.acl_words.specs.declared.act.Act.TheVariants.{Known, Gone, Set, Grouped, Masked, Preset, Opened, Closed}
 use Rattle.acl_words.specs.declared.leaders.Edition.{Edition}
 pub use Rattle.acl_words.specs.Leaders.{among, leaders_with}
 

@@ -10,8 +10,7 @@ use Rattle.acl_words.specs.Same.{same_user, index_of_command}
 use Rattle.acl_words.specs.Leaders.{remaining_leaders}
 use Rattle.acl_words.specs.BitSets.{allows, with_bit, no_bits, all_bits}
 use Rattle.acl_words.specs.Slots.{slot_of, SlotsStandFor}
-use Rattle.acl.specs.History.{History, is_known, users_of, is_open, open_count, mask, preset_of}
-use Rattle.acl.specs.History.{has, leaders_of}
+use Rattle.acl.specs.History.{History, is_known, users_of, is_open, open_count, mask, preset_of, has, leaders_of}
 use Rattle.acl_words.specs.declared.user_id.UserId.{UserId}
 use Rattle.acl_words.specs.declared.bits.Bit.{Bit}
 use Rattle.acl_words.specs.declared.bits.Bits.{Bits}

@@ -1,14 +1,11 @@
 //! The acts of list commands, and the fault that refuses one: the first from the left.
 
-ghost use Rattle.std.specs.Prelude.{◌≡◌, ◌&&◌, ◌||◌, ◌++◌, ◌∷◌, [], not, Some, None, IfOk, IfErr};
-ghost use Rattle.std.specs.Prelude.{OnOk, OnErr, length};
+ghost use Rattle.std.specs.Prelude.{◌≡◌, ◌&&◌, ◌||◌, ◌++◌, ◌∷◌, [], not, Some, None, IfOk, IfErr, OnOk, OnErr, length};
 ghost use Rattle.std.specs.List.{list_any};
-ghost use Rattle.acl.specs.Commands.{Answers, Keeps, names_user, with_name, with_names, new_name};
-ghost use Rattle.acl.specs.Commands.{new_name_fault, new_acts, known_acts, name_sets, names_sets};
-ghost use Rattle.acl.specs.Commands.{add_acts, change_fault, change_acts};
-ghost use Rattle.acl.specs.Commands.{known_name_fault, removal_acts, leader_fault, chosen_leader};
-ghost use Rattle.acl.specs.Commands.{group_fault, group_acts, scope_fault, scope_acts, mask_fault};
-ghost use Rattle.acl.specs.Commands.{mask_acts};
+ghost use Rattle.acl.specs.Commands.{Answers, Keeps, names_user, with_name, with_names, new_name, new_name_fault};
+ghost use Rattle.acl.specs.Commands.{new_acts, known_acts, name_sets, names_sets, add_acts, change_fault, change_acts};
+ghost use Rattle.acl.specs.Commands.{known_name_fault, removal_acts, leader_fault, chosen_leader, group_fault};
+ghost use Rattle.acl.specs.Commands.{group_acts, scope_fault, scope_acts, mask_fault, mask_acts};
 ghost use Rattle.acl_words.specs.Same.{same_user};
 ghost use Rattle.acl.specs.History.{among};
 ghost use Rattle.acl.specs.Table.{users_in, led_by};

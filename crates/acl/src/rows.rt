@@ -7,8 +7,7 @@ ghost use Rattle.indexmap.specs.IndexMap.{spare};
 ghost use Rattle.acl_words.specs.Same.{same_user};
 ghost use Rattle.acl_words.specs.declared.command_name.TheConstants.CommandName.{COUNT};
 ghost use Rattle.acl_words.specs.declared.slots.TheConstants.{WINDOWS};
-ghost use Rattle.acl.specs.Table.{mask_bits, opening_bits, with_window, without_leader, bits_on};
-ghost use Rattle.acl.specs.Table.{with_right};
+ghost use Rattle.acl.specs.Table.{mask_bits, opening_bits, with_window, without_leader, bits_on, with_right};
 
 use acl_words::{Bit, Bits, CommandName, Edition, Leaders, Object, Slots, UserId, WINDOWS};
 use indexmap::IndexMap;

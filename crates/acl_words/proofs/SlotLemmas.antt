@@ -2,10 +2,10 @@
 use Rattle.std.proofs.Common.{◌≡◌, ◌≢◌, ◌∙◌, ℕ, zero, suc, ◌+◌, ◌<◌, Bool, true, false, ◌==◌, nat_eq, cond, ap, subst}
 use Rattle.std.proofs.Common.{sym, refl, arith, List, [], ◌∷◌, Option, Some, None, is_some, is_none, eq-eqb, zero-add}
 use Rattle.std.proofs.Common.{if◌then◌else◌, slice_index_or, slice_set, true≢false, length, map, position}
+use Rattle.std.proofs.Common.{◌≤◌, ◌-◌, replicate, unwrap_or, length-set}
 use Rattle.std.specs.List.{position_from}
 use Rattle.std.proofs.lemmas.Iterator.Adapters.{position_from-zero}
 use borrow.Author.Tests.{eqb-true}
-use Rattle.std.proofs.Common.{◌≤◌, ◌-◌, replicate, unwrap_or, length-set}
 use Rattle.acl_words.specs.Slots.{is_window, slot_of, without_window, free_slot, filled, SlotsStandFor}
 
 from_zero : (test : Option ℕ → Bool) (ws : List (Option ℕ)) → position test ws ≡ position_from test 0 ws

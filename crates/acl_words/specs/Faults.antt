@@ -1,10 +1,8 @@
 -- The number of each fault.
 use Rattle.std.specs.Prelude.{ℕ}
 use Rattle.acl_words.specs.declared.entries.AclFault.{AclFault}
-use Rattle.acl_words.specs.declared.entries.AclFault.TheVariants.{UnknownUser, OwnerKept}
-use Rattle.acl_words.specs.declared.entries.AclFault.TheVariants.{TooManyUsers, ReservedName}
-use Rattle.acl_words.specs.declared.entries.AclFault.TheVariants.{NoSuchGroup, NoMemory}
-use Rattle.acl_words.specs.declared.entries.AclFault.TheVariants.{TooManyGroups}
+use Rattle.acl_words.specs.declared.entries.AclFault.TheVariants.{UnknownUser, OwnerKept, TooManyUsers, ReservedName}
+use Rattle.acl_words.specs.declared.entries.AclFault.TheVariants.{NoSuchGroup, NoMemory, TooManyGroups}
 
 -- the number of a fault
 abbrev pub number_of_fault : AclFault → ℕ

@@ -1,8 +1,7 @@
 -- The numbers of the faults.
 use Rattle.std.specs.Prelude.{ℕ}
 use Rattle.attach_proto.specs.declared.fault.ProtoFault.{ProtoFault}
-use Rattle.attach_proto.specs.declared.fault.ProtoFault.TheVariants.{BadKind, TooLong, BadPayload}
-use Rattle.attach_proto.specs.declared.fault.ProtoFault.TheVariants.{WrongSide, NoMemory}
+use Rattle.attach_proto.specs.declared.fault.ProtoFault.TheVariants.{BadKind, TooLong, BadPayload, WrongSide, NoMemory}
 use Rattle.attach_proto.specs.declared.fault.WriteFault.{WriteFault}
 use Rattle.attach_proto.specs.declared.fault.WriteFault.TheVariants as write
 

@@ -2,8 +2,7 @@
 -- Each function that cites these definitions is proved to agree with `Streams` and `Spelling`.
 use Rattle.std.specs.Prelude.{ℕ, ◌+◌, ◌*◌, Bool, true, false, nat_lt, ◌==◌, if◌then◌else◌, List, []}
 use Rattle.std.specs.Prelude.{◌∷◌, length, take, find, Option, Some, None}
-use Rattle.attach_proto.specs.declared.fault.ProtoFault.TheVariants.{BadKind, TooLong, BadPayload}
-use Rattle.attach_proto.specs.declared.fault.ProtoFault.TheVariants.{WrongSide}
+use Rattle.attach_proto.specs.declared.fault.ProtoFault.TheVariants.{BadKind, TooLong, BadPayload, WrongSide}
 use Rattle.attach_proto.specs.declared.kind.Side.{Side}
 use Rattle.attach_proto.specs.declared.kind.Side.TheVariants.{Server, Peer}
 use Rattle.attach_proto.specs.declared.kind.Kind.{Kind}

@@ -3,13 +3,11 @@ use Rattle.std.specs.Prelude.{◌≡◌, ◌≢◌, ◌⊎◌, ℕ, ◌+◌, ◌
 use Rattle.std.specs.Prelude.{drop, Option, Result, Ok, Err, MatchOption}
 use Rattle.std.specs.List.{flat_map, AllByRecursion}
 use Rattle.attach_proto.specs.declared.fault.ProtoFault.{ProtoFault}
-use Rattle.attach_proto.specs.declared.fault.ProtoFault.TheVariants.{BadKind, TooLong, BadPayload}
-use Rattle.attach_proto.specs.declared.fault.ProtoFault.TheVariants.{WrongSide, NoMemory}
+use Rattle.attach_proto.specs.declared.fault.ProtoFault.TheVariants.{BadKind, TooLong, BadPayload, WrongSide, NoMemory}
 use Rattle.attach_proto.specs.declared.kind.Kind.{Kind}
 use Rattle.attach_proto.specs.declared.kind.Side.{Side}
 use Rattle.attach_proto.specs.declared.message.Message.{Message}
-use Rattle.attach_proto.specs.Spelling.{code, spelling, payload, kind_of, reader_of, HasFields}
-use Rattle.attach_proto.specs.Spelling.{IsSpellable}
+use Rattle.attach_proto.specs.Spelling.{code, spelling, payload, kind_of, reader_of, HasFields, IsSpellable}
 
 -- a message that this side reads
 pub record IsRead (side : Side) (m : Message) : Type 0 where

@@ -6,13 +6,11 @@ use Rattle.attach_proto.specs.declared.kind.Side.TheVariants.{Server, Peer}
 use Rattle.attach_proto.specs.declared.kind.Kind.{Kind}
 use Rattle.attach_proto.specs.declared.kind.Kind.TheVariants as kind
 use Rattle.attach_proto.specs.declared.message.Message.{Message}
-use Rattle.attach_proto.specs.declared.message.Message.TheVariants.{Attach, Window, Command, Keys}
-use Rattle.attach_proto.specs.declared.message.Message.TheVariants.{Resize, Output, Detach, Welcome}
-use Rattle.attach_proto.specs.declared.message.Message.TheVariants.{Draw, Input, Say, Size, Gone}
+use Rattle.attach_proto.specs.declared.message.Message.TheVariants.{Attach, Window, Command, Keys, Resize, Output}
+use Rattle.attach_proto.specs.declared.message.Message.TheVariants.{Detach, Welcome, Draw, Input, Say, Size, Gone}
 use Rattle.attach_proto.specs.declared.why.Told.{Told}
-use Rattle.attach_proto.specs.Fields.{Field, Number, Byte, WindowNumber, WhyNumber, Token, Name}
-use Rattle.attach_proto.specs.Fields.{Last, Nothing, Text, Bytes, NotEmpty}
-use Rattle.attach_proto.specs.Fields.{Value, LastValue, Values, read, read_last, ◌>>=◌}
+use Rattle.attach_proto.specs.Fields.{Field, Number, Byte, WindowNumber, WhyNumber, Token, Name, Last, Nothing, Text}
+use Rattle.attach_proto.specs.Fields.{Bytes, NotEmpty, Value, LastValue, Values, read, read_last, ◌>>=◌}
 
 -- what makes a message of the values of fields
 abbrev pub LastMaker : Last → Type 0

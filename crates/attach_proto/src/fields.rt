@@ -2,9 +2,8 @@
 
 ghost use Rattle.std.specs.Prelude.{◌≡◌, ◌++◌, ◌<◌, length, OnOk, IfSome, true, false};
 ghost use Rattle.attach_proto.specs.Texts.{Gives, IsText, IsToken, text_of};
-ghost use Rattle.attach_proto.specs.Fields.{one_at, two_at, split_at, window_at, why_at, token_at};
-ghost use Rattle.attach_proto.specs.Fields.{name_at, end_of, some_of, window_of};
-ghost use Rattle.attach_proto.specs.Fields.{two, named, window_byte};
+ghost use Rattle.attach_proto.specs.Fields.{one_at, two_at, split_at, window_at, why_at, token_at, name_at, end_of};
+ghost use Rattle.attach_proto.specs.Fields.{some_of, window_of, two, named, window_byte};
 
 use crate::fault::Unread;
 use crate::token::Token;

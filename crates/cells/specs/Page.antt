@@ -2,8 +2,7 @@ use Rattle.std.specs.Prelude.{◌≡◌, ℕ, zero, suc, ◌<◌, ◌≤◌, Boo
 use Rattle.std.specs.Prelude.{map, length, slice_index_or, slice_set}
 use Rattle.std.specs.List.{range_with_len}
 use Rattle.cells.specs.declared.cell.Cell.{Cell}
-use Rattle.cells.specs.Line.{blank, marked, cell_at, is_left, is_right, kept, IsPaired, Source}
-use Rattle.cells.specs.Line.{Fresh, Old, spliced}
+use Rattle.cells.specs.Line.{blank, marked, cell_at, is_left, is_right, kept, IsPaired, Source, Fresh, Old, spliced}
 
 -- a line of a page; past its end there is an empty line
 abbrev pub line_at : List (List Cell) → ℕ → List Cell

@@ -3,9 +3,8 @@
 ghost use Rattle.std.specs.Prelude.{◌≡◌, ◌+◌, ◌-◌, ◌<◌, ◌≤◌, min, [], ◌∷◌, length, replicate, IfOk};
 ghost use Rattle.std.specs.Prelude.{IsTrue, false, take, slice_set};
 ghost use Rattle.charsets.specs.Text.{text};
-ghost use Rattle.cells.specs.Line.{cells_from, cells_spliced, cell_at, marked, IsPaired};
-ghost use Rattle.cells.specs.Line.{IsBlankFrom, blank, unprotected_erased};
-ghost use Rattle.cells.specs.Line.{narrow_cells, ArePlainFrom, plain};
+ghost use Rattle.cells.specs.Line.{cells_from, cells_spliced, cell_at, marked, IsPaired, IsBlankFrom, blank};
+ghost use Rattle.cells.specs.Line.{unprotected_erased, narrow_cells, ArePlainFrom, plain};
 ghost use Rattle.cells.specs.Texts.{text_cells, PutsText};
 ghost use Rattle.cells.specs.Resizing.{line_resized};
 

@@ -1,12 +1,10 @@
 -- The characters of the sets.
-use Rattle.std.specs.Prelude.{ℕ, ◌+◌, ◌-◌, nat_lt, ◌==◌, if◌then◌else◌, List, [], ◌∷◌, slice_index}
-use Rattle.std.specs.Prelude.{codes}
+use Rattle.std.specs.Prelude.{ℕ, ◌+◌, ◌-◌, nat_lt, ◌==◌, if◌then◌else◌, List, [], ◌∷◌, slice_index, codes}
 use Rattle.std.specs.List.{list_any}
 use Prim.Native.Char.{code}
 use Rattle.charsets.specs.Entries.{entry_or}
 use Rattle.charsets.specs.declared.shifts.CharacterSet.{CharacterSet}
-use Rattle.charsets.specs.declared.shifts.CharacterSet.TheVariants.{Ascii, UnitedKingdom}
-use Rattle.charsets.specs.declared.shifts.CharacterSet.TheVariants.{SpecialGraphics, Supplemental}
+use Rattle.charsets.specs.declared.shifts.CharacterSet.TheVariants.{Ascii, UnitedKingdom, SpecialGraphics, Supplemental}
 
 -- DEC special graphics at 5F to 7E (VT220 Programmer Reference Manual, chapter 2)
 abbrev pub graphics : List ℕ

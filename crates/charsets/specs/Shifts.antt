@@ -1,14 +1,12 @@
 -- The shift functions, and the characters of graphic units (ECMA-35; VT220 Programmer Reference
 -- Manual, chapter 2).
-use Rattle.std.specs.Prelude.{ℕ, ◌-◌, Bool, ◌&&◌, ◌||◌, nat_lt, if◌then◌else◌, Option, Some, None}
-use Rattle.std.specs.Prelude.{unwrap_or}
+use Rattle.std.specs.Prelude.{ℕ, ◌-◌, Bool, ◌&&◌, ◌||◌, nat_lt, if◌then◌else◌, Option, Some, None, unwrap_or}
 use Rattle.charsets.specs.declared.shifts.CharacterSet.{CharacterSet}
 use Rattle.charsets.specs.declared.shifts.CharacterSet.TheVariants.{Ascii}
 use Rattle.charsets.specs.declared.shifts.Place.{Place}
 use Rattle.charsets.specs.declared.shifts.Place.TheVariants.{G0, G1, G2, G3}
 use Rattle.charsets.specs.declared.shifts.Shift.{Shift}
-use Rattle.charsets.specs.declared.shifts.Shift.TheVariants.{Si, So, Ls2, Ls3, Ls1r, Ls2r, Ls3r}
-use Rattle.charsets.specs.declared.shifts.Shift.TheVariants.{Ss2, Ss3}
+use Rattle.charsets.specs.declared.shifts.Shift.TheVariants.{Si, So, Ls2, Ls3, Ls1r, Ls2r, Ls3r, Ss2, Ss3}
 use Rattle.charsets.specs.declared.shifts.Shifts.{Shifts}
 use Rattle.charsets.specs.declared.decoder.Unit.{Unit}
 use Rattle.charsets.specs.declared.decoder.Unit.TheVariants.{Code, High}

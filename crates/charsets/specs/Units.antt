@@ -1,7 +1,6 @@
 -- The units of a list of bytes: codes in UTF-8 (Unicode core specification, 3.9), single bytes in
 -- ECMA-35.
-use Rattle.std.specs.Prelude.{◌≡◌, ℕ, ◌≤◌, Bool, ◌&&◌, ◌||◌, nat_lt, if◌then◌else◌, List}
-use Rattle.std.specs.Prelude.{[], ◌∷◌, ◌++◌, map}
+use Rattle.std.specs.Prelude.{◌≡◌, ℕ, ◌≤◌, Bool, ◌&&◌, ◌||◌, nat_lt, if◌then◌else◌, List, [], ◌∷◌, ◌++◌, map}
 use Rattle.std.specs.Char.{IsScalar}
 use Rattle.charsets.specs.declared.decoder.Coding.{Coding}
 use Rattle.charsets.specs.declared.decoder.Coding.TheVariants.{Utf8, Ecma35}

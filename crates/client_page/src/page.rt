@@ -1,8 +1,7 @@
 //! The page of a window that stays, which the session's next server is told, and what the window's program prints while
 //! no server has it.
 
-ghost use Rattle.std.specs.Prelude.{◌≡◌, ◌≤◌, ◌++◌, false, [], length, IfOk, IfSome, OnOk, OnErr, Err, None};
-ghost use Rattle.std.specs.Prelude.{take};
+ghost use Rattle.std.specs.Prelude.{◌≡◌, ◌≤◌, ◌++◌, false, [], length, IfOk, IfSome, OnOk, OnErr, Err, None, take};
 ghost use Rattle.cells.specs.Page.{IsGridSize};
 ghost use Rattle.terminal_model.specs.Reading.{Terminal, ready, reads};
 ghost use Rattle.terminal_model.specs.Screen.{starting};

@@ -1,7 +1,6 @@
 -- Visible text has no character that is written as an escape.
-use Rattle.std.proofs.Common.{◌≡◌, ℕ, zero, suc, ◌<◌, ◌/◌, ◌%◌, nat_lt, ◌&&◌, ◌==◌}
-use Rattle.std.proofs.Common.{Bool, true, false, List, [], ◌∷◌, ◌++◌, refl, ap, ◌∙◌, arith, codes}
-use Rattle.std.proofs.Common.{◌⊎◌, ◌-◌, inl, inr}
+use Rattle.std.proofs.Common.{◌≡◌, ℕ, zero, suc, ◌<◌, ◌/◌, ◌%◌, nat_lt, ◌&&◌, ◌==◌, Bool, true, false, List, [], ◌∷◌}
+use Rattle.std.proofs.Common.{◌++◌, refl, ap, ◌∙◌, arith, codes, ◌⊎◌, ◌-◌, inl, inr}
 use Rattle.std.specs.List.{list_all}
 use Rattle.std.proofs.lemmas.Bool.Decides.{nat_tests}
 use Rattle.client_words.specs.declared.visible.Piece.{Piece}

@@ -5,8 +5,7 @@ use Rattle.attach_proto.specs.declared.message.Message.{Message}
 use Rattle.attach_proto.specs.declared.message.Message.TheVariants as message
 use Rattle.client_words.specs.declared.arguments.Arguments.{Arguments}
 use Rattle.client_words.specs.declared.arguments.Subcommand.{Subcommand}
-use Rattle.client_words.specs.declared.arguments.Subcommand.TheVariants.{Attach, Window, Command}
-use Rattle.client_words.specs.declared.arguments.Subcommand.TheVariants.{Ping}
+use Rattle.client_words.specs.declared.arguments.Subcommand.TheVariants.{Attach, Window, Command, Ping}
 
 -- the message by which a peer of this kind begins, with this token
 abbrev pub first_of : Subcommand → Arguments → List ℕ → Option Message

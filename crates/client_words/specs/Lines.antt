@@ -1,8 +1,7 @@
 -- Lines that say the size of a terminal: `ROWS COLS`, two numbers with one blank between them.
 use Rattle.std.specs.Prelude.{ℕ, Bool, if◌then◌else◌, ◌==◌, ◌&&◌, nat_lt, nat_le, is_none}
 use Rattle.std.specs.Prelude.{List, [], ◌∷◌, length, Option, Some, None}
-use Rattle.std.specs.List.{list_all, list_any, before_first, after_first, slice_split}
-use Rattle.std.specs.List.{filter_map, last_or}
+use Rattle.std.specs.List.{list_all, list_any, before_first, after_first, slice_split, filter_map, last_or}
 use Rattle.std.specs.Char.{is_ascii_digit}
 use Rattle.std.specs.Str.Parse.{digits_value}
 use Rattle.client_words.specs.declared.size_lines.TerminalSize.{TerminalSize}

@@ -2,9 +2,8 @@
 //! that turn the direction of text or end a line as `\u{NNNN}`.
 
 ghost use Rattle.std.specs.Prelude.{◌≡◌, ◌++◌, ◌<◌, ℕ, List, OnOk, true};
-ghost use Rattle.client_words.specs.Visible.{is_control, is_c1, is_mark, is_general, is_isolate};
-ghost use Rattle.client_words.specs.Visible.{is_turn, third, longer, piece, digit, written, further};
-ghost use Rattle.client_words.specs.Visible.{visible, are_kept};
+ghost use Rattle.client_words.specs.Visible.{is_control, is_c1, is_mark, is_general, is_isolate, is_turn, third};
+ghost use Rattle.client_words.specs.Visible.{longer, piece, digit, written, further, visible, are_kept};
 ghost use Rattle.client_words.specs.declared.visible.Piece.TheVariants.{Control, Turn};
 
 use std::alloc::AllocError;

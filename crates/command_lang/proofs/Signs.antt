@@ -1,8 +1,7 @@
 -- Bits, read byte by byte, and the place at which they begin.
 use Rattle.command_lang.proofs.Vocabulary.{◌≡◌, ℕ, suc, ◌+◌, ◌<◌, ◌≤◌, Bool, true, false, not, ◌&&◌, cond, List, []}
 use Rattle.command_lang.proofs.Vocabulary.{◌∷◌, ◌++◌, length, drop, get_or, Option, Some, None, refl, sym, ap, ◌∙◌}
-use Rattle.command_lang.proofs.Vocabulary.{arith, unwrap_or, drop-cons, nat_lt, nat_tests}
-use Rattle.command_lang.proofs.Vocabulary.{is_sign}
+use Rattle.command_lang.proofs.Vocabulary.{arith, unwrap_or, drop-cons, nat_lt, nat_tests, is_sign}
 use Rattle.std.specs.List.{position_or_len}
 
 drop-at : (cs : List ℕ) (i x : ℕ) → i < length cs → x ≡ get_or cs i x → drop i cs ≡ x ∷ drop (i + 1) cs

@@ -1,6 +1,5 @@
 -- Why a word isn't a mask: optional users, followed by bits.
-use Rattle.std.specs.Prelude.{ℕ, Bool, not, ◌&&◌, if◌then◌else◌, List, take, drop, Option, Some}
-use Rattle.std.specs.Prelude.{None}
+use Rattle.std.specs.Prelude.{ℕ, Bool, not, ◌&&◌, if◌then◌else◌, List, take, drop, Option, Some, None}
 use Rattle.command_lang.specs.declared.fault.FaultKind.{FaultKind}
 use Rattle.command_lang.specs.declared.fault.FaultKind.TheVariants as faults
 use Rattle.command_lang.specs.Values.{is_bits, has_empty_item, is_empty_text, sign_place}

@@ -6,9 +6,8 @@ use Rattle.acl.specs.declared.command_name.CommandName.TheVariants as name
 use Rattle.command_lang.specs.declared.command.Command.{Command}
 use Rattle.command_lang.specs.declared.command.Command.TheVariants as command
 use Rattle.strings.specs.declared.text.Word.{Word}
-use Rattle.command_lang.specs.Values.{number_in, lock_mode_in, switch_in, coding_in}
-use Rattle.command_lang.specs.Values.{is_vertical, items_of, users_of, leader_of, bits_of}
-use Rattle.command_lang.specs.Values.{mask_of}
+use Rattle.command_lang.specs.Values.{number_in, lock_mode_in, switch_in, coding_in, is_vertical, items_of, users_of}
+use Rattle.command_lang.specs.Values.{leader_of, bits_of, mask_of}
 use Rattle.command_lang.specs.Names.{command_named}
 
 -- the command of a name alone

@@ -5,8 +5,7 @@ use Rattle.std.specs.Option.{is_some}
 use Rattle.command_lang.specs.declared.rows.Kind.{Kind}
 use Rattle.command_lang.specs.declared.rows.Kind.TheVariants as kind
 use Rattle.command_lang.specs.declared.rows.Words.{Words}
-use Rattle.command_lang.specs.declared.rows.Words.TheVariants.{Nothing, One, Perhaps}
-use Rattle.command_lang.specs.declared.rows.Words.TheVariants.{OneOrTwo, Three, Several}
+use Rattle.command_lang.specs.declared.rows.Words.TheVariants.{Nothing, One, Perhaps, OneOrTwo, Three, Several}
 use Rattle.strings.specs.declared.text.Word.{Word}
 use Rattle.command_lang.specs.declared.fault.FaultKind.{FaultKind}
 use Rattle.command_lang.specs.declared.fault.FaultKind.TheVariants as faults

@@ -2,8 +2,7 @@
 
 ghost use Rattle.std.specs.Prelude.{◌≡◌, ◌∷◌, [], IfOk, map};
 ghost use Rattle.command_lang.specs.Values.{number_in, mask_of};
-ghost use Rattle.command_lang.specs.Meaning.{bare, with_word, with_words, command_of};
-ghost use Rattle.command_lang.specs.Meaning.{texts_of};
+ghost use Rattle.command_lang.specs.Meaning.{bare, with_word, with_words, command_of, texts_of};
 
 use crate::command::{Command, Masks};
 use crate::values::{

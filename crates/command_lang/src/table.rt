@@ -2,8 +2,7 @@
 
 ghost use Rattle.std.specs.Prelude.{◌≡◌};
 ghost use Rattle.command_lang.specs.Names.{command_named};
-ghost use Rattle.command_lang.specs.Table.{least, kind_at, kind_fault, word_fault};
-ghost use Rattle.command_lang.specs.Table.{words_faults, first_of};
+ghost use Rattle.command_lang.specs.Table.{least, kind_at, kind_fault, word_fault, words_faults, first_of};
 ghost use Rattle.command_lang.specs.MaskFaults.{unless};
 ghost use Rattle.command_lang.specs.FirstWord.{name_in};
 

@@ -8,8 +8,7 @@ use Rattle.charsets.specs.declared.decoder.Unit.{Unit}
 use Rattle.charsets.specs.declared.decoder.Unit.TheVariants as units
 use Rattle.control_parser.specs.declared.parser.Func.{Func}
 use Rattle.control_parser.specs.declared.parser.Func.TheVariants.{Print, High, Control, Esc, Csi}
-use Rattle.control_parser.specs.Text.{is_intermediate, while, is_well_formed, mark_of, params_of}
-use Rattle.control_parser.specs.Text.{intermediates_of}
+use Rattle.control_parser.specs.Text.{is_intermediate, while, is_well_formed, mark_of, params_of, intermediates_of}
 
 -- the code of a unit: every byte of ECMA-35 from A0 on counts as A0
 abbrev pub code : Unit → ℕ

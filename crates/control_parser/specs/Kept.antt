@@ -6,13 +6,10 @@ use Rattle.charsets.specs.declared.decoder.Unit.TheVariants.{Code}
 use Rattle.control_parser.specs.declared.parser.Func.{Func}
 use Rattle.control_parser.specs.declared.state.SequenceText.{SequenceText}
 use Rattle.control_parser.specs.declared.state.State.{State}
-use Rattle.control_parser.specs.declared.state.State.TheVariants.{Ground, Escape, EscapeIgnored}
-use Rattle.control_parser.specs.declared.state.State.TheVariants.{Control, ControlIgnored, String}
-use Rattle.control_parser.specs.declared.state.State.TheVariants.{Osc}
-use Rattle.control_parser.specs.Text.{values, is_well_formed, mark_of, numbers_of, params_of}
-use Rattle.control_parser.specs.Text.{intermediates_of}
-use Rattle.control_parser.specs.Grammar.{Rest, nothing, escape, control, string, osc, with_front}
-use Rattle.control_parser.specs.Grammar.{functions}
+use Rattle.control_parser.specs.declared.state.State.TheVariants.{Ground, Escape, EscapeIgnored, Control}
+use Rattle.control_parser.specs.declared.state.State.TheVariants.{ControlIgnored, String, Osc}
+use Rattle.control_parser.specs.Text.{values, is_well_formed, mark_of, numbers_of, params_of, intermediates_of}
+use Rattle.control_parser.specs.Grammar.{Rest, nothing, escape, control, string, osc, with_front, functions}
 
 -- the parts of a control sequence's text as far as it was read; None if it is ignored
 unfoldable pub parts : List ℕ → Option SequenceText

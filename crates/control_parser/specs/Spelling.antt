@@ -1,7 +1,6 @@
 -- The 7-bit spelling of a control function.
-use Rattle.std.specs.Prelude.{◌≡◌, ℕ, ◌+◌, ◌/◌, ◌%◌, ◌<◌, ◌≤◌, Bool, true, ◌&&◌, ◌||◌, not, nat_lt}
-use Rattle.std.specs.Prelude.{nat_le, ◌==◌, if◌then◌else◌, List, [], ◌∷◌, ◌++◌, length, IfSome}
-use Rattle.std.specs.Prelude.{option_to_list, take}
+use Rattle.std.specs.Prelude.{◌≡◌, ℕ, ◌+◌, ◌/◌, ◌%◌, ◌<◌, ◌≤◌, Bool, true, ◌&&◌, ◌||◌, not, nat_lt, nat_le, ◌==◌}
+use Rattle.std.specs.Prelude.{if◌then◌else◌, List, [], ◌∷◌, ◌++◌, length, IfSome, option_to_list, take}
 use Rattle.std.specs.Char.{encode_utf8, IsScalar}
 use Rattle.std.specs.List.{flat_map, list_all}
 use Rattle.charsets.specs.declared.decoder.Coding.{Coding}
@@ -10,8 +9,7 @@ use Rattle.charsets.specs.Units.{units}
 use Rattle.control_parser.specs.declared.parser.Func.{Func}
 use Rattle.control_parser.specs.declared.parser.Func.TheVariants.{Print, High, Control, Esc, Csi}
 use Rattle.control_parser.specs.Text.{is_intermediate, is_mark}
-use Rattle.control_parser.specs.Grammar.{is_control, is_graphic, is_string_opener, nothing}
-use Rattle.control_parser.specs.Grammar.{functions}
+use Rattle.control_parser.specs.Grammar.{is_control, is_graphic, is_string_opener, nothing, functions}
 
 abbrev pub digit : ℕ → ℕ
 digit n = 0x30 + n % 10

@@ -9,8 +9,7 @@ use Rattle.control_parser.specs.declared.state.SequenceText.{SequenceText}
 use Rattle.control_parser.specs.declared.state.State.{State}
 use Rattle.control_parser.specs.declared.state.State.TheVariants as state
 use Rattle.control_parser.specs.Text.{is_intermediate, is_digit, is_mark, with_last, digit_added}
-use Rattle.control_parser.specs.Grammar.{code, is_control, is_c1, is_sequence_text}
-use Rattle.control_parser.specs.Grammar.{is_string_opener, alone}
+use Rattle.control_parser.specs.Grammar.{code, is_control, is_c1, is_sequence_text, is_string_opener, alone}
 
 abbrev pub no_text : SequenceText
 no_text = record { begun = false; mark = None; params = 0 ∷ []; over = false; intermediates = [] }

@@ -1,6 +1,5 @@
 -- How a list of functions is read byte by byte: where in a function the bytes end.
-use Rattle.std.specs.Prelude.{ℕ, ◌+◌, ◌==◌, ◌||◌, nat_lt, Bool, if◌then◌else◌}
-use Rattle.std.specs.Prelude.{List, [], ◌∷◌, Option, Some, None}
+use Rattle.std.specs.Prelude.{ℕ, ◌+◌, ◌==◌, ◌||◌, nat_lt, Bool, if◌then◌else◌, List, [], ◌∷◌, Option, Some, None}
 use Prim.Native.Char.{code}
 use Rattle.charsets.specs.Units.{is_plain}
 use Rattle.charsets.specs.Utf8.{is_lead, continues}

@@ -16,8 +16,7 @@ ghost use Rattle.hub_ledger.specs.Closing.{AreThere, IsFirstWrong, handed_of, re
 ghost use Rattle.hub_ledger.specs.Faults.{foreign, full};
 ghost use Rattle.hub_ledger.specs.Seats.{Answers, AreNumbered, NoneAsks, StandsFor, with_handed};
 ghost use Rattle.hub_ledger.specs.States.{Balances, State};
-ghost use Rattle.hub_ledger.specs.declared.ledger.answer.HubFault.TheVariants.{NoMemory, Strange};
-ghost use Rattle.hub_ledger.specs.declared.ledger.answer.HubFault.TheVariants.{TrailFull};
+ghost use Rattle.hub_ledger.specs.declared.ledger.answer.HubFault.TheVariants.{NoMemory, Strange, TrailFull};
 ghost use Rattle.hub_trail.specs.Filing.{kept_of};
 
 use acl::UserId;

@@ -15,9 +15,8 @@ use Rattle.session.specs.refusal.Verdict.{Verdict}
 use Rattle.session.specs.refusal.Verdict.TheVariants.{Right as right}
 use Rattle.hub_trail.specs.declared.kept.Kept.{Kept}
 use Rattle.hub_trail.specs.Trails.{Ending, Entry}
-use Rattle.hub_trail.specs.Legal.{IsTrue, AsksFirst, AsksForCommand, CarriesFailed, IsDenied}
-use Rattle.hub_trail.specs.Legal.{IsLegalEntry, HasItsActs, failed, first_names, has_act_of}
-use Rattle.hub_trail.specs.Legal.{IsSaid}
+use Rattle.hub_trail.specs.Legal.{IsTrue, AsksFirst, AsksForCommand, CarriesFailed, IsDenied, IsLegalEntry, HasItsActs}
+use Rattle.hub_trail.specs.Legal.{failed, first_names, has_act_of, IsSaid}
 use Rattle.hub_trail.specs.Saying.{says}
 use Rattle.hub_trail.specs.Judging.{is_on_there, IsGood}
 use Rattle.rights.specs.declared.rights.Rights.{Rights}

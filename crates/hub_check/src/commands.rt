@@ -6,8 +6,7 @@ ghost use Rattle.acl.specs.declared.leaders.Edition.{Edition};
 ghost use Rattle.acl.specs.declared.user_id.UserId.{UserId};
 ghost use Rattle.acl.specs.History.{History};
 ghost use Rattle.rights.specs.Following.{StandsAfter};
-ghost use Rattle.hub_check.specs.Parts.{IsReading, AsksIfKnown, HaveActsIfDone, AreSaidIfDone};
-ghost use Rattle.hub_check.specs.Parts.{FitsCommand, FitsLine};
+ghost use Rattle.hub_check.specs.Parts.{IsReading, AsksIfKnown, HaveActsIfDone, AreSaidIfDone, FitsCommand, FitsLine};
 
 use crate::names::have_acts;
 use crate::says::all_said;

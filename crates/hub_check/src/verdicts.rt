@@ -6,8 +6,8 @@ ghost use Rattle.acl.specs.declared.leaders.Edition.{Edition};
 ghost use Rattle.acl.specs.declared.user_id.UserId.{UserId};
 ghost use Rattle.acl.specs.History.{History};
 ghost use Rattle.hub_trail.specs.Legal.{passes, failed, user_of, AsksFirst, is_let, AreLet};
-ghost use Rattle.hub_trail.specs.Judging.{is_on_there};
 ghost use Rattle.hub_trail.specs.Legal.{IsTrue, is_client_of, is_granted, is_of_user};
+ghost use Rattle.hub_trail.specs.Judging.{is_on_there};
 ghost use Rattle.rights.specs.Following.{StandsAfter};
 ghost use Rattle.hub_check.specs.Parts.{AreTrue, AsksFor};
 

@@ -1,6 +1,5 @@
 -- How the receipts of seats are compared with the trail.
-use Rattle.std.specs.Prelude.{ℕ, ◌<◌, ◌≤◌, List, [], ◌∷◌, ◌++◌, ◌≡◌, Option, Some, None}
-use Rattle.std.specs.Prelude.{length, slice_get}
+use Rattle.std.specs.Prelude.{ℕ, ◌<◌, ◌≤◌, List, [], ◌∷◌, ◌++◌, ◌≡◌, Option, Some, None, length, slice_get}
 use Rattle.std.specs.List.{AllByRecursion, sum_by}
 use Rattle.hub_trail.specs.Trails.{Entry}
 use Rattle.hub_record.specs.Receipts.{Receipt}

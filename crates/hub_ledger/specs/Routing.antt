@@ -1,7 +1,6 @@
 -- Effects that wait for the seats of their peers, with who typed them, and the marks that steps leave.
-use Rattle.std.specs.Prelude.{ℕ, ◌+◌, ◌≤◌, ◌==◌, Bool, true, false, List, ◌++◌, ◌≡◌, Option, Some, None}
-use Rattle.std.specs.Prelude.{IsSome}
-use Rattle.std.specs.Prelude.{length, map, filter, slice_get, vec_len, vec_capacity, if◌then◌else◌}
+use Rattle.std.specs.Prelude.{ℕ, ◌+◌, ◌≤◌, ◌==◌, Bool, true, false, List, ◌++◌, ◌≡◌, Option, Some, None, IsSome, length}
+use Rattle.std.specs.Prelude.{map, filter, slice_get, vec_len, vec_capacity, if◌then◌else◌}
 use Rattle.std.specs.List.{AllByRecursion, fold}
 use Rattle.std.specs.Option.{option_map_or}
 use Rattle.std.specs.declared.vec.Vec.{Vec}

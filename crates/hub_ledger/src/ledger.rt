@@ -1,8 +1,7 @@
 //! What lies under the hub's lock.
 
-ghost use Rattle.std.specs.Prelude.{◌≡◌, ◌↔◌, ◌<◌, ◌≤◌, length, IfOk, OnErr, Err, IsSome, None};
-ghost use Rattle.std.specs.Prelude.{Some, IfErr};
-ghost use Rattle.std.specs.Prelude.{[], false, is_some, slice_get, slice_set, true};
+ghost use Rattle.std.specs.Prelude.{◌≡◌, ◌↔◌, ◌<◌, ◌≤◌, length, IfOk, OnErr, Err, IsSome, None, Some, IfErr, [], false};
+ghost use Rattle.std.specs.Prelude.{is_some, slice_get, slice_set, true};
 ghost use Rattle.session.specs.Trace.{Trace, begun, happening};
 ghost use Rattle.session.specs.Run.{tables_of};
 ghost use Rattle.session.specs.MayType.{may_type};
@@ -15,8 +14,7 @@ ghost use Rattle.hub_ledger.specs.Seats.{StandsLast, fresh_seat, placed, with_ha
 ghost use Rattle.hub_ledger.specs.Faults.{foreign, full};
 ghost use Rattle.hub_ledger.specs.Laws.{KeptTrailsAreLegal, KeptTrailsHaveTheActs};
 ghost use Rattle.hub_ledger.specs.declared.ledger.TheConstants.{FULL};
-ghost use Rattle.hub_ledger.specs.declared.ledger.answer.HubFault.TheVariants.{TrailFull, NoMemory};
-ghost use Rattle.hub_ledger.specs.declared.ledger.answer.HubFault.TheVariants.{Strange};
+ghost use Rattle.hub_ledger.specs.declared.ledger.answer.HubFault.TheVariants.{TrailFull, NoMemory, Strange};
 
 mod answer;
 mod trail;

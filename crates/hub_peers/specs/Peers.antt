@@ -1,11 +1,9 @@
 -- The seats of clients and windows. A peer belongs to the seat that attached or opened it. Serials
 -- count from 0, so a list has the seat of each serial at its index.
-use Rattle.std.specs.Prelude.{ℕ, Bool, ◌<◌, List, [], ◌∷◌, ◌++◌, if◌then◌else◌, length, Option}
-use Rattle.std.specs.Prelude.{slice_get}
+use Rattle.std.specs.Prelude.{ℕ, Bool, ◌<◌, List, [], ◌∷◌, ◌++◌, if◌then◌else◌, length, Option, slice_get}
 use Rattle.std.specs.List.{AllByRecursion}
 use Rattle.session.specs.event.Effect.{Effect}
-use Rattle.session.specs.event.Effect.TheVariants.{Input, Deliver, Say, Size}
-use Rattle.session.specs.event.Effect.TheVariants.{Gone}
+use Rattle.session.specs.event.Effect.TheVariants.{Input, Deliver, Say, Size, Gone}
 use Rattle.session.specs.event.Peer.TheVariants as peer
 use Rattle.session.specs.Trace.{EventValue, Reply}
 use Rattle.hub_trail.specs.Peers.{attaches, opens}

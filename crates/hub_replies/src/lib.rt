@@ -3,8 +3,7 @@
 
 ghost use Rattle.std.specs.Prelude.{◌≡◌, ◌↔◌, true, false};
 ghost use Rattle.std.specs.Option.{option_map_or};
-ghost use Rattle.hub_trail.specs.Legal.{is_denial, is_named, is_of, denies};
-ghost use Rattle.hub_trail.specs.Legal.{CarriesFailed, IsDenied};
+ghost use Rattle.hub_trail.specs.Legal.{is_denial, is_named, is_of, denies, CarriesFailed, IsDenied};
 
 use acl::Object;
 use hub_trail::{Ending, Kept};

@@ -10,11 +10,10 @@ use Rattle.hub_trail.proofs.Vocabulary.{all_weaken, serials, SameClients}
 use Rattle.std.specs.Prelude.{IfSome, slice_get, unwrap_or}
 use Rattle.std.specs.Str.{bytes_eq}
 use Rattle.acl.specs.declared.act.Object.TheVariants as object
-use Rattle.session.specs.Naming.{spelled}
+use Rattle.session.specs.Naming.{spelled, with_number}
 use Rattle.regions.specs.declared.layout.Shown.{Shown}
 use Rattle.regions.specs.Layouts.{empty}
 use Rattle.session.specs.Sound.{IsOpen, ShowsOpen}
-use Rattle.session.specs.Naming.{with_number}
 use Rattle.session.specs.Promises.{unread}
 use Rattle.session.proofs.Showing.{get_all}
 use Rattle.session.proofs.FitCommands.{ShowsIn, PageIn}

@@ -2,8 +2,7 @@
 -- If memory was refused, there was no step.
 use Rattle.std.specs.Prelude.{Bool, true, false, List, [], ◌∷◌, ◌++◌, Option, Some, None, Ok, Err}
 use Rattle.session.specs.event.Done.{Done}
-use Rattle.session.specs.Trace.{EventValue, Attach, Detach, Keys, Command, Open, Closed}
-use Rattle.session.specs.Trace.{Reply, Trace}
+use Rattle.session.specs.Trace.{EventValue, Attach, Detach, Keys, Command, Open, Closed, Reply, Trace}
 use Rattle.session.specs.Trace as trace
 use Rattle.hub_trail.specs.declared.kept.Kept.{Kept}
 use Rattle.hub_trail.specs.declared.kept.Kept.TheVariants as kept

@@ -3,8 +3,7 @@
 use Rattle.std.specs.Prelude.{◌≡◌, ◌<◌, ℕ, ◌+◌, Bool, false, if◌then◌else◌, is_ok, Ok}
 use Rattle.std.specs.List.{AllByRecursion}
 use Rattle.session.specs.event.Effect.{Effect}
-use Rattle.session.specs.event.Effect.TheVariants.{Input, Deliver, Say, Size}
-use Rattle.session.specs.event.Effect.TheVariants.{Gone}
+use Rattle.session.specs.event.Effect.TheVariants.{Input, Deliver, Say, Size, Gone}
 use Rattle.session.specs.event.Peer.TheVariants as peer
 use Rattle.session.specs.Trace.{EventValue, Attach, Open, Reply, Entry}
 use Rattle.session.specs.Sound.{AreSound}

@@ -3,8 +3,7 @@
 ghost use Rattle.std.specs.Prelude.{◌≡◌};
 ghost use Rattle.std.specs.List.{list_all};
 ghost use Rattle.acl.specs.Same.{same_command};
-ghost use Rattle.hub_trail.specs.Fitting.{is_one_of, turns_page, sends_away, enters, is_client};
-ghost use Rattle.hub_trail.specs.Fitting.{makes, made_by};
+ghost use Rattle.hub_trail.specs.Fitting.{is_one_of, turns_page, sends_away, enters, is_client, makes, made_by};
 
 use acl::{Act, Bit, CommandName, Object, UserId};
 use session::Verdict;

@@ -8,8 +8,7 @@ ghost use Rattle.acl.specs.Names.{named_by};
 ghost use Rattle.acl.specs.Same.{same_command};
 ghost use Rattle.command_lang.specs.Names.{command_named};
 ghost use Rattle.session.specs.Naming.{new_leader_of};
-ghost use Rattle.hub_trail.specs.Saying.{same_value, changes, item_says, items_say, same_leader};
-ghost use Rattle.hub_trail.specs.Saying.{gives, removes, leads};
+ghost use Rattle.hub_trail.specs.Saying.{same_value, changes, item_says, items_say, same_leader, gives, removes, leads};
 ghost use Rattle.hub_trail.specs.Legal.{asks_for_command, from_command};
 
 use crate::makes::is_same;

@@ -1,15 +1,13 @@
 -- The items of a client's keys. C-a is the command key, as in the GNU Screen manual, section
 -- Default Key Bindings. This project's own are the edits of the prompt's line (DEL and BS are those
 -- of ECMA-48) and its length, 1,024 bytes.
-use Rattle.std.specs.Prelude.{◌≡◌, ◌≢◌, ℕ, Bool, true, false, not, ◌&&◌, ◌||◌, nat_lt, ◌==◌}
-use Rattle.std.specs.Prelude.{if◌then◌else◌, List, [], ◌∷◌, ◌++◌, length, map, find, Option, Some}
-use Rattle.std.specs.Prelude.{None, codes, get_or}
+use Rattle.std.specs.Prelude.{◌≡◌, ◌≢◌, ℕ, Bool, true, false, not, ◌&&◌, ◌||◌, nat_lt, ◌==◌, if◌then◌else◌, List, []}
+use Rattle.std.specs.Prelude.{◌∷◌, ◌++◌, length, map, find, Option, Some, None, codes, get_or}
 use Rattle.std.specs.Option.{option_map}
 use Rattle.std.specs.List.{list_all}
 use Rattle.command_lang.specs.declared.command.Command.{Command}
-use Rattle.command_lang.specs.declared.command.Command.TheVariants.{Next, Prev, Detach, Kill, Split, Focus}
-use Rattle.command_lang.specs.declared.command.Command.TheVariants.{Remove, Only, Windows, Displays, Select}
-use Rattle.command_lang.specs.declared.command.Command.TheVariants.{Other}
+use Rattle.command_lang.specs.declared.command.Command.TheVariants.{Next, Prev, Detach, Kill, Split, Focus, Remove}
+use Rattle.command_lang.specs.declared.command.Command.TheVariants.{Only, Windows, Displays, Select, Other}
 
 -- A typed byte, the command of a bound key, or a line of the prompt.
 pub data Item : Type 0 where

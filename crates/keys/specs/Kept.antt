@@ -4,8 +4,7 @@ use Rattle.keys.specs.declared.reader.Mode.{Mode}
 use Rattle.keys.specs.declared.reader.Mode.TheVariants.{Typing, Command, Prompt}
 use Rattle.keys.specs.declared.reader.KeyItem.{KeyItem}
 use Rattle.keys.specs.declared.reader.KeyItem.TheVariants as given
-use Rattle.keys.specs.Grammar.{Item, typed, line, bound_items, binding, Rest, nothing, command_key}
-use Rattle.keys.specs.Grammar.{prompt, items}
+use Rattle.keys.specs.Grammar.{Item, typed, line, bound_items, binding, Rest, nothing, command_key, prompt, items}
 
 -- its mode, and the line of the open prompt, or else of the last one
 pub record Keeping : Type 0 where

@@ -1,7 +1,6 @@
 //! The line of a prompt, in a fixed array.
 
-ghost use Rattle.std.specs.Prelude.{◌≡◌, ◌≤◌, ℕ, List, [], ◌∷◌, ◌++◌, length, take, nat_lt};
-ghost use Rattle.std.specs.Prelude.{if◌then◌else◌};
+ghost use Rattle.std.specs.Prelude.{◌≡◌, ◌≤◌, ℕ, List, [], ◌∷◌, ◌++◌, length, take, nat_lt, if◌then◌else◌};
 ghost use Rattle.keys.specs.Grammar.{continues, shortened, line_after_key};
 
 use std::marker::Model;

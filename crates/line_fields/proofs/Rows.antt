@@ -2,9 +2,8 @@
 use Rattle.std.proofs.Common.{◌≡◌, ℕ, List, [], ◌∷◌, ◌++◌, refl, ap, ◌∙◌, append-nil}
 use Rattle.std.specs.Prelude.{◌&&◌, not, true, false, Option, Some, None, option_map}
 use Rattle.line_fields.specs.Cutting.{◌>>=◌, is_byte}
-use Rattle.line_fields.specs.Rows.{Values, Maker, made_by, Row, row, fields_in, made_in, Prints, after_each}
-use Rattle.line_fields.specs.Rows.{PrintsThen, all_then, Reads, value_at, read_between, read_in, ReadsAt}
-use Rattle.line_fields.specs.Rows.{read_all, read_all_in}
+use Rattle.line_fields.specs.Rows.{Values, Maker, made_by, Row, row, fields_in, made_in, Prints, after_each, PrintsThen}
+use Rattle.line_fields.specs.Rows.{all_then, Reads, value_at, read_between, read_in, ReadsAt, read_all, read_all_in}
 use Rattle.line_fields.specs.Rows.{AllBut, Each}
 use Rattle.line_fields.proofs.Words.{IsFree, first_field, free_append}
 

@@ -1,6 +1,5 @@
 -- Fields of a line, each ended by one byte.
-use Rattle.std.specs.Prelude.{ℕ, Bool, ◌+◌, ◌==◌, List, [], take, drop, Option}
-use Rattle.std.specs.Prelude.{Some, None}
+use Rattle.std.specs.Prelude.{ℕ, Bool, ◌+◌, ◌==◌, List, [], take, drop, Option, Some, None}
 use Rattle.std.specs.List.{position, slice_split}
 
 -- reading goes on with what was read, if something was

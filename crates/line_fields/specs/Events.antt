@@ -3,8 +3,7 @@
 use Rattle.std.specs.Prelude.{ℕ, List, [], ◌∷◌, Option, find, codes}
 use Rattle.std.specs.Str.{bytes_eq}
 use Rattle.acl.specs.declared.user_id.UserId.{UserId}
-use Rattle.session_model.specs.Trace.{EventValue, Attach, Detach, Keys, Command, Resize}
-use Rattle.session_model.specs.Trace.{Open, Output, Closed, Draw}
+use Rattle.session_model.specs.Trace.{EventValue, Attach, Detach, Keys, Command, Resize, Open, Output, Closed, Draw}
 use Rattle.line_fields.specs.Rows.{Row, row, Values, word_in, fields_in}
 use Rattle.line_fields.specs.declared.events.EventKind.{EventKind}
 use Rattle.line_fields.specs.declared.events.EventKind.TheVariants as kind

@@ -1,6 +1,5 @@
 -- What the numbers of refusals mean, in words.
-use Rattle.std.specs.Prelude.{ℕ, nat_lt, if◌then◌else◌, List, [], ◌∷◌, ◌++◌, length, drop}
-use Rattle.std.specs.Prelude.{Option, Some, None, codes}
+use Rattle.std.specs.Prelude.{ℕ, nat_lt, if◌then◌else◌, List, [], ◌∷◌, ◌++◌, length, drop, Option, Some, None, codes}
 use Rattle.acl.specs.declared.entries.AclFault.{AclFault}
 use Rattle.acl.specs.declared.entries.AclFault.TheVariants as acl
 use Rattle.command_lang.specs.declared.fault.FaultKind.{FaultKind}

@@ -1,9 +1,8 @@
 //! What the numbers of refusals mean, in words.
 
 ghost use Rattle.std.specs.Prelude.{◌≡◌, ◌++◌, OnOk, option_map};
-ghost use Rattle.line_fields.specs.Meaning.{acl_meaning, behind, first_by, in_parentheses, line_meaning};
-ghost use Rattle.line_fields.specs.Meaning.{meaning_text, means, means_with, regions_meaning, windows_meaning};
-ghost use Rattle.line_fields.specs.Meaning.{word_at, word_part};
+ghost use Rattle.line_fields.specs.Meaning.{acl_meaning, behind, first_by, in_parentheses, line_meaning, meaning_text};
+ghost use Rattle.line_fields.specs.Meaning.{means, means_with, regions_meaning, windows_meaning, word_at, word_part};
 
 use crate::texts::cut;
 use acl::AclFault;

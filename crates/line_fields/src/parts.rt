@@ -3,10 +3,9 @@
 ghost use Rattle.std.specs.Prelude.{◌≡◌, ◌++◌, OnOk, option_map};
 ghost use Rattle.acl.specs.Names.{name_of};
 ghost use Rattle.acl.specs.declared.act.Object.TheVariants.{Command};
-ghost use Rattle.line_fields.specs.Parts.{user_at, user_text, user_in, sign, mark};
-ghost use Rattle.line_fields.specs.Parts.{change_text, value_of, bit_of, bit_in, change_in};
-ghost use Rattle.line_fields.specs.Parts.{object_text, command_in, object_in, mode_text};
-ghost use Rattle.line_fields.specs.Parts.{mode_in, preset_text, preset_in};
+ghost use Rattle.line_fields.specs.Parts.{user_at, user_text, user_in, sign, mark, change_text, value_of, bit_of};
+ghost use Rattle.line_fields.specs.Parts.{bit_in, change_in, object_text, command_in, object_in, mode_text, mode_in};
+ghost use Rattle.line_fields.specs.Parts.{preset_text, preset_in};
 
 use crate::numbers::read_u32;
 use crate::texts::cut;

@@ -1,7 +1,6 @@
 //! The lines of a setup file: the commands with which its owner begins a session.
 
-ghost use Rattle.std.specs.Prelude.{◌≡◌, ◌⊎◌, ◌==◌, ◌<◌, [], map, length, IfOk, IfErr, IfSome, None, Some};
-ghost use Rattle.std.specs.Prelude.{option_map};
+ghost use Rattle.std.specs.Prelude.{◌≡◌, ◌⊎◌, ◌==◌, ◌<◌, [], map, length, IfOk, IfErr, IfSome, None, Some, option_map};
 ghost use Rattle.std.specs.List.{position, slice_split};
 ghost use Rattle.program_words.specs.SetupLines.{is_feed, is_skipped, numbered, fault_of, commands_in};
 ghost use Rattle.program_words.specs.SetupLines.{after_blank, first_fault, is_colon, line_of, speech_in};

@@ -6,9 +6,8 @@ use Rattle.control_parser.specs.declared.parser.Func.TheVariants.{Print, Esc, Cs
 use Rattle.control_parser.specs.Spelling.{IsGiven}
 use Rattle.redraw.specs.Renditions.{rendition_params}
 use Rattle.redraw.specs.declared.command.Command.{Command}
-use Rattle.redraw.specs.declared.command.Command.TheVariants.{Glyph, MoveTo, NextLine, Forward}
-use Rattle.redraw.specs.declared.command.Command.TheVariants.{Render, EraseCells, EraseToEnd}
-use Rattle.redraw.specs.declared.command.Command.TheVariants.{Arrows, ShowCursor, Keypad}
+use Rattle.redraw.specs.declared.command.Command.TheVariants.{Glyph, MoveTo, NextLine, Forward, Render, EraseCells}
+use Rattle.redraw.specs.declared.command.Command.TheVariants.{EraseToEnd, Arrows, ShowCursor, Keypad}
 
 -- CUP: the line, and the column unless it is the first (ECMA-48, 8.3.21)
 abbrev pub place_params : ℕ → ℕ → List ℕ

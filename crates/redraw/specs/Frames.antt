@@ -1,6 +1,5 @@
 -- What a frame does to each terminal that agrees with a shadow.
-use Rattle.std.specs.Prelude.{◌≡◌, ◌⊎◌, ℕ, true, false, List, [], ◌++◌, length}
-use Rattle.std.specs.Prelude.{Option, Some, None, IfSome, IfNone}
+use Rattle.std.specs.Prelude.{◌≡◌, ◌⊎◌, ℕ, true, false, List, [], ◌++◌, length, Option, Some, None, IfSome, IfNone}
 use Rattle.cells.specs.Line.{plain}
 use Rattle.cells.specs.Page.{line_at, IsGrid}
 use Rattle.terminal_model.specs.declared.state.Position.{Position}

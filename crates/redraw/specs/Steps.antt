@@ -15,9 +15,8 @@ use Rattle.view.specs.declared.view.KeyModes.{KeyModes}
 use Rattle.view.specs.Drawable.{IsDrawable}
 use Rattle.view.specs.View.{place_of}
 use Rattle.redraw.specs.declared.pen.Pen.{Pen}
-use Rattle.redraw.specs.Drawing.{Drawing, Takes, Keeps, Writes, Stands, width_of, row_of}
-use Rattle.redraw.specs.Drawing.{AreLines, DrawsPiece, DrawsUpTo, HasPage, DrawsPage}
-use Rattle.redraw.specs.Drawing.{Stage, Final, HasView, ShowsView}
+use Rattle.redraw.specs.Drawing.{Drawing, Takes, Keeps, Writes, Stands, width_of, row_of, AreLines, DrawsPiece}
+use Rattle.redraw.specs.Drawing.{DrawsUpTo, HasPage, DrawsPage, Stage, Final, HasView, ShowsView}
 
 -- the bytes of a frame
 abbrev pub Bytes : Type 0

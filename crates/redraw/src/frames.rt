@@ -1,7 +1,6 @@
 //! Frames: the bytes that make a terminal show a view.
 
-ghost use Rattle.std.specs.Prelude.{◌≡◌, ◌≤◌, ◌↔◌, IsTrue, OnOk, OnErr, IfOk, IfNone, length};
-ghost use Rattle.std.specs.Prelude.{is_some};
+ghost use Rattle.std.specs.Prelude.{◌≡◌, ◌≤◌, ◌↔◌, IsTrue, OnOk, OnErr, IfOk, IfNone, length, is_some};
 ghost use Rattle.view.specs.View.{HasSize, KeepsSize, place_of};
 ghost use Rattle.view.specs.Drawable.{IsDrawable};
 ghost use Rattle.redraw.specs.Frames.{pen_of, FirstBytes, DrawsNext, IsNeeded, BytesDraw};

@@ -1,15 +1,13 @@
 //! Bytes from one page to another.
 
-ghost use Rattle.std.specs.Prelude.{◌≡◌, ◌+◌, ◌<◌, ◌≤◌, ℕ, ◌++◌};
-ghost use Rattle.std.specs.Prelude.{OnOk, IfOk, IfSome, IfNone, length};
+ghost use Rattle.std.specs.Prelude.{◌≡◌, ◌+◌, ◌<◌, ◌≤◌, ℕ, ◌++◌, OnOk, IfOk, IfSome, IfNone, length};
 ghost use Rattle.cells.specs.Line.{blank, cell_at};
 ghost use Rattle.cells.specs.Unlike.{IsNextUnlike, IsEndOfUnlike, AreAlikeFrom};
 ghost use Rattle.view.specs.View.{KeepsSize, place_of};
 ghost use Rattle.redraw.specs.Commands.{IsPlaced};
 ghost use Rattle.redraw.specs.Shadow.{AreAlikeAbove};
 ghost use Rattle.redraw.specs.Drawing.{changed};
-ghost use Rattle.redraw.specs.Steps.{PutsPiece, PutsLine, PutsPage, PutsView};
-ghost use Rattle.redraw.specs.Steps.{SetsModes, PutsCursor};
+ghost use Rattle.redraw.specs.Steps.{PutsPiece, PutsLine, PutsPage, PutsView, SetsModes, PutsCursor};
 
 use crate::command::Command;
 use crate::pen::{Pen, PenPosition, columns_of};

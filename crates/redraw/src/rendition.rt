@@ -3,8 +3,7 @@
 ghost use Rattle.std.specs.Prelude.{◌≡◌, ◌<◌, ◌≤◌, ◌+◌, [], ◌∷◌, ◌++◌, length};
 ghost use Rattle.terminal_model.specs.Functions.{colour_digit};
 ghost use Rattle.terminal_model.specs.Places.{value_if, value_of_colour};
-ghost use Rattle.redraw.specs.Renditions.{switched, recoloured};
-ghost use Rattle.redraw.specs.Renditions.{whole_params, change_params, rendition_params, listed};
+ghost use Rattle.redraw.specs.Renditions.{switched, recoloured, whole_params, change_params, rendition_params, listed};
 ghost use Rattle.redraw.specs.Renditions.{value_bytes, all_bytes, shorter};
 
 use cells::{Colour, Rendition};

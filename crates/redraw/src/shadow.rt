@@ -1,7 +1,6 @@
 //! What is known of a client's terminal.
 
-ghost use Rattle.std.specs.Prelude.{◌≡◌, ◌<◌, ◌≤◌, ◌↔◌, None, IsTrue, IfNone, IfSome, length};
-ghost use Rattle.std.specs.Prelude.{IfOk};
+ghost use Rattle.std.specs.Prelude.{◌≡◌, ◌<◌, ◌≤◌, ◌↔◌, None, IsTrue, IfNone, IfSome, length, IfOk};
 ghost use Rattle.cells.specs.Page.{IsGrid};
 ghost use Rattle.view.specs.View.{KeepsSize, place_of};
 ghost use Rattle.terminal_model.specs.Shows.{LooksLike};

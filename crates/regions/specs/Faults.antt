@@ -1,8 +1,7 @@
 -- The number of each fault.
 use Rattle.std.specs.Prelude.{ℕ}
 use Rattle.regions.specs.declared.layout.RegionFault.{RegionFault}
-use Rattle.regions.specs.declared.layout.RegionFault.TheVariants.{TooSmall, TooMany}
-use Rattle.regions.specs.declared.layout.RegionFault.TheVariants.{LastRegion, NoMemory}
+use Rattle.regions.specs.declared.layout.RegionFault.TheVariants.{TooSmall, TooMany, LastRegion, NoMemory}
 
 abbrev pub number : RegionFault → ℕ
 number TooSmall = 1

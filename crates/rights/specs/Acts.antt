@@ -12,8 +12,7 @@ use Rattle.acl.specs.declared.entries.NewLeader.TheVariants.{Nobody, Named}
 use Rattle.acl.specs.declared.user_id.UserId.{UserId}
 use Rattle.acl.specs.slots.TheConstants.{WINDOWS}
 use Rattle.acl.specs.Commands.{new_name_fault, known_name_fault, group_fault}
-use Rattle.acl.specs.History.{History, is_known, is_open, open_count, there, may}
-use Rattle.acl.specs.History.{users_of, among, leaders_of}
+use Rattle.acl.specs.History.{History, is_known, is_open, open_count, there, may, users_of, among, leaders_of}
 use Rattle.writelock.specs.Holding.{is_off, clients_of}
 
 abbrev pub leader_in : Option UserId → NewLeader

@@ -1,6 +1,5 @@
 -- What rights stand for, and what it stands for after one act more.
-use Rattle.std.specs.Prelude.{Bool, true, ◌≡◌, ◌↔◌, List, ◌∷◌, ◌++◌, Option, Some, Ok, IfOk}
-use Rattle.std.specs.Prelude.{Result, is_none}
+use Rattle.std.specs.Prelude.{Bool, true, ◌≡◌, ◌↔◌, List, ◌∷◌, ◌++◌, Option, Some, Ok, IfOk, Result, is_none}
 use Rattle.std.specs.List.{AllByRecursion}
 use Rattle.std.specs.declared.alloc.AllocError.{AllocError}
 use Rattle.acl.specs.declared.act.Act.{Act}

@@ -5,8 +5,7 @@ ghost use Rattle.acl.specs.declared.act.Act.TheVariants.{Known, Gone, Set, Group
 ghost use Rattle.acl.specs.declared.leaders.Edition.{Edition};
 ghost use Rattle.acl.specs.declared.user_id.UserId.{UserId};
 ghost use Rattle.acl.specs.History.{History};
-ghost use Rattle.rights.specs.Following.{Redoes, Tells, StandsAfter, is_nameable};
-ghost use Rattle.rights.specs.Following.{FollowsFront, SetsAll};
+ghost use Rattle.rights.specs.Following.{Redoes, Tells, StandsAfter, is_nameable, FollowsFront, SetsAll};
 ghost use Rattle.rights.specs.Acts.{leader_in};
 
 use crate::rights::Rights;

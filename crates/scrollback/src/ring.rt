@@ -1,13 +1,11 @@
 //! A ring of lines.
 
-ghost use Rattle.std.specs.Prelude.{◌≡◌, [], ◌++◌, length, map, reverse, slice_get};
-ghost use Rattle.std.specs.Prelude.{option_copied, IfOk, OnOk, OnErr};
+ghost use Rattle.std.specs.Prelude.{◌≡◌, [], ◌++◌, length, map, reverse, slice_get, option_copied, IfOk, OnOk, OnErr};
 ghost use Rattle.std.specs.Prelude.{replicate, ◌+◌, ◌≤◌};
 ghost use Rattle.circular_buffer.specs.Buffer.{buffer as buffer_of};
 ghost use Rattle.cells.specs.Line.{blank};
 ghost use Rattle.cells.specs.Resizing.{line_resized};
-ghost use Rattle.scrollback.specs.Kept.{no_lines, with_line, resized_lines, StandsFor, Continues};
-ghost use Rattle.scrollback.specs.Kept.{ContinuesResized};
+ghost use Rattle.scrollback.specs.Kept.{no_lines, with_line, resized_lines, StandsFor, Continues, ContinuesResized};
 
 use cells::{Cell, Line};
 use circular_buffer::HeapCircularBuffer;

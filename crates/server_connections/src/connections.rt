@@ -1,8 +1,7 @@
 //! The connections of one loop, by their keys, and how those that are awake have their turn.
 
-ghost use Rattle.std.specs.Prelude.{◌≡◌, ◌≢◌, ◌↔◌, ◌+◌, ◌<◌, ◌≤◌, ℕ, [], None, false, true, length, min};
-ghost use Rattle.std.specs.Prelude.{IfSome, IsSomeAnd, IsTrue, IfErr, OnOk, OnErr, if◌then◌else◌};
-ghost use Rattle.std.specs.Prelude.{option_copied};
+ghost use Rattle.std.specs.Prelude.{◌≡◌, ◌≢◌, ◌↔◌, ◌+◌, ◌<◌, ◌≤◌, ℕ, [], None, false, true, length, min, IfSome};
+ghost use Rattle.std.specs.Prelude.{IsSomeAnd, IsTrue, IfErr, OnOk, OnErr, if◌then◌else◌, option_copied};
 ghost use Rattle.std.specs.Option.{option_copied_mut};
 ghost use Rattle.slab.specs.Slab.{Updates, get, slab_len};
 ghost use Rattle.server_sending.specs.Frames.{Sends, SendsFront};

@@ -1,9 +1,8 @@
 //! Keys that are marked.
 
 ghost use Rattle.std.specs.Prelude.{◌≡◌, ◌↔◌, ◌<◌, ◌≤◌, ℕ, None, IfSome, OnOk, length, max, vec_len};
-ghost use Rattle.server_connections.specs.Marked.{HasRoom, IsMarked, IsNext, IsSameBut, NoneFrom};
-ghost use Rattle.server_connections.specs.Marked.{IsFirstBit, HasNoBit, HaveSameMarks};
-ghost use Rattle.server_connections.specs.Marked.{with_mark, without_mark};
+ghost use Rattle.server_connections.specs.Marked.{HasRoom, IsMarked, IsNext, IsSameBut, NoneFrom, IsFirstBit, HasNoBit};
+ghost use Rattle.server_connections.specs.Marked.{HaveSameMarks, with_mark, without_mark};
 
 use std::alloc::{AllocError, Global};
 use std::marker::Model;

@@ -3,9 +3,8 @@
 ghost use Rattle.std.specs.Prelude.{◌≡◌, ◌↔◌, ◌<◌, ◌&&◌, ◌||◌, IfOk, IsTrue, Some, false, true, length, not};
 ghost use Rattle.std.specs.Prelude.{option_map};
 ghost use Rattle.std.specs.Result.{result_ok};
-ghost use Rattle.server_connections.specs.Peers.{IsNewcomer, awaits, has_more, is_at_rest, is_awaited};
-ghost use Rattle.server_connections.specs.Peers.{is_closed, is_done, is_due, is_new, is_open, is_stranger};
-ghost use Rattle.server_connections.specs.Peers.{listens};
+ghost use Rattle.server_connections.specs.Peers.{IsNewcomer, awaits, has_more, is_at_rest, is_awaited, is_closed};
+ghost use Rattle.server_connections.specs.Peers.{is_done, is_due, is_new, is_open, is_stranger, listens};
 ghost use Rattle.server_connections.specs.Life.{dismissed, given_up, gone_guest, left, parting};
 ghost use Rattle.server_connections.specs.Life.{wanted_draw, without_guest};
 ghost use Rattle.server_connections.specs.Streaming.{Gathers};

@@ -3,8 +3,7 @@
 ghost use Rattle.std.specs.Prelude.{◌≡◌, ◌⊎◌, ◌∷◌, ◌||◌, ℕ, List, [], Some, None, IfSome, false, length, true};
 ghost use Rattle.server_connections.specs.Peers.{is_open, is_stranger};
 ghost use Rattle.server_connections.specs.Reading.{IsReadOnce, IsUnasked, after_none, is_again, is_readable};
-ghost use Rattle.server_connections.specs.Streaming.{IsFull, IsWrittenTo, WritesAll, WritesOnce, after_write};
-ghost use Rattle.server_connections.specs.Streaming.{goes_on};
+ghost use Rattle.server_connections.specs.Streaming.{IsFull, IsWrittenTo, WritesAll, WritesOnce, after_write, goes_on};
 ghost use Rattle.server_inbox.specs.Asking.{Gives, TakesIn, refilled};
 
 use crate::peer::{Peer, Role, Stage};

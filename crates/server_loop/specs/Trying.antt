@@ -1,6 +1,5 @@
 -- An event that a user tries. Times are in nanoseconds.
-use Rattle.std.specs.Prelude.{◌≡◌, ◌⊎◌, ◌+◌, ◌*◌, ◌/◌, ℕ, true, false, Some, None, Ok, Err, IfSome}
-use Rattle.std.specs.Prelude.{min, unwrap_or}
+use Rattle.std.specs.Prelude.{◌≡◌, ◌⊎◌, ◌+◌, ◌*◌, ◌/◌, ℕ, true, false, Some, None, Ok, Err, IfSome, min, unwrap_or}
 use Rattle.std.specs.Duration.{as_nanos}
 use Rattle.std.specs.declared.time.Duration.{Duration}
 use Rattle.acl.specs.declared.user_id.UserId.{UserId}

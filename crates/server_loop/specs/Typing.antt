@@ -9,9 +9,8 @@ use Rattle.server_connections.specs.declared.connections.Connections.{Connection
 use Rattle.server_sending.specs.Frames.{PutsMessage}
 use Rattle.server_sending.specs.Written.{Waiting}
 use Rattle.server_steps.specs.Settling.{Tried, is_judged, is_refused, progress_of, settled}
-use Rattle.server_steps.specs.Typing.{GathersAt, answered, freed_keys, held_keys, idle_at, is_news_at}
-use Rattle.server_steps.specs.Typing.{size_at, sized, target_at, told_news, typed_at, unless_more}
-use Rattle.server_steps.specs.Typing.{user_at, wants_size, with_typed}
+use Rattle.server_steps.specs.Typing.{GathersAt, answered, freed_keys, held_keys, idle_at, is_news_at, size_at, sized}
+use Rattle.server_steps.specs.Typing.{target_at, told_news, typed_at, unless_more, user_at, wants_size, with_typed}
 use Rattle.server_steps.specs.declared.progress.Progress.{Progress}
 use Rattle.server_steps.specs.declared.progress.Progress.TheVariants as made
 use Rattle.server_steps.specs.declared.typing.Target.{Target}

@@ -2,8 +2,7 @@
 
 ghost use Rattle.std.specs.Prelude.{◌≡◌};
 ghost use Rattle.server_loop.specs.Submitting.{state_of};
-ghost use Rattle.server_loop.specs.Typing.{FaultsIf, Judges, MustWait, Resizes, Stops, TellsDropped, Types};
-ghost use Rattle.server_loop.specs.Typing.{millis_of};
+ghost use Rattle.server_loop.specs.Typing.{FaultsIf, Judges, MustWait, Resizes, Stops, TellsDropped, Types, millis_of};
 
 use crate::own::Loop;
 use server_connections::{PeerStream, Sending, SessionSeat};

@@ -1,7 +1,6 @@
 -- Frames that were typed, among the bytes that wait.
-use Rattle.std.proofs.Common.{◌≡◌, ◌∙◌, ℕ, ◌+◌, ◌-◌, ◌≤◌, Bool, true, false, List, [], ◌∷◌, ◌++◌, refl, ap, sym}
-use Rattle.std.proofs.Common.{length, take, drop, arith, subst, length-append, length-drop, append_assoc, get_or, set}
-use Rattle.std.proofs.Common.{◌<◌}
+use Rattle.std.proofs.Common.{◌≡◌, ◌∙◌, ℕ, ◌+◌, ◌-◌, ◌≤◌, Bool, true, false, List, [], ◌∷◌, ◌++◌, refl, ap, sym, length}
+use Rattle.std.proofs.Common.{take, drop, arith, subst, length-append, length-drop, append_assoc, get_or, set, ◌<◌}
 use Rattle.std.proofs.Math.Seq.{paste}
 use Rattle.std.specs.Prelude.{nat_le, if◌then◌else◌}
 use Rattle.std.proofs.lemmas.Bool.{leb-true}

@@ -3,8 +3,7 @@
 ghost use Rattle.std.specs.Prelude.{◌≡◌, Err, OnOk, OnErr};
 ghost use Rattle.attach_proto.specs.Spelling.{IsSpellable, spelling};
 ghost use Rattle.attach_proto.specs.declared.message.Message.TheVariants as message;
-ghost use Rattle.server_sending.specs.Frames.{IsUnspellable, PutsFrames, PutsFront, PutsMessage};
-ghost use Rattle.server_sending.specs.Frames.{Sends, SendsFront};
+ghost use Rattle.server_sending.specs.Frames.{IsUnspellable, PutsFrames, PutsFront, PutsMessage, Sends, SendsFront};
 ghost use Rattle.server_sending.specs.Causes.{told_of};
 
 use crate::turn::Turn;

@@ -1,9 +1,7 @@
 //! What a connection has still to write.
 
-ghost use Rattle.std.specs.Prelude.{◌≡◌, ◌==◌, ◌&&◌, ◌≤◌, ◌++◌, ℕ, List, [], None, true, false};
-ghost use Rattle.std.specs.Prelude.{length, drop, take, vec_len, vec_capacity};
-ghost use Rattle.std.specs.Prelude.{IfOk, IfSome, OnOk, OnErr, if◌then◌else◌};
-ghost use Rattle.std.specs.Prelude.{◌+◌, ◌-◌};
+ghost use Rattle.std.specs.Prelude.{◌≡◌, ◌==◌, ◌&&◌, ◌≤◌, ◌++◌, ℕ, List, [], None, true, false, length, drop, take};
+ghost use Rattle.std.specs.Prelude.{vec_len, vec_capacity, IfOk, IfSome, OnOk, OnErr, if◌then◌else◌, ◌+◌, ◌-◌};
 ghost use Rattle.std.specs.Io.KnownBytes.{WriteAppends};
 ghost use Rattle.server_sending.specs.Typists.{HasNoTypist, IsNextTypist};
 ghost use Rattle.server_sending.specs.Written.{HasWritten, IsWritten, ended, unbegun, with_frame, without_typed};

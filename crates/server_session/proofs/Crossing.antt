@@ -1,11 +1,10 @@
 -- Loops in several threads may share a session, and hand back its seats.
 use denote.RattleType.{RattleType}
-use denote.Param.Send.{IsSync}
+use denote.Param.Send.{IsSync, sendable}
 use denote.Param.SendFields.{declared_sync}
 use Rattle.std.specs.declared.sync.ledger.Ledger.{Ghosts}
 use Rattle.hub.specs.Begun.{Ghosts as Beginnings}
 use Rattle.hub.proofs.Crossing.{hub_sync, seats_sync}
-use denote.Param.Send.{sendable}
 use Rattle.std.proofs.Crossing.{crosses}
 use Rattle.server_users.proofs.users.Users.TheSendSync as users
 use Rattle.server_trail.proofs.recorder.Recorder.TheSendSync as recorder

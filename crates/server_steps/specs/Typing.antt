@@ -9,8 +9,7 @@ use Rattle.server_connections.specs.declared.connections.Connections.{Connection
 use Rattle.server_connections.specs.declared.peer.Peer.{Peer}
 use Rattle.server_inbox.specs.Asking.{is_taken}
 use Rattle.server_typing.specs.Sized.{after_size, next_size}
-use Rattle.server_typing.specs.Typed.{Typed, after_news, begins_command, drains, holding, is_news, let_go}
-use Rattle.server_typing.specs.Typed.{untyped}
+use Rattle.server_typing.specs.Typed.{Typed, after_news, begins_command, drains, holding, is_news, let_go, untyped}
 use Rattle.server_users.specs.declared.user.Shown.{Shown}
 use Rattle.server_steps.specs.Settling.{Tried, progress_of, settled, window_after}
 use Rattle.server_steps.specs.declared.progress.Progress.{Progress}

@@ -3,9 +3,8 @@
 ghost use Rattle.std.specs.Prelude.{◌≡◌, length};
 ghost use Rattle.slab.specs.Slab.{get};
 ghost use Rattle.server_connections.specs.Changing.{changed};
-ghost use Rattle.server_steps.specs.Asking.{AsksAt, ReadsAt, drains_at, goes_on, has_asked_at, held_after};
-ghost use Rattle.server_steps.specs.Asking.{is_due_at, is_faulty_at, is_much, is_window_at, left_over, prints_at};
-ghost use Rattle.server_steps.specs.Asking.{unheld};
+ghost use Rattle.server_steps.specs.Asking.{AsksAt, ReadsAt, drains_at, goes_on, has_asked_at, held_after, is_due_at};
+ghost use Rattle.server_steps.specs.Asking.{is_faulty_at, is_much, is_window_at, left_over, prints_at, unheld};
 
 use crate::progress::Progress;
 use server_connections::{Arrival, Asked, Connections, PeerStream, Role};

@@ -6,10 +6,9 @@ ghost use Rattle.slab.specs.Slab.{get};
 ghost use Rattle.server_connections.specs.Changing.{changed};
 ghost use Rattle.server_typing.specs.Typed.{is_idle, untyped};
 ghost use Rattle.server_steps.specs.Settling.{progress_of, settled};
-ghost use Rattle.server_steps.specs.Typing.{GathersAt, answered, freed_keys, held_keys, idle_at};
-ghost use Rattle.server_steps.specs.Typing.{is_news_at, is_open_at, size_at, sized, target_at};
-ghost use Rattle.server_steps.specs.Typing.{put_keys, told_news, typed_at, unless_more, user_at};
-ghost use Rattle.server_steps.specs.Typing.{wants_size, with_typed};
+ghost use Rattle.server_steps.specs.Typing.{GathersAt, answered, freed_keys, held_keys, idle_at, is_news_at};
+ghost use Rattle.server_steps.specs.Typing.{is_open_at, size_at, sized, target_at, put_keys, told_news, typed_at};
+ghost use Rattle.server_steps.specs.Typing.{unless_more, user_at, wants_size, with_typed};
 
 use crate::progress::{Progress, settle, window_after};
 use server_connections::{Connections, SeatAnswer, SeatFault, Size, Typeahead};

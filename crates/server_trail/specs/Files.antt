@@ -1,6 +1,5 @@
 -- A trail's file: the bytes that were written, and the trail that it has when it is read back.
-use Rattle.std.specs.Prelude.{◌≡◌, ℕ, ◌+◌, Bool, true, false, List, [], ◌∷◌, ◌++◌, length, take, Option}
-use Rattle.std.specs.Prelude.{Some, None}
+use Rattle.std.specs.Prelude.{◌≡◌, ℕ, ◌+◌, Bool, true, false, List, [], ◌∷◌, ◌++◌, length, take, Option, Some, None}
 use Rattle.std.specs.Io.KnownBytes.{Appends, Keeps}
 use Rattle.acl.specs.declared.leaders.Edition.TheVariants as edition
 use Rattle.acl.specs.declared.user_id.UserId.{UserId}

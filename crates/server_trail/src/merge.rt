@@ -1,7 +1,6 @@
 //! Lines in the order of their places.
 
-ghost use Rattle.std.specs.Prelude.{◌≡◌, ◌+◌, ◌-◌, ◌^◌, ◌++◌, ◌∷◌, [], ℕ, List};
-ghost use Rattle.std.specs.Prelude.{OnOk, OnErr, min, vec_len};
+ghost use Rattle.std.specs.Prelude.{◌≡◌, ◌+◌, ◌-◌, ◌^◌, ◌++◌, ◌∷◌, [], ℕ, List, OnOk, OnErr, min, vec_len};
 ghost use Rattle.server_trail.specs.Merging.{Placed, HasMerged, IsMerging, early_bytes};
 
 use std::alloc::{AllocError, Global};

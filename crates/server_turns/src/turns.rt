@@ -2,9 +2,8 @@
 
 ghost use Rattle.std.specs.Prelude.{◌≡◌};
 ghost use Rattle.server_turns.specs.Course.{course_of};
-ghost use Rattle.server_turns.specs.Turns.{Asks, Ends, EndsReads, EndsServer, EndsWrites, Holds, Learns, Looks};
-ghost use Rattle.server_turns.specs.Turns.{Notes, ReadsTurn, Tells, Turns, WakesIf, WindsAll, WindsOn};
-ghost use Rattle.server_turns.specs.Turns.{WindsUntil, WindsUp};
+ghost use Rattle.server_turns.specs.Turns.{Asks, Ends, EndsReads, EndsServer, EndsWrites, Holds, Learns, Looks, Notes};
+ghost use Rattle.server_turns.specs.Turns.{ReadsTurn, Tells, Turns, WakesIf, WindsAll, WindsOn, WindsUntil, WindsUp};
 
 use crate::around::Around;
 use crate::turner::Turner;

@@ -1,6 +1,5 @@
 -- The users' file: lines of a name, one blank and a token.
-use Rattle.std.specs.Prelude.{◌≡◌, ◌⊎◌, ℕ, ◌+◌, ◌<◌, true, List, []}
-use Rattle.std.specs.Prelude.{◌∷◌, ◌++◌, length, map, All, Contains}
+use Rattle.std.specs.Prelude.{◌≡◌, ◌⊎◌, ℕ, ◌+◌, ◌<◌, true, List, [], ◌∷◌, ◌++◌, length, map, All, Contains}
 use Rattle.std.specs.List.{flat_map}
 use Rattle.acl.specs.Names.{is_name}
 use Rattle.attach_proto.specs.Texts.{IsToken}

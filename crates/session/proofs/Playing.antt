@@ -1,9 +1,8 @@
 -- Lines that are played one after another.
-use Rattle.session.proofs.Vocabulary.{ℕ, ◌<◌, ◌≡◌, refl, sym, ◌∙◌, ap, subst, List, [], ◌∷◌, ◌++◌, map}
-use Rattle.session.proofs.Vocabulary.{Option, Some, None, append_assoc, flat_map-append, append-nil, map-append}
-use Rattle.session.proofs.Vocabulary.{Appends, Keeps, Entry, Trace, with_step, StandsFor, with_steps}
-use Rattle.session.proofs.Vocabulary.{AllSteps, KeepsPromise, Session, event_of, filled, Plays, step_lines}
-use Rattle.session.proofs.Vocabulary.{printed, Played}
+use Rattle.session.proofs.Vocabulary.{ℕ, ◌<◌, ◌≡◌, refl, sym, ◌∙◌, ap, subst, List, [], ◌∷◌, ◌++◌, map, Option, Some}
+use Rattle.session.proofs.Vocabulary.{None, append_assoc, flat_map-append, append-nil, map-append, Appends, Keeps}
+use Rattle.session.proofs.Vocabulary.{Entry, Trace, with_step, StandsFor, with_steps, AllSteps, KeepsPromise, Session}
+use Rattle.session.proofs.Vocabulary.{event_of, filled, Plays, step_lines, printed, Played}
 use Rattle.session.proofs.Serving.{with_steps-append, serves_before, serves_on}
 
 -- ---- known bytes

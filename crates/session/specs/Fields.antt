@@ -1,6 +1,5 @@
 -- What the fields of a script's line say.
-use Rattle.std.specs.Prelude.{ℕ, ◌^◌, if◌then◌else◌, nat_le, min}
-use Rattle.std.specs.Prelude.{List, length, Option, Some, None, option_map, codes}
+use Rattle.std.specs.Prelude.{ℕ, ◌^◌, if◌then◌else◌, nat_le, min, List, length, Option, Some, None, option_map, codes}
 use Rattle.std.specs.Str.{is_utf8, bytes_eq}
 use Rattle.acl.specs.Names.{named_by}
 use Rattle.line_fields.specs.Events.{Field, User, Number, Serial, Window, Bytes, Text, Title, Value}

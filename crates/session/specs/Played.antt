@@ -1,6 +1,5 @@
 -- What a played script prints.
-use Rattle.std.specs.Prelude.{ℕ, ◌+◌, Bool, List, [], ◌∷◌, ◌++◌, ◌≡◌, if◌then◌else◌}
-use Rattle.std.specs.Prelude.{Option, Some, None, map, length}
+use Rattle.std.specs.Prelude.{ℕ, ◌+◌, Bool, List, [], ◌∷◌, ◌++◌, ◌≡◌, if◌then◌else◌, Option, Some, None, map, length}
 use Rattle.std.specs.List.{flat_map}
 use Rattle.std.specs.Io.KnownBytes.{Appends}
 use Rattle.session_model.specs.Trace.{EventValue, Entry, Trace}

@@ -5,8 +5,7 @@ use Rattle.acl.specs.declared.leaders.Edition.{Edition}
 use Rattle.acl.specs.declared.leaders.Edition.TheVariants.{First, Second}
 use Rattle.acl.specs.declared.user_id.UserId.{UserId}
 use Rattle.acl.specs.Names.{named_by}
-use Rattle.clap.specs.Words.{App, Rule, Text, new_app, new_rule, with_rule, matches_of, takes}
-use Rattle.clap.specs.Words.{first_of, one_of}
+use Rattle.clap.specs.Words.{App, Rule, Text, new_app, new_rule, with_rule, matches_of, takes, first_of, one_of}
 use Rattle.clap.specs.declared.builder.ArgAction.TheVariants.{SetTrue}
 use Rattle.clap.specs.declared.builder.value_parser.ValueParser.TheVariants.{Signed}
 use Rattle.session_model.specs.Trace.{begun}

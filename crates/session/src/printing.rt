@@ -6,10 +6,8 @@ ghost use Rattle.session_model.specs.Texts.{text_of};
 ghost use Rattle.session_model.specs.Trace.{happening};
 ghost use Rattle.view.specs.View.{place_of};
 ghost use Rattle.line_fields.specs.Texts.{is_plain, escape};
-ghost use Rattle.session.specs.Printed.{escaped, line, number_of_reason};
-ghost use Rattle.session.specs.Printed.{gone_line, effect_line, text_line, done_line};
-ghost use Rattle.session.specs.Printed.{reply_line, cell_text, row_line};
-ghost use Rattle.session.specs.Printed.{cursor_line, view_lines};
+ghost use Rattle.session.specs.Printed.{escaped, line, number_of_reason, gone_line, effect_line, text_line, done_line};
+ghost use Rattle.session.specs.Printed.{reply_line, cell_text, row_line, cursor_line, view_lines};
 
 use cells::{Cell, Marks};
 use session_model::{Bytes, Done, Effect, Event, Peer, Reason, Refusal, Reply};

@@ -1,15 +1,12 @@
 //! The arguments of the simulator.
 
-ghost use Rattle.std.specs.Prelude.{◌≡◌, Bool, true, false, Some, IfOk, IfErr, map, codes};
-ghost use Rattle.std.specs.Prelude.{option_and_then, option_map};
+ghost use Rattle.std.specs.Prelude.{◌≡◌, Bool, true, false, Some, IfOk, IfErr, map, codes, option_and_then, option_map};
 ghost use Rattle.std.specs.String.{string_bytes};
 ghost use Rattle.acl.specs.declared.leaders.Edition.{Edition as Groups};
 ghost use Rattle.acl.specs.declared.user_id.UserId.{UserId as Owner};
 ghost use Rattle.acl.specs.Names.{named_by};
-ghost use Rattle.clap.specs.Words.{found_of, kind_of, rows_of, matches_of, takes, first_of};
-ghost use Rattle.clap.specs.Words.{one_text, rule_of};
-ghost use Rattle.session.specs.Words.{muxsim, edition, setup, show, trail, owner, edition_text};
-ghost use Rattle.session.specs.Words.{Asks, IsBeginning};
+ghost use Rattle.clap.specs.Words.{found_of, kind_of, rows_of, matches_of, takes, first_of, one_text, rule_of};
+ghost use Rattle.session.specs.Words.{muxsim, edition, setup, show, trail, owner, edition_text, Asks, IsBeginning};
 
 use crate::setup_file::Beginning;
 use acl::{Edition, UserId};

@@ -19,8 +19,7 @@ use Rattle.windows_model.proofs.Serials.{serial_is}
 use Rattle.session_state.specs.declared.state.Caller.{Caller}
 use Rattle.session_model.specs.Sound.{AreFit}
 use Rattle.session_state.specs.Doing.{caller_in}
-use Rattle.session_checks.specs.Checked.{AllMade, listed, only_if, access, writing, writing_on}
-use Rattle.session_checks.specs.Checked.{lock_on, row_of_caller}
+use Rattle.session_checks.specs.Checked.{AllMade, listed, only_if, access, writing, writing_on, lock_on, row_of_caller}
 
 -- a check that is needed, and then others
 pub needed : (b : Bool) (c : Check) (cs : List (Option Check))

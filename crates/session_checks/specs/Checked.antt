@@ -1,7 +1,6 @@
 -- Checks that were made.
-use Rattle.std.specs.Prelude.{ℕ, ◌≡◌, ◌⊎◌, ◌++◌, true, false, List, [], ◌∷◌}
-use Rattle.std.specs.Prelude.{Option, Some, None, Result, Ok, Err, if◌then◌else◌, Bool}
-use Rattle.std.specs.Prelude.{nat_lt, ◌&&◌, length}
+use Rattle.std.specs.Prelude.{ℕ, ◌≡◌, ◌⊎◌, ◌++◌, true, false, List, [], ◌∷◌, Option, Some, None, Result, Ok, Err}
+use Rattle.std.specs.Prelude.{if◌then◌else◌, Bool, nat_lt, ◌&&◌, length}
 use Rattle.std.specs.Option.{option_map}
 use Rattle.acl.specs.declared.user_id.UserId.{UserId}
 use Rattle.acl.specs.declared.bits.Bit.TheVariants.{Write, Execute}

@@ -6,8 +6,7 @@ ghost use Rattle.session_model.specs.Checks.{checks};
 ghost use Rattle.session_state.specs.Stands.{Stands};
 ghost use Rattle.session_model.specs.Sound.{AreFit};
 ghost use Rattle.session_state.specs.Doing.{caller_in};
-ghost use Rattle.session_checks.specs.Checked.{Checked, row_of_caller, access, writing_on, lock_on};
-ghost use Rattle.session_checks.specs.Checked.{only_if};
+ghost use Rattle.session_checks.specs.Checked.{Checked, row_of_caller, access, writing_on, lock_on, only_if};
 
 use crate::checks::check_all;
 use acl::{Bit, Object, UserId};

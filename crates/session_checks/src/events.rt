@@ -3,8 +3,7 @@
 ghost use Rattle.std.specs.Prelude.{◌≡◌, ◌∷◌, []};
 ghost use Rattle.session_model.specs.Tables.{Tables, is_known};
 ghost use Rattle.session_model.specs.Checks.{typing_checks};
-ghost use Rattle.session_model.specs.Comings.{is_client_size, is_let_in, has_place};
-ghost use Rattle.session_model.specs.Comings.{attach_checks, open_checks};
+ghost use Rattle.session_model.specs.Comings.{is_client_size, is_let_in, has_place, attach_checks, open_checks};
 ghost use Rattle.session_model.specs.declared.refusal.Check.TheVariants.{Must as must};
 ghost use Rattle.session_model.specs.declared.refusal.Refusal.TheVariants.{BadSize};
 ghost use Rattle.session_state.specs.Stands.{Stands};

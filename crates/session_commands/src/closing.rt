@@ -1,7 +1,6 @@
 //! How windows are closed.
 
-ghost use Rattle.std.specs.Prelude.{◌≡◌, ◌≤◌, ◌+◌, ◌++◌, ℕ, map, length};
-ghost use Rattle.std.specs.Prelude.{vec_len, vec_capacity, IfOk};
+ghost use Rattle.std.specs.Prelude.{◌≡◌, ◌≤◌, ◌+◌, ◌++◌, ℕ, map, length, vec_len, vec_capacity, IfOk};
 ghost use Rattle.acl.specs.declared.leaders.Edition.{Edition};
 ghost use Rattle.acl.specs.History.{History, followed_by};
 ghost use Rattle.acl.specs.Table.{StandsFor};

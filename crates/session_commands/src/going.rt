@@ -1,11 +1,9 @@
 //! How clients go.
 
-ghost use Rattle.std.specs.Prelude.{◌≡◌, ◌≤◌, ◌+◌, ◌++◌, ℕ, not, filter, map};
-ghost use Rattle.std.specs.Prelude.{length, reverse, vec_len, vec_capacity};
+ghost use Rattle.std.specs.Prelude.{◌≡◌, ◌≤◌, ◌+◌, ◌++◌, ℕ, not, filter, map, length, reverse, vec_len, vec_capacity};
 ghost use Rattle.std.specs.Prelude.{IfOk};
 ghost use Rattle.session_state.specs.Clients.{Keeps};
-ghost use Rattle.session_commands.specs.Going.{goes, goes_now, gone_now, parted_now};
-ghost use Rattle.session_commands.specs.Going.{attached_now, Goes, TellsLocks};
+ghost use Rattle.session_commands.specs.Going.{goes, goes_now, gone_now, parted_now, attached_now, Goes, TellsLocks};
 
 use crate::giver::Context;
 use acl::{Act, UserId};

@@ -1,15 +1,12 @@
 //! The objects that the items of a list name.
 
-ghost use Rattle.std.specs.Prelude.{◌≡◌, ◌++◌, OnOk, IfOk, IfErr, None, Some};
-ghost use Rattle.std.specs.Prelude.{map};
+ghost use Rattle.std.specs.Prelude.{◌≡◌, ◌++◌, OnOk, IfOk, IfErr, None, Some, map};
 ghost use Rattle.acl.specs.declared.act.Object.TheVariants.{Command};
 ghost use Rattle.session_model.specs.Tables.{Tables};
-ghost use Rattle.session_model.specs.Naming.{every_command, item_objects, objects_of};
-ghost use Rattle.session_model.specs.Naming.{every_window};
+ghost use Rattle.session_model.specs.Naming.{every_command, item_objects, objects_of, every_window};
 ghost use Rattle.windows.specs.Standing.{StandFor};
 ghost use Rattle.windows.specs.declared.window.Window.{Window};
-ghost use Rattle.session_commands.specs.Asked.{window_object, wide, object_named};
-ghost use Rattle.session_commands.specs.Asked.{Names, NamesNothing};
+ghost use Rattle.session_commands.specs.Asked.{window_object, wide, object_named, Names, NamesNothing};
 
 use acl::{CommandName, Object};
 use command_lang::{Text, command_named, has_byte, is_wide};

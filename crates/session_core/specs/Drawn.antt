@@ -1,6 +1,5 @@
 -- Clients that need no draw.
-use Rattle.std.specs.Prelude.{ℕ, ◌≡◌, ◌⊎◌, ◌++◌, Bool, false, List, [], ◌∷◌, Ok, Err}
-use Rattle.std.specs.Prelude.{MatchOption, nat_eq}
+use Rattle.std.specs.Prelude.{ℕ, ◌≡◌, ◌⊎◌, ◌++◌, Bool, false, List, [], ◌∷◌, Ok, Err, MatchOption, nat_eq}
 use Rattle.std.specs.List.{AllByRecursion, list_any}
 use Rattle.session_model.specs.Trace.{EventValue, Draw, Reply}
 use Rattle.session_model.specs.Tables.{Tables, client_at}

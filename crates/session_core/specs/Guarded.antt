@@ -11,8 +11,7 @@ use Rattle.session_laws.specs.Locking.{user_of, HoldersMayWrite, LocksAreTakenBy
 use Rattle.session_laws.specs.Naming.{WindowsStayIn}
 use Rattle.session_laws.specs.Opening.{IsGivenByMasks}
 use Rattle.session_laws.specs.Watching.{IsSpectator, LeavesOthers}
-use Rattle.session_core.specs.Headline.{AllSteps, Keeps, Call, SomeRun, IsRunOf, AreSteps}
-use Rattle.session_core.specs.Headline.{with_steps}
+use Rattle.session_core.specs.Headline.{AllSteps, Keeps, Call, SomeRun, IsRunOf, AreSteps, with_steps}
 use Rattle.session_core.specs.Stands.{StandsFor}
 use Rattle.session_core.specs.declared.session.Session.{Session}
 

@@ -9,8 +9,7 @@ use Rattle.session_model.specs.declared.event.Event.{Event}
 use Rattle.session_model.specs.declared.event.Ran.{Ran}
 use Rattle.session_model.specs.declared.refusal.Refusal.{Refusal}
 use Rattle.session_model.specs.declared.refusal.Refusal.TheVariants.{NoWindow, NoMemory}
-use Rattle.session_model.specs.Trace.{EventValue, Keys, Reply, Entry, Trace, with_step, begun}
-use Rattle.session_model.specs.Trace.{happening}
+use Rattle.session_model.specs.Trace.{EventValue, Keys, Reply, Entry, Trace, with_step, begun, happening}
 use Rattle.session_model.specs.Tables.{client_at}
 use Rattle.session_model.specs.Granted.{granted_view}
 use Rattle.session_model.specs.Run.{tables_of}

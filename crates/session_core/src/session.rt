@@ -1,7 +1,6 @@
 //! The session.
 
-ghost use Rattle.std.specs.Prelude.{◌≡◌, ◌≤◌, ◌<◌, Err, false, true, length, map, nat_le};
-ghost use Rattle.std.specs.Prelude.{IfOk, IfErr, IfSome};
+ghost use Rattle.std.specs.Prelude.{◌≡◌, ◌≤◌, ◌<◌, Err, false, true, length, map, nat_le, IfOk, IfErr, IfSome};
 ghost use Rattle.std.specs.List.{position};
 ghost use Rattle.acl.specs.declared.leaders.Edition.TheVariants as edition;
 ghost use Rattle.session_model.specs.declared.refusal.Refusal.TheVariants.{NoMemory};
@@ -12,9 +11,8 @@ ghost use Rattle.session_state.specs.declared.client.Client.{Client};
 ghost use Rattle.session_core.specs.Least.{least_from};
 ghost use Rattle.session_core.specs.MayType.{client_user, may_type};
 ghost use Rattle.session_core.specs.Stands.{StandsFor, IfTaken, Takes, wants_memory};
-ghost use Rattle.session_core.specs.Headline.{SomeRun, SomeSteps, IsRunOf, AllSteps, Keeps};
-ghost use Rattle.session_core.specs.Headline.{HasCome, run_call, take_call, IsPartOf, IsViewOf};
-ghost use Rattle.session_core.specs.Headline.{read_by};
+ghost use Rattle.session_core.specs.Headline.{SomeRun, SomeSteps, IsRunOf, AllSteps, Keeps, HasCome, run_call};
+ghost use Rattle.session_core.specs.Headline.{take_call, IsPartOf, IsViewOf, read_by};
 
 use crate::coming::{made_so, take};
 use crate::drawing::{draws_one_of, note_drawn};

@@ -2,8 +2,7 @@
 
 ghost use Rattle.std.specs.Prelude.{◌≡◌, [], None, IfOk, option_copied};
 ghost use Rattle.session_model.specs.Trace.{happening};
-ghost use Rattle.session_core.specs.Sharing.{is_one_of, without, Forgets, Joins, Begins};
-ghost use Rattle.session_core.specs.Sharing.{PassesOn, AreLeft};
+ghost use Rattle.session_core.specs.Sharing.{is_one_of, without, Forgets, Joins, Begins, PassesOn, AreLeft};
 
 use session_model::{CLIENTS, Event, Reply};
 use session_state::State;

@@ -1,6 +1,5 @@
 -- What an event does to a session's state, for all tables that the state stands for.
-use Rattle.std.specs.Prelude.{ℕ, ◌≡◌, ◌∷◌, [], true, List, Option, Some, None, Result, Ok, Err}
-use Rattle.std.specs.Prelude.{nat_lt, if◌then◌else◌}
+use Rattle.std.specs.Prelude.{ℕ, ◌≡◌, ◌∷◌, [], true, List, Option, Some, None, Result, Ok, Err, nat_lt, if◌then◌else◌}
 use Rattle.acl.specs.declared.user_id.UserId.{UserId}
 use Rattle.acl.specs.History.{History, is_open}
 use Rattle.session_model.specs.declared.refusal.Check.TheVariants.{Must as must}

@@ -18,8 +18,7 @@ use Rattle.session_laws.proofs.Outcomes as outcomes
 use Rattle.session_laws.proofs.Settling.{focus_row, line_row}
 use Rattle.session_laws.proofs.Steps.{Did, Obeys, with_clients}
 use Rattle.session_laws.proofs.Gating.{Below, obeys_of, first_passed, then_passed}
-use Rattle.session_laws.proofs.CommandLabels.{serial, label_in, closed, opened, written_label, labels_kept}
-use Rattle.session_laws.proofs.CommandLabels.{KeepsLabel}
+use Rattle.session_laws.proofs.CommandLabels.{serial, label_in, closed, opened, written_label, labels_kept, KeepsLabel}
 use Rattle.session_laws.proofs.Parting.{did_x}
 
 -- ---- commands act on open windows

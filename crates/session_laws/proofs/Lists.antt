@@ -1,7 +1,6 @@
 -- Facts that hold for all elements of a list, or for some.
 use Rattle.std.proofs.Common.{◌≡◌, ◌<◌, ℕ, Bool, true, false, List, [], ◌∷◌, ◌++◌, Some, refl, ap, sym, ◌∙◌, arith, map}
-use Rattle.std.proofs.Common.{subst}
-use Rattle.std.proofs.Common.{filter, inl, inr, ⊎_elim}
+use Rattle.std.proofs.Common.{subst, filter, inl, inr, ⊎_elim}
 use Rattle.std.specs.Prelude.{◌⊎◌, if◌then◌else◌, ◌==◌, ◌&&◌}
 use Rattle.std.specs.List.{AllByRecursion}
 use Rattle.std.proofs.lemmas.Bool.Decides.{nat_tests}

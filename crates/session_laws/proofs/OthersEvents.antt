@@ -19,8 +19,7 @@ use Rattle.session_laws.proofs.Events.{gives_commands, all_left, changed_by}
 use Rattle.session_laws.proofs.Callers.{Own, unique}
 use Rattle.session_laws.proofs.GuestsLeaving.{left_where, nobody, parted, turned, appended, shut}
 use Rattle.session_laws.proofs.HolderActs.{moves, IsCalm}
-use Rattle.session_laws.proofs.OthersActs.{both_all, Alone, alone, Silent, Others, Elsewhere, others_part}
-use Rattle.session_laws.proofs.OthersActs.{calm_left}
+use Rattle.session_laws.proofs.OthersActs.{both_all, Alone, alone, Silent, Others, Elsewhere, others_part, calm_left}
 use Rattle.session_laws.proofs.OthersActs.{others_left, elsewhere_left}
 
 -- what such an event does to the lock: it leaves it to its holder, or the window's program ended

@@ -19,20 +19,18 @@ use Rattle.session_laws.proofs.Vocabulary.{step_writing, all_written, all_weaken
 use Rattle.session_laws.proofs.Vocabulary.{some_row, some_elim}
 use Rattle.terminal_model.specs.Writing as written
 use Rattle.session_model.specs.declared.event.Reason.TheVariants as reason
-use Rattle.session_laws.proofs.Settling.{after_grows}
+use Rattle.session_laws.proofs.Settling.{after_grows, told_same, focus_row, line_row}
 use Rattle.session_laws.proofs.Inputs.{append_nil}
 use Rattle.session_laws.proofs.DifferentNumbers.{serial_of}
 use Rattle.session_laws.proofs.Doing.{Either}
 use Rattle.session_laws.proofs.Unread.{typing_clients}
-use Rattle.session_laws.proofs.Settling.{told_same, focus_row, line_row}
 use Rattle.session_laws.proofs.SoundMoves.{differ}
 use Rattle.session_laws.proofs.Asking.{keys_given}
 use Rattle.session_laws.proofs.Sounding.{run_sound, fresh_sound}
 use Rattle.session_laws.proofs.Showing.{some_has}
 use Rattle.session_laws.proofs.CommandWritings.{GoesOn, Row, Wrote, alike, kept_same, kept_fewer, kept_wrote, row_wrote}
 use Rattle.session_laws.proofs.CommandWritings.{sizes_append, sizes_unsaid, sizes_gone, sizes_closed, sizes_input}
-use Rattle.session_laws.proofs.CommandWritings.{row_writing}
-use Rattle.session_laws.proofs.CommandWritings.{HasWrote, wrote, refused_writes}
+use Rattle.session_laws.proofs.CommandWritings.{row_writing, HasWrote, wrote, refused_writes}
 use Rattle.session_laws.proofs.Outcomes as outcomes
 
 -- ---- answers of commands

@@ -1,6 +1,5 @@
 -- What the entries of a trace say of a client's keys and deliveries, without the tables.
-use Rattle.std.specs.Prelude.{◌≡◌, ℕ, Bool, false, ◌==◌, List, [], ◌∷◌, ◌++◌, Ok, Some}
-use Rattle.std.specs.Prelude.{if◌then◌else◌, take}
+use Rattle.std.specs.Prelude.{◌≡◌, ℕ, Bool, false, ◌==◌, List, [], ◌∷◌, ◌++◌, Ok, Some, if◌then◌else◌, take}
 use Rattle.session_model.specs.declared.event.Effect.{Effect}
 use Rattle.session_model.specs.Trace.{EventValue, Keys, Resize, Reply, Entry, Trace}
 use Rattle.session_model.specs.Tables.{Client, client_at}

@@ -1,13 +1,11 @@
 -- What a user observes of a run.
-use Rattle.std.specs.Prelude.{ℕ, Bool, true, false, List, [], ◌∷◌, ◌++◌}
-use Rattle.std.specs.Prelude.{Option, Some, None, if◌then◌else◌, map, filter}
+use Rattle.std.specs.Prelude.{ℕ, Bool, true, false, List, [], ◌∷◌, ◌++◌, Option, Some, None, if◌then◌else◌, map, filter}
 use Rattle.std.specs.Option.{option_map_or}
 use Rattle.acl.specs.declared.user_id.UserId.{UserId}
 use Rattle.acl.specs.Same.{same_user}
 use Rattle.terminal_model.specs.Shows.{View}
 use Rattle.session_model.specs.declared.event.Effect.{Effect}
-use Rattle.session_model.specs.declared.event.Effect.TheVariants.{Input, Deliver, Say, Size}
-use Rattle.session_model.specs.declared.event.Effect.TheVariants.{Gone}
+use Rattle.session_model.specs.declared.event.Effect.TheVariants.{Input, Deliver, Say, Size, Gone}
 use Rattle.session_model.specs.declared.event.Peer.TheVariants as peer
 use Rattle.session_model.specs.Trace.{EventValue, Draw, Reply, Entry}
 use Rattle.session_model.specs.Tables.{Client, Tables, client_at}

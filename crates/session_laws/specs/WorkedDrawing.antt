@@ -1,6 +1,5 @@
 -- Worked rows on what clients see.
-use Rattle.std.specs.Prelude.{◌≡◌, ℕ, List, [], ◌∷◌, Some, None, codes, replicate}
-use Rattle.std.specs.Prelude.{map, take}
+use Rattle.std.specs.Prelude.{◌≡◌, ℕ, List, [], ◌∷◌, Some, None, codes, replicate, map, take}
 use Rattle.acl.specs.declared.leaders.Edition.TheVariants.{Second}
 use Rattle.acl.specs.declared.bits.Bit.TheVariants.{Read}
 use Rattle.cells.specs.declared.cell.Cell.{Cell}

@@ -12,8 +12,7 @@ use Rattle.session_model.specs.Tables.{Tables, client_at}
 use Rattle.session_model.specs.Rights.{may_in, holder_in}
 use Rattle.session_laws.specs.Contained.{AreGuests}
 use Rattle.session_laws.specs.Locking.{IsPowerless}
-use Rattle.session_laws.specs.WorkedSetup.{bob, eve, several, ordered, after, changes, takes, gives}
-use Rattle.session_laws.specs.WorkedSetup.{then_comes}
+use Rattle.session_laws.specs.WorkedSetup.{bob, eve, several, ordered, after, changes, takes, gives, then_comes}
 
 abbrev pub of_bob : List (List ℕ)
 of_bob = codes "bob" ∷ []

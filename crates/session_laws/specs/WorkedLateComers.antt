@@ -14,8 +14,7 @@ use Rattle.session_model.specs.Rights.{may_in}
 use Rattle.session_model.specs.Run.{IsStep, after}
 use Rattle.session_laws.specs.Contained.{AreGuests}
 use Rattle.session_laws.specs.Confined.{may_open, circle, AreShutOut, GrantsAreTheirs, came}
-use Rattle.session_laws.specs.WorkedPolicies.{own, by, by_own, opens, closes, on_windows}
-use Rattle.session_laws.specs.WorkedPolicies.{nothing, reads, all, InBoth}
+use Rattle.session_laws.specs.WorkedPolicies.{own, by, by_own, opens, closes, on_windows, nothing, reads, all, InBoth}
 use Rattle.session_laws.specs.WorkedAmong.{is_among}
 use Rattle.session_laws.specs.WorkedOperators.{console}
 use Rattle.session_laws.specs.WorkedConsoles.{guest, guests_lines}

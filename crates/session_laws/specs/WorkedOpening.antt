@@ -1,6 +1,5 @@
 -- Worked rows on windows and clients.
-use Rattle.std.specs.Prelude.{◌≡◌, false, [], ◌∷◌, Some, None}
-use Rattle.std.specs.Prelude.{Err, codes, map}
+use Rattle.std.specs.Prelude.{◌≡◌, false, [], ◌∷◌, Some, None, Err, codes, map}
 use Rattle.std.specs.List.{range_with_len}
 use Rattle.acl.specs.declared.leaders.Edition.TheVariants.{Second}
 use Rattle.command_lang.specs.declared.command.Command.TheVariants as command
@@ -14,8 +13,7 @@ use Rattle.session_model.specs.Trace.{Keys, Attach, Open, Resize}
 use Rattle.session_model.specs.Tables.{Tables}
 use Rattle.session_model.specs.Events.{outcome}
 use Rattle.session_model.specs.Comings.{new_window}
-use Rattle.session_laws.specs.WorkedSetup.{user, own, bob, window, several, ordered, after, typed}
-use Rattle.session_laws.specs.WorkedSetup.{then_comes, listed}
+use Rattle.session_laws.specs.WorkedSetup.{user, own, bob, window, several, ordered, after, typed, then_comes, listed}
 
 -- 40 windows
 abbrev pub full : Tables

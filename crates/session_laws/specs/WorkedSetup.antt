@@ -24,8 +24,7 @@ use Rattle.session_model.specs.Commands.{ruling}
 use Rattle.session_model.specs.Outcomes.{Outcome, finished, done}
 use Rattle.session_model.specs.Events.{outcome}
 use Rattle.session_model.specs.Answering.{commanded}
-use Rattle.session_model.specs.Comings.{opens}
-use Rattle.session_model.specs.Comings.{new_window}
+use Rattle.session_model.specs.Comings.{opens, new_window}
 
 abbrev pub user : List ℕ → UserId
 user word = record { name = word ++ replicate (20 - length word) 0 }

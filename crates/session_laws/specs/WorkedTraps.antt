@@ -9,9 +9,8 @@ use Rattle.session_model.specs.Trace.{Command, Attach, Detach, Output}
 use Rattle.session_model.specs.Tables.{Tables, fresh}
 use Rattle.session_model.specs.Rights.{holder_in}
 use Rattle.session_model.specs.Events.{outcome}
-use Rattle.session_laws.specs.WorkedPolicies.{user, own, by, by_own, opens, closes, on_windows, on_commands}
-use Rattle.session_laws.specs.WorkedPolicies.{nothing, reads, reads_and_types, all}
-use Rattle.session_laws.specs.WorkedPolicies.{sue, pia, ann, bob, jo, taught, both_mask}
+use Rattle.session_laws.specs.WorkedPolicies.{user, own, by, by_own, opens, closes, on_windows, on_commands, nothing}
+use Rattle.session_laws.specs.WorkedPolicies.{reads, reads_and_types, all, sue, pia, ann, bob, jo, taught, both_mask}
 use Rattle.session_laws.specs.WorkedPolicies.{operated, web_again, typing}
 
 -- the tables after a Command event for the window with this number

@@ -10,12 +10,10 @@ ghost use Rattle.session_laws.specs.Entries.{ClientsAreRemembered};
 ghost use Rattle.session_laws.specs.Fit.{FreshIsFit, TablesStayFit, RunsAreFit};
 ghost use Rattle.session_laws.specs.Focus.{FocusIsEntered};
 ghost use Rattle.session_laws.specs.Keyed.{KeysDoTheirRows};
-ghost use Rattle.session_laws.specs.Laws.{StepsKeepPromise, RunsKeepPromise, TablesStaySound};
-ghost use Rattle.session_laws.specs.Laws.{RunsAreSound};
-ghost use Rattle.session_laws.specs.Written.{WindowsAreRemembered};
-ghost use Rattle.session_laws.specs.Laws.{StepsAreFew, StepsSayOnce, CommandsDoTheirRows};
-ghost use Rattle.session_laws.specs.Laws.{CommandsAreRefusedSo};
+ghost use Rattle.session_laws.specs.Laws.{StepsKeepPromise, RunsKeepPromise, TablesStaySound, RunsAreSound};
+ghost use Rattle.session_laws.specs.Laws.{StepsAreFew, StepsSayOnce, CommandsDoTheirRows, CommandsAreRefusedSo};
 ghost use Rattle.session_laws.specs.Laws.{ActsAreNoted, ActsStayAgreed, RunsAgree};
+ghost use Rattle.session_laws.specs.Written.{WindowsAreRemembered};
 
 pub use guests::{
     guests_are_confined, guests_are_contained, hidden_output_is_unseen, holders_stay,

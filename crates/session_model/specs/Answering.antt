@@ -15,8 +15,7 @@ use Rattle.session_model.specs.declared.event.StatusMessage.TheVariants as messa
 use Rattle.session_model.specs.declared.refusal.Refusal.{Refusal}
 use Rattle.session_model.specs.declared.refusal.Refusal.TheVariants.{Line}
 use Rattle.session_model.specs.declared.refusal.Verdict.{Verdict}
-use Rattle.session_model.specs.Tables.{Window, Client, Tables, client_at, with_client}
-use Rattle.session_model.specs.Tables.{focused_window}
+use Rattle.session_model.specs.Tables.{Window, Client, Tables, client_at, with_client, focused_window}
 use Rattle.session_model.specs.Texts.{text_of}
 use Rattle.session_model.specs.Lines.{read_line, Caller, caller_of}
 use Rattle.session_model.specs.Checks.{verdicts, first_fault, typing_checks}

@@ -1,7 +1,6 @@
 -- What is checked before something is done. The checks are made in this order; if one fails, its
 -- refusal is the answer, and nothing is done.
-use Rattle.std.specs.Prelude.{ℕ, Bool, false, List, [], ◌∷◌, ◌++◌, Option, Some, None}
-use Rattle.std.specs.Prelude.{if◌then◌else◌}
+use Rattle.std.specs.Prelude.{ℕ, Bool, false, List, [], ◌∷◌, ◌++◌, Option, Some, None, if◌then◌else◌}
 use Rattle.std.specs.Option.{option_map, is_some}
 use Rattle.acl.specs.declared.user_id.UserId.{UserId}
 use Rattle.acl.specs.declared.bits.Bit.TheVariants.{Write, Execute}
@@ -10,8 +9,7 @@ use Rattle.writelock.specs.LockTable.{stops_nobody_but}
 use Rattle.command_lang.specs.declared.command.Command.{Command}
 use Rattle.command_lang.specs.Names.{name_of}
 use Rattle.session_model.specs.declared.refusal.Check.{Check}
-use Rattle.session_model.specs.declared.refusal.Check.TheVariants.{Right as right}
-use Rattle.session_model.specs.declared.refusal.Check.TheVariants.{Unlocked as unlocked, Must as must}
+use Rattle.session_model.specs.declared.refusal.Check.TheVariants.{Right as right, Unlocked as unlocked, Must as must}
 use Rattle.command_lang.specs.declared.needs.Needs.{Needs}
 use Rattle.session_model.specs.declared.refusal.Refusal.{Refusal}
 use Rattle.session_model.specs.declared.refusal.Refusal.TheVariants.{NotMultiuser, NoWindow}

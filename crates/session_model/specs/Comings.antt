@@ -16,8 +16,7 @@ use Rattle.terminal_model.specs.Writing as written
 use Rattle.session_model.specs.declared.refusal.Check.{Check}
 use Rattle.session_model.specs.declared.refusal.Check.TheVariants.{Right as right, Must as must}
 use Rattle.session_model.specs.declared.event.StatusMessage.TheVariants as message
-use Rattle.session_model.specs.declared.refusal.Refusal.TheVariants.{NotMultiuser, UnknownUser}
-use Rattle.session_model.specs.declared.refusal.Refusal.TheVariants.{TooManyClients, BadSize}
+use Rattle.session_model.specs.declared.refusal.Refusal.TheVariants.{NotMultiuser, UnknownUser, TooManyClients, BadSize}
 use Rattle.session_model.specs.declared.refusal.Refusal.TheVariants.{Windows}
 use Rattle.windows_model.specs.declared.rows.WindowsFault.TheVariants.{Full, BadTitle}
 use Rattle.session_model.specs.declared.event.TheConstants.{CLIENTS, SERIALS}

@@ -1,9 +1,8 @@
 -- What each command does after its checks passed: its own refusals, its acts, the new tables, its
 -- effects and what it lists. Each command has one row. The commands are those of the GNU Screen
 -- manual; only scrollview is this project's own.
-use Rattle.std.specs.Prelude.{ℕ, ◌==◌, Bool, true, false, not, List, [], ◌∷◌, ◌++◌}
-use Rattle.std.specs.Prelude.{Option, Some, None, Ok, Err}
-use Rattle.std.specs.Prelude.{codes, length}
+use Rattle.std.specs.Prelude.{ℕ, ◌==◌, Bool, true, false, not, List, [], ◌∷◌, ◌++◌, Option, Some, None, Ok, Err, codes}
+use Rattle.std.specs.Prelude.{length}
 use Rattle.std.specs.List.{flat_map}
 use Rattle.std.specs.Option.{option_map, option_map_or, option_and_then}
 use Rattle.acl.specs.declared.user_id.UserId.{UserId}
@@ -14,8 +13,7 @@ use Rattle.acl.specs.declared.act.Object.{Object}
 use Rattle.acl.specs.declared.entries.MaskEntry.{MaskEntry}
 use Rattle.acl.specs.declared.entries.AclFault.{AclFault}
 use Rattle.acl.specs.Names.{named_by, name_of}
-use Rattle.acl.specs.Commands.{change_acts}
-use Rattle.acl.specs.Commands.{known_name_fault, group_acts, mask_fault, mask_acts}
+use Rattle.acl.specs.Commands.{change_acts, known_name_fault, group_acts, mask_fault, mask_acts}
 use Rattle.command_lang.specs.declared.command.Command.{Command}
 use Rattle.command_lang.specs.declared.command.Command.TheVariants as command
 use Rattle.command_lang.specs.declared.command.Mask.{Mask}
@@ -26,29 +24,22 @@ use Rattle.charsets.specs.declared.decoder.Coding.TheVariants as units
 use Rattle.regions.specs.declared.node.Way.{Way}
 use Rattle.regions.specs.declared.node.Way.TheVariants.{Below, Right}
 use Rattle.regions.specs.declared.layout.RegionFault.TheVariants.{LastRegion}
-use Rattle.regions.specs.Layouts.{kept_alone, split_focused, remove_focused, next_focus}
-use Rattle.regions.specs.Layouts.{split_fault}
+use Rattle.regions.specs.Layouts.{kept_alone, split_focused, remove_focused, next_focus, split_fault}
 use Rattle.terminal_model.specs.Writing as written
 use Rattle.session_model.specs.declared.event.Reason.TheVariants as reason
-use Rattle.session_model.specs.declared.refusal.Refusal.TheVariants.{NoWindow, Acl}
-use Rattle.session_model.specs.declared.refusal.Refusal.TheVariants.{Windows, Regions}
+use Rattle.session_model.specs.declared.refusal.Refusal.TheVariants.{NoWindow, Acl, Windows, Regions}
 use Rattle.windows_model.specs.declared.rows.WindowsFault.TheVariants as fault
 use Rattle.session_model.specs.declared.refusal.Verdict.{Verdict}
-use Rattle.session_model.specs.Tables.{Window, Client, Tables, window_at, client_at, with_window}
-use Rattle.session_model.specs.Tables.{known_users}
+use Rattle.session_model.specs.Tables.{Window, Client, Tables, window_at, client_at, with_window, known_users}
 use Rattle.session_model.specs.Rights.{leaders_in, add_acts_in, group_fault_in}
-use Rattle.session_model.specs.Naming.{with_number, window_named, window_after, window_before}
-use Rattle.session_model.specs.Naming.{is_title}
-use Rattle.session_model.specs.Naming.{names_of, objects_of, every_window, every_command}
-use Rattle.session_model.specs.Naming.{new_leader_of, entries_of}
+use Rattle.session_model.specs.Naming.{with_number, window_named, window_after, window_before, is_title, names_of}
+use Rattle.session_model.specs.Naming.{objects_of, every_window, every_command, new_leader_of, entries_of}
 use Rattle.session_model.specs.Texts.{windows_text, clients_text, group_text}
 use Rattle.session_model.specs.Lines.{Caller}
 use Rattle.session_model.specs.Checks.{checks, verdicts, first_fault}
-use Rattle.session_model.specs.Deeds.{Answer, changing, acting, listing, both}
-use Rattle.session_model.specs.Deeds.{unless, refused_if, given, changes, parts, is_of}
-use Rattle.session_model.specs.Deeds.{removes, closes}
-use Rattle.session_model.specs.Deeds.{arranges, enters, showing, selects, former_of, shown_in_focus}
-use Rattle.session_model.specs.Deeds.{focused_box, writes, fits, input_of, tells}
+use Rattle.session_model.specs.Deeds.{Answer, changing, acting, listing, both, unless, refused_if, given, changes}
+use Rattle.session_model.specs.Deeds.{parts, is_of, removes, closes, arranges, enters, showing, selects, former_of}
+use Rattle.session_model.specs.Deeds.{shown_in_focus, focused_box, writes, fits, input_of, tells}
 
 -- ---- what commands act on
 

@@ -8,8 +8,7 @@ use Rattle.acl.specs.declared.act.Object.TheVariants as object
 use Rattle.session_model.specs.declared.refusal.Denied.{Denied}
 use Rattle.session_model.specs.declared.refusal.Denied.TheVariants as denied
 use Rattle.session_model.specs.declared.refusal.Refusal.{Refusal}
-use Rattle.session_model.specs.declared.refusal.Refusal.TheVariants.{EntryDenied, LockDenied}
-use Rattle.session_model.specs.declared.refusal.Refusal.TheVariants.{NoWindow}
+use Rattle.session_model.specs.declared.refusal.Refusal.TheVariants.{EntryDenied, LockDenied, NoWindow}
 use Rattle.session_model.specs.Tables.{Window, Tables, window_at}
 use Rattle.session_model.specs.Rights.{leaders_in}
 

@@ -1,7 +1,6 @@
 -- When a denial is true, and what a step may say.
-use Rattle.std.specs.Prelude.{ℕ, ◌==◌, true, false, List, ◌++◌, ◌≡◌, ◌⊎◌}
-use Rattle.std.specs.Prelude.{Option, Some, None, Ok, Err, if◌then◌else◌, MatchOption}
-use Rattle.std.specs.Prelude.{codes}
+use Rattle.std.specs.Prelude.{ℕ, ◌==◌, true, false, List, ◌++◌, ◌≡◌, ◌⊎◌, Option, Some, None, Ok, Err, if◌then◌else◌}
+use Rattle.std.specs.Prelude.{MatchOption, codes}
 use Rattle.std.specs.List.{AllByRecursion}
 use Rattle.std.specs.Option.{option_map, option_and_then}
 use Rattle.acl.specs.declared.user_id.UserId.{UserId}

@@ -2,12 +2,9 @@
 use Rattle.std.specs.Prelude.{ℕ, ◌==◌, [], ◌∷◌, Some, None, if◌then◌else◌, take}
 use Rattle.session_model.specs.declared.refusal.Check.TheVariants.{Must as must}
 use Rattle.session_model.specs.declared.event.Reason.TheVariants as reason
-use Rattle.session_model.specs.declared.refusal.Refusal.TheVariants.{UnknownUser, NoWindow}
-use Rattle.session_model.specs.declared.refusal.Refusal.TheVariants.{BadSize}
-use Rattle.session_model.specs.Trace.{EventValue, Attach, Detach, Keys, Command, Resize, Open}
-use Rattle.session_model.specs.Trace.{Output, Closed, Draw}
-use Rattle.session_model.specs.Tables.{Window, Client, Tables, window_at, client_at, with_client}
-use Rattle.session_model.specs.Tables.{is_known}
+use Rattle.session_model.specs.declared.refusal.Refusal.TheVariants.{UnknownUser, NoWindow, BadSize}
+use Rattle.session_model.specs.Trace.{EventValue, Attach, Detach, Keys, Command, Resize, Open, Output, Closed, Draw}
+use Rattle.session_model.specs.Tables.{Window, Client, Tables, window_at, client_at, with_client, is_known}
 use Rattle.session_model.specs.Lines.{read_line, line_caller}
 use Rattle.session_model.specs.Deeds.{changing, parts, closes}
 use Rattle.session_model.specs.Keying.{taken}

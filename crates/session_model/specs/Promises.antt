@@ -1,7 +1,6 @@
 -- What a step of a session promises, by the tables before it and after it.
-use Rattle.std.specs.Prelude.{ℕ, ◌==◌, Bool, true, false, ◌&&◌, List, [], ◌∷◌, ◌++◌, ◌≡◌, ◌⊎◌}
-use Rattle.std.specs.Prelude.{Option, Some, None, Ok, Err, if◌then◌else◌, MatchOption}
-use Rattle.std.specs.Prelude.{map, codes, is_ok, not}
+use Rattle.std.specs.Prelude.{ℕ, ◌==◌, Bool, true, false, ◌&&◌, List, [], ◌∷◌, ◌++◌, ◌≡◌, ◌⊎◌, Option, Some, None, Ok}
+use Rattle.std.specs.Prelude.{Err, if◌then◌else◌, MatchOption, map, codes, is_ok, not}
 use Rattle.std.specs.List.{AllByRecursion, flat_map}
 use Rattle.std.specs.Option.{option_map_or}
 use Rattle.acl.specs.declared.user_id.UserId.{UserId}
@@ -15,17 +14,14 @@ use Rattle.command_lang.specs.declared.command.Command.TheVariants as command
 use Rattle.terminal_model.specs.Reading.{reads}
 use Rattle.terminal_model.specs.Shows.{ShowsFromAny}
 use Rattle.session_model.specs.declared.event.Effect.{Effect}
-use Rattle.session_model.specs.declared.event.Effect.TheVariants.{Input, Deliver, Say, Size}
-use Rattle.session_model.specs.declared.event.Effect.TheVariants.{Gone}
+use Rattle.session_model.specs.declared.event.Effect.TheVariants.{Input, Deliver, Say, Size, Gone}
 use Rattle.session_model.specs.declared.event.Peer.TheVariants as peer
 use Rattle.session_model.specs.declared.event.Reason.TheVariants as reason
 use Rattle.session_model.specs.declared.event.StatusMessage.TheVariants as message
 use Rattle.session_model.specs.declared.refusal.Refusal.{Refusal}
 use Rattle.session_model.specs.declared.refusal.Refusal.TheVariants.{EntryDenied, NoWindow}
-use Rattle.session_model.specs.Trace.{EventValue, Detach, Keys, Command, Output, Closed, Draw}
-use Rattle.session_model.specs.Trace.{Reply, Entry}
-use Rattle.session_model.specs.Tables.{Window, Client, Tables, window_at, client_at}
-use Rattle.session_model.specs.Tables.{focused_window}
+use Rattle.session_model.specs.Trace.{EventValue, Detach, Keys, Command, Output, Closed, Draw, Reply, Entry}
+use Rattle.session_model.specs.Tables.{Window, Client, Tables, window_at, client_at, focused_window}
 use Rattle.session_model.specs.Rights.{may_in, holder_in}
 use Rattle.session_model.specs.Denials.{entry_denial, lock_denial}
 use Rattle.session_model.specs.Texts.{text_of}

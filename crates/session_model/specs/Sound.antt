@@ -1,6 +1,5 @@
 -- What holds of the tables of a run.
-use Rattle.std.specs.Prelude.{◌≡◌, ◌<◌, ◌≤◌, ℕ, List, [], ◌∷◌, length, map, reverse, Option, Some}
-use Rattle.std.specs.Prelude.{None, is_some, true}
+use Rattle.std.specs.Prelude.{◌≡◌, ◌<◌, ◌≤◌, ℕ, List, [], ◌∷◌, length, map, reverse, Option, Some, None, is_some, true}
 use Rattle.std.specs.List.{AllByRecursion}
 use Rattle.acl.specs.History.{is_open, open_count}
 use Rattle.acl.specs.slots.TheConstants.{WINDOWS}

@@ -9,8 +9,7 @@ use Rattle.acl.specs.declared.act.Object.TheVariants as object
 use Rattle.acl.specs.Names.{name_of}
 use Rattle.session_model.specs.Tables.{Window, Client, Tables, is_window, focused}
 use Rattle.session_model.specs.Rights.{may_in}
-use Rattle.session_model.specs.Texts.{behind, separated, window_item, number_text, focus_text}
-use Rattle.session_model.specs.Texts.{client_item}
+use Rattle.session_model.specs.Texts.{behind, separated, window_item, number_text, focus_text, client_item}
 
 -- a window's number, whether it is in focus, and its title, if it may be read
 abbrev pub window_line : ℕ → Bool → Bool → List ℕ → List ℕ

@@ -1,8 +1,7 @@
 //! The clients of a session.
 
-ghost use Rattle.std.specs.Prelude.{◌≡◌, ◌==◌, ◌<◌, ◌+◌, [], ℕ, List, Option};
-ghost use Rattle.std.specs.Prelude.{true, false, not, Some, None, Ok, length, map, replicate, ◌↔◌};
-ghost use Rattle.std.specs.Prelude.{OnOk, OnErr, IfOk, IfNone, IfSome, option_copied};
+ghost use Rattle.std.specs.Prelude.{◌≡◌, ◌==◌, ◌<◌, ◌+◌, [], ℕ, List, Option, true, false, not, Some, None, Ok, length};
+ghost use Rattle.std.specs.Prelude.{map, replicate, ◌↔◌, OnOk, OnErr, IfOk, IfNone, IfSome, option_copied};
 ghost use Rattle.std.specs.Fn.{FnOnceReturnsAtMut};
 ghost use Rattle.regions.specs.Layouts.{Arrangement};
 ghost use Rattle.session_model.specs.declared.event.StatusMessage.{StatusMessage as What};
@@ -10,8 +9,7 @@ ghost use Rattle.session_model.specs.declared.event.StatusMessage.TheVariants as
 ghost use Rattle.session_model.specs.declared.event.Effect.TheVariants as effect;
 ghost use Rattle.session_model.specs.Tables as model;
 ghost use Rattle.session_model.specs.Tables.{row_of, with_row};
-ghost use Rattle.session_model.specs.Deeds.{hearing, is_of};
-ghost use Rattle.session_model.specs.Deeds.{without_window};
+ghost use Rattle.session_model.specs.Deeds.{hearing, is_of, without_window};
 ghost use Rattle.session_model.specs.Comings.{resized, is_client_size};
 ghost use Rattle.session_model.specs.Answering.{reading};
 ghost use Rattle.view.specs.View.{HasSize};

@@ -2,8 +2,7 @@
 
 ghost use Rattle.std.specs.Prelude.{◌≡◌, IfOk, OnOk};
 ghost use Rattle.session_state.specs.declared.client.Client.{Client};
-ghost use Rattle.session_state.specs.Listing.{SaysWindows, SaysClients, IsItem};
-ghost use Rattle.session_state.specs.Listing.{number_shown};
+ghost use Rattle.session_state.specs.Listing.{SaysWindows, SaysClients, IsItem, number_shown};
 
 use crate::client::Client;
 use crate::items::{push_client, push_separator, push_window};

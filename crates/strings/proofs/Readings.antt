@@ -7,8 +7,7 @@ use Rattle.std.proofs.lemmas.Bool.Decides.{nat_tests}
 use Rattle.strings.specs.declared.text.Word.{Word}
 use Rattle.strings.specs.Grammar.{octal_front, Escaped, Character, Single, Double, Part, Parts, Line, IsCut}
 use Rattle.strings.specs.Grammar.{size, word_at}
-use Rattle.strings.specs.Lines.{Read, and_then, escaped, character, single, double, part, parts, and_words}
-use Rattle.strings.specs.Lines.{line, words}
+use Rattle.strings.specs.Lines.{Read, and_then, escaped, character, single, double, part, parts, and_words, line, words}
 use Rattle.strings.proofs.Suffixes.{shorter, character-behind, part-behind, word-behind}
 
 pub other : (x y : ℕ) → x ≢ y → (x == y) ≡ false

@@ -4,8 +4,7 @@
 use Rattle.std.specs.Prelude.{ℕ, zero, suc, ◌-◌, true, false, ◌==◌, List, [], ◌∷◌, ◌++◌, length}
 use Rattle.std.specs.Prelude.{drop, Option, Some, None}
 use Rattle.strings.specs.declared.text.Word.{Word}
-use Rattle.strings.specs.Grammar.{space, double_quote, single_quote, backslash}
-use Rattle.strings.specs.Grammar.{octal_front, size, word_at}
+use Rattle.strings.specs.Grammar.{space, double_quote, single_quote, backslash, octal_front, size, word_at}
 
 abbrev pub Read : Type 0
 Read = List ℕ × Option (List ℕ)

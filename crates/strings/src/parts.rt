@@ -2,8 +2,7 @@
 
 ghost use Rattle.std.specs.Prelude.{◌≡◌, ◌∷◌};
 ghost use Rattle.std.specs.String.{string_bytes};
-ghost use Rattle.strings.specs.Grammar.{is_octal, octal_front, Escaped, Character};
-ghost use Rattle.strings.specs.Grammar.{Single, Double, Part, Parts};
+ghost use Rattle.strings.specs.Grammar.{is_octal, octal_front, Escaped, Character, Single, Double, Part, Parts};
 ghost use Rattle.strings.specs.Reading.{Puts};
 
 use std::alloc::AllocError;

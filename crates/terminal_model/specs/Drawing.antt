@@ -20,10 +20,8 @@ use Rattle.control_parser.specs.declared.parser.Func.{Func}
 use Rattle.control_parser.specs.declared.parser.Func.TheVariants.{Print, High, Csi}
 use Rattle.terminal_model.specs.declared.state.Position.{Position}
 use Rattle.terminal_model.specs.declared.state.State.{State}
-use Rattle.terminal_model.specs.Screen.{Page, Screen, starting_modes, starting_state, starting_tabs}
-use Rattle.terminal_model.specs.Screen.{blank_page}
-use Rattle.terminal_model.specs.Functions.{actions_of, rendered, mode_set, private_mode_set, first}
-use Rattle.terminal_model.specs.Functions.{second, last_line}
+use Rattle.terminal_model.specs.Screen.{Page, Screen, starting_modes, starting_state, starting_tabs, blank_page}
+use Rattle.terminal_model.specs.Functions.{actions_of, rendered, mode_set, private_mode_set, first, second, last_line}
 use Rattle.terminal_model.specs.Motion.{bottom_of}
 use Rattle.terminal_model.specs.Printing.{columns_of}
 use Rattle.terminal_model.specs.Table.{effect}

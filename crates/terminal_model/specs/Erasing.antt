@@ -1,6 +1,5 @@
 -- Erasing, and inserting and deleting lines (ECMA-48, 8.3; VT220 manual, erasing).
-use Rattle.std.specs.Prelude.{ℕ, ◌+◌, ◌-◌, min, Bool, true, false, ◌&&◌, nat_lt, nat_le, cond}
-use Rattle.std.specs.Prelude.{replicate}
+use Rattle.std.specs.Prelude.{ℕ, ◌+◌, ◌-◌, min, Bool, true, false, ◌&&◌, nat_lt, nat_le, cond, replicate}
 use Rattle.cells.specs.Line.{blank, spliced, unprotected_erased}
 use Rattle.cells.specs.Page.{line_at, Origin, From, page_from, on_line}
 use Rattle.cells.specs.Moves.{is_between, scrolled_up, scrolled_down}

@@ -1,20 +1,17 @@
 -- The meaning of each control function: the rows of the screen table by their spelling, with their
 -- arguments.
-use Rattle.std.specs.Prelude.{ℕ, ◌+◌, ◌-◌, ◌==◌, max, Bool, true, false, if◌then◌else◌, List, []}
-use Rattle.std.specs.Prelude.{◌∷◌, ◌++◌, map, slice_index_or, Option, Some, None, option_to_list}
-use Rattle.std.specs.Prelude.{option_map}
+use Rattle.std.specs.Prelude.{ℕ, ◌+◌, ◌-◌, ◌==◌, max, Bool, true, false, if◌then◌else◌, List, [], ◌∷◌, ◌++◌, map}
+use Rattle.std.specs.Prelude.{slice_index_or, Option, Some, None, option_to_list, option_map}
 use Rattle.std.specs.List.{flat_map}
 use Prim.Native.Char.{code}
 use Rattle.charsets.specs.Entries.{entry_at, entry_or}
 use Rattle.charsets.specs.declared.decoder.Coding.TheVariants.{Utf8, Ecma35}
 use Rattle.charsets.specs.declared.decoder.Unit.TheVariants as units
 use Rattle.charsets.specs.declared.shifts.CharacterSet.{CharacterSet}
-use Rattle.charsets.specs.declared.shifts.CharacterSet.TheVariants.{Ascii, UnitedKingdom}
-use Rattle.charsets.specs.declared.shifts.CharacterSet.TheVariants.{SpecialGraphics, Supplemental}
+use Rattle.charsets.specs.declared.shifts.CharacterSet.TheVariants.{Ascii, UnitedKingdom, SpecialGraphics, Supplemental}
 use Rattle.charsets.specs.declared.shifts.Place.{Place}
 use Rattle.charsets.specs.declared.shifts.Place.TheVariants.{G0, G1, G2, G3}
-use Rattle.charsets.specs.declared.shifts.Shift.TheVariants.{Si, So, Ls2, Ls3, Ls1r, Ls2r, Ls3r}
-use Rattle.charsets.specs.declared.shifts.Shift.TheVariants.{Ss2, Ss3}
+use Rattle.charsets.specs.declared.shifts.Shift.TheVariants.{Si, So, Ls2, Ls3, Ls1r, Ls2r, Ls3r, Ss2, Ss3}
 use Rattle.control_parser.specs.declared.parser.Func.{Func}
 use Rattle.control_parser.specs.declared.parser.Func.TheVariants as funcs
 use Rattle.terminal_model.specs.declared.action.Part.{Part}
@@ -23,29 +20,20 @@ use Rattle.cells.specs.declared.rendition.Colour.{Colour}
 use Rattle.cells.specs.declared.rendition.Colour.TheVariants.{Default, Black, Red, Green, Yellow, Blue}
 use Rattle.cells.specs.declared.rendition.Colour.TheVariants.{Magenta, Cyan, White}
 use Rattle.cells.specs.declared.rendition.Attribute.{Attribute}
-use Rattle.cells.specs.declared.rendition.Attribute.TheVariants.{Plain, Bold, Underlined}
-use Rattle.cells.specs.declared.rendition.Attribute.TheVariants.{Blinking, Reversed}
+use Rattle.cells.specs.declared.rendition.Attribute.TheVariants.{Plain, Bold, Underlined, Blinking, Reversed}
 use Rattle.cells.specs.declared.rendition.Attribute.TheVariants.{Foreground, Background}
 use Rattle.terminal_model.specs.declared.action.Mode.TheVariants as modes
 use Rattle.terminal_model.specs.declared.action.Action.{Action}
-use Rattle.terminal_model.specs.declared.action.Action.TheVariants.{Print, Backspace, Tab, LineFeed}
-use Rattle.terminal_model.specs.declared.action.Action.TheVariants.{CarriageReturn, Shift}
-use Rattle.terminal_model.specs.declared.action.Action.TheVariants.{Designate, SetCoding, Index}
-use Rattle.terminal_model.specs.declared.action.Action.TheVariants.{NextLine, ReverseIndex, SetTab}
-use Rattle.terminal_model.specs.declared.action.Action.TheVariants.{Save, Restore}
-use Rattle.terminal_model.specs.declared.action.Action.TheVariants.{SetEightBitReports}
-use Rattle.terminal_model.specs.declared.action.Action.TheVariants.{SetApplicationKeypad, Reset}
-use Rattle.terminal_model.specs.declared.action.Action.TheVariants.{Align, Up, Down, Right, Left}
-use Rattle.terminal_model.specs.declared.action.Action.TheVariants.{MoveTo, SetMargins, ClearTab}
-use Rattle.terminal_model.specs.declared.action.Action.TheVariants.{ClearTabs, EraseInPage}
-use Rattle.terminal_model.specs.declared.action.Action.TheVariants.{EraseInLine, EraseCells}
-use Rattle.terminal_model.specs.declared.action.Action.TheVariants.{EraseUnprotectedInPage}
-use Rattle.terminal_model.specs.declared.action.Action.TheVariants.{EraseUnprotectedInLine}
-use Rattle.terminal_model.specs.declared.action.Action.TheVariants.{InsertCells, DeleteCells}
-use Rattle.terminal_model.specs.declared.action.Action.TheVariants.{InsertLines, DeleteLines}
-use Rattle.terminal_model.specs.declared.action.Action.TheVariants.{Protect, Render, SetMode}
-use Rattle.terminal_model.specs.declared.action.Action.TheVariants.{BlankPage, SoftReset}
-use Rattle.terminal_model.specs.declared.action.Action.TheVariants.{ReportStatus, ReportPlace}
+use Rattle.terminal_model.specs.declared.action.Action.TheVariants.{Print, Backspace, Tab, LineFeed, CarriageReturn}
+use Rattle.terminal_model.specs.declared.action.Action.TheVariants.{Shift, Designate, SetCoding, Index, NextLine}
+use Rattle.terminal_model.specs.declared.action.Action.TheVariants.{ReverseIndex, SetTab, Save, Restore}
+use Rattle.terminal_model.specs.declared.action.Action.TheVariants.{SetEightBitReports, SetApplicationKeypad, Reset}
+use Rattle.terminal_model.specs.declared.action.Action.TheVariants.{Align, Up, Down, Right, Left, MoveTo, SetMargins}
+use Rattle.terminal_model.specs.declared.action.Action.TheVariants.{ClearTab, ClearTabs, EraseInPage, EraseInLine}
+use Rattle.terminal_model.specs.declared.action.Action.TheVariants.{EraseCells, EraseUnprotectedInPage}
+use Rattle.terminal_model.specs.declared.action.Action.TheVariants.{EraseUnprotectedInLine, InsertCells, DeleteCells}
+use Rattle.terminal_model.specs.declared.action.Action.TheVariants.{InsertLines, DeleteLines, Protect, Render, SetMode}
+use Rattle.terminal_model.specs.declared.action.Action.TheVariants.{BlankPage, SoftReset, ReportStatus, ReportPlace}
 use Rattle.terminal_model.specs.declared.action.Action.TheVariants.{ReportPrinter, ReportAttributes}
 use Rattle.terminal_model.specs.declared.action.Action.TheVariants.{ReportSecondaryAttributes}
 

@@ -7,9 +7,8 @@ use Rattle.control_parser.specs.declared.parser.Func.{Func}
 use Rattle.control_parser.specs.Spelling.{decimal}
 use Rattle.terminal_model.specs.declared.state.State.{State}
 use Rattle.terminal_model.specs.declared.action.Action.{Action}
-use Rattle.terminal_model.specs.declared.action.Action.TheVariants.{ReportStatus, ReportPlace}
-use Rattle.terminal_model.specs.declared.action.Action.TheVariants.{ReportPrinter, ReportAttributes}
-use Rattle.terminal_model.specs.declared.action.Action.TheVariants.{ReportSecondaryAttributes}
+use Rattle.terminal_model.specs.declared.action.Action.TheVariants.{ReportStatus, ReportPlace, ReportPrinter}
+use Rattle.terminal_model.specs.declared.action.Action.TheVariants.{ReportAttributes, ReportSecondaryAttributes}
 use Rattle.terminal_model.specs.Screen.{Screen}
 use Rattle.terminal_model.specs.Functions.{actions_of}
 use Rattle.terminal_model.specs.Table.{acted}

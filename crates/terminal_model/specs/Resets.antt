@@ -3,8 +3,7 @@ use Rattle.std.specs.Prelude.{false, None}
 use Rattle.charsets.specs.Shifts.{starting as starting_shifts}
 use Rattle.cells.specs.Line.{plain}
 use Rattle.terminal_model.specs.declared.state.State.{State}
-use Rattle.terminal_model.specs.Screen.{Screen, starting_modes, starting_state, starting_tabs}
-use Rattle.terminal_model.specs.Screen.{blank_page, with_page}
+use Rattle.terminal_model.specs.Screen.{Screen, starting_modes, starting_state, starting_tabs, blank_page, with_page}
 use Rattle.terminal_model.specs.Motion.{unpending, home, whole_margins}
 
 -- CLEARED: a blank page, the whole page as margins, the cursor home

@@ -9,8 +9,7 @@ use Rattle.cells.specs.Resizing.{line_resized}
 use Rattle.control_parser.specs.declared.parser.Func.{Func}
 use Rattle.terminal_model.specs.declared.state.State.{State}
 use Rattle.terminal_model.specs.declared.action.Action.{Action}
-use Rattle.terminal_model.specs.declared.action.Action.TheVariants.{Print, LineFeed, Index}
-use Rattle.terminal_model.specs.declared.action.Action.TheVariants.{NextLine}
+use Rattle.terminal_model.specs.declared.action.Action.TheVariants.{Print, LineFeed, Index, NextLine}
 use Rattle.terminal_model.specs.Screen.{Page, Screen}
 use Rattle.terminal_model.specs.Functions.{actions_of}
 use Rattle.terminal_model.specs.Printing.{lacks_room, columns_of}

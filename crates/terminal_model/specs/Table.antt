@@ -1,7 +1,6 @@
 -- The screen table: what each action does to a screen (ECMA-48, fifth edition; VT220 Programmer
 -- Reference Manual, chapter 4). "Own" marks a choice of this project.
-use Rattle.std.specs.Prelude.{◌+◌, ◌-◌, min, true, false, nat_lt, cond, List, [], ◌∷◌, replicate}
-use Rattle.std.specs.Prelude.{slice_set, Some, None}
+use Rattle.std.specs.Prelude.{◌+◌, ◌-◌, min, true, false, nat_lt, cond, List, [], ◌∷◌, replicate, slice_set, Some, None}
 use Rattle.charsets.specs.Shifts.{designated, shifted, mapped, spent}
 use Rattle.cells.specs.Line.{blank, plain, narrow_cell, spliced}
 use Rattle.cells.specs.Page.{page_from}
@@ -9,36 +8,26 @@ use Rattle.cells.specs.Moves.{erased_lines, filled}
 use Rattle.control_parser.specs.declared.parser.Func.{Func}
 use Rattle.terminal_model.specs.declared.state.State.{State}
 use Rattle.terminal_model.specs.declared.action.Action.{Action}
-use Rattle.terminal_model.specs.declared.action.Action.TheVariants.{Print, Backspace, Tab, LineFeed}
-use Rattle.terminal_model.specs.declared.action.Action.TheVariants.{CarriageReturn, Shift}
-use Rattle.terminal_model.specs.declared.action.Action.TheVariants.{Designate, SetCoding, Index}
-use Rattle.terminal_model.specs.declared.action.Action.TheVariants.{NextLine, ReverseIndex, SetTab}
-use Rattle.terminal_model.specs.declared.action.Action.TheVariants.{Save, Restore}
-use Rattle.terminal_model.specs.declared.action.Action.TheVariants.{SetEightBitReports}
-use Rattle.terminal_model.specs.declared.action.Action.TheVariants.{SetApplicationKeypad, Reset}
-use Rattle.terminal_model.specs.declared.action.Action.TheVariants.{Align, Up, Down, Right, Left}
-use Rattle.terminal_model.specs.declared.action.Action.TheVariants.{MoveTo, SetMargins, ClearTab}
-use Rattle.terminal_model.specs.declared.action.Action.TheVariants.{ClearTabs, EraseInPage}
-use Rattle.terminal_model.specs.declared.action.Action.TheVariants.{EraseInLine, EraseCells}
-use Rattle.terminal_model.specs.declared.action.Action.TheVariants.{EraseUnprotectedInPage}
-use Rattle.terminal_model.specs.declared.action.Action.TheVariants.{EraseUnprotectedInLine}
-use Rattle.terminal_model.specs.declared.action.Action.TheVariants.{InsertCells, DeleteCells}
-use Rattle.terminal_model.specs.declared.action.Action.TheVariants.{InsertLines, DeleteLines}
-use Rattle.terminal_model.specs.declared.action.Action.TheVariants.{Protect, Render, SetMode}
-use Rattle.terminal_model.specs.declared.action.Action.TheVariants.{BlankPage, SoftReset}
-use Rattle.terminal_model.specs.declared.action.Action.TheVariants.{ReportStatus, ReportPlace}
+use Rattle.terminal_model.specs.declared.action.Action.TheVariants.{Print, Backspace, Tab, LineFeed, CarriageReturn}
+use Rattle.terminal_model.specs.declared.action.Action.TheVariants.{Shift, Designate, SetCoding, Index, NextLine}
+use Rattle.terminal_model.specs.declared.action.Action.TheVariants.{ReverseIndex, SetTab, Save, Restore}
+use Rattle.terminal_model.specs.declared.action.Action.TheVariants.{SetEightBitReports, SetApplicationKeypad, Reset}
+use Rattle.terminal_model.specs.declared.action.Action.TheVariants.{Align, Up, Down, Right, Left, MoveTo, SetMargins}
+use Rattle.terminal_model.specs.declared.action.Action.TheVariants.{ClearTab, ClearTabs, EraseInPage, EraseInLine}
+use Rattle.terminal_model.specs.declared.action.Action.TheVariants.{EraseCells, EraseUnprotectedInPage}
+use Rattle.terminal_model.specs.declared.action.Action.TheVariants.{EraseUnprotectedInLine, InsertCells, DeleteCells}
+use Rattle.terminal_model.specs.declared.action.Action.TheVariants.{InsertLines, DeleteLines, Protect, Render, SetMode}
+use Rattle.terminal_model.specs.declared.action.Action.TheVariants.{BlankPage, SoftReset, ReportStatus, ReportPlace}
 use Rattle.terminal_model.specs.declared.action.Action.TheVariants.{ReportPrinter, ReportAttributes}
 use Rattle.terminal_model.specs.declared.action.Action.TheVariants.{ReportSecondaryAttributes}
 use Rattle.terminal_model.specs.Screen.{Screen, line_edited, with_state, with_page}
 use Rattle.terminal_model.specs.Functions.{actions_of}
-use Rattle.terminal_model.specs.Motion.{unjoined, unpending, moved_to, home, whole_margins, indexed}
-use Rattle.terminal_model.specs.Motion.{reverse_indexed, next_stop, line_up, line_down, line_named}
-use Rattle.terminal_model.specs.Motion.{bottom_of, margins_or_none}
+use Rattle.terminal_model.specs.Motion.{unjoined, unpending, moved_to, home, whole_margins, indexed, reverse_indexed}
+use Rattle.terminal_model.specs.Motion.{next_stop, line_up, line_down, line_named, bottom_of, margins_or_none}
 use Rattle.terminal_model.specs.Printing.{printed}
 use Rattle.terminal_model.specs.Saving.{saved_of, saved_or_none, restored}
-use Rattle.terminal_model.specs.Erasing.{first_line, end_line, line_erased, part_erased}
-use Rattle.terminal_model.specs.Erasing.{part_unprotected, lines_unprotected, is_in_margins}
-use Rattle.terminal_model.specs.Erasing.{lines_inserted, lines_deleted}
+use Rattle.terminal_model.specs.Erasing.{first_line, end_line, line_erased, part_erased, part_unprotected}
+use Rattle.terminal_model.specs.Erasing.{lines_unprotected, is_in_margins, lines_inserted, lines_deleted}
 use Rattle.cells.specs.Rendition.{rendition_with}
 use Rattle.terminal_model.specs.Settings.{modes_with, homed}
 use Rattle.terminal_model.specs.Resets.{cleared, reset, softly_reset}

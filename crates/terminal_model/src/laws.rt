@@ -1,8 +1,7 @@
 //! Laws of the definitions, for the crates above.
 
-ghost use Rattle.std.specs.Prelude.{◌≡◌, ℕ, ◌+◌, ◌-◌, ◌<◌, ◌≤◌, ◌==◌, Bool, true, false, nat_lt};
-ghost use Rattle.std.specs.Prelude.{if◌then◌else◌, List, [], ◌∷◌, ◌++◌, length};
-ghost use Rattle.std.specs.Prelude.{replicate, Option, Some, None};
+ghost use Rattle.std.specs.Prelude.{◌≡◌, ℕ, ◌+◌, ◌-◌, ◌<◌, ◌≤◌, ◌==◌, Bool, true, false, nat_lt, if◌then◌else◌, List};
+ghost use Rattle.std.specs.Prelude.{[], ◌∷◌, ◌++◌, length, replicate, Option, Some, None};
 ghost use Rattle.std.specs.List.{AllByRecursion};
 ghost use Rattle.charsets.specs.declared.decoder.Unit.TheVariants.{Code};
 ghost use Rattle.charsets.specs.Shifts.{is_graphic};
@@ -14,13 +13,11 @@ ghost use Rattle.control_parser.specs.declared.parser.Func.{Func};
 ghost use Rattle.control_parser.specs.declared.parser.Func.TheVariants.{Print, Esc, Csi};
 ghost use Rattle.control_parser.specs.Spelling.{IsGiven, coding_of, spelling};
 ghost use Rattle.terminal_model.specs.declared.action.Action.{Action};
-ghost use Rattle.terminal_model.specs.declared.action.Action.TheVariants.{SetMargins, Render};
-ghost use Rattle.terminal_model.specs.declared.action.Action.TheVariants.{SetMode};
+ghost use Rattle.terminal_model.specs.declared.action.Action.TheVariants.{SetMargins, Render, SetMode};
 ghost use Rattle.cells.specs.declared.rendition.Attribute.{Attribute};
 ghost use Rattle.terminal_model.specs.declared.action.Mode.{Mode};
 ghost use Rattle.terminal_model.specs.declared.state.Position.{Position};
-ghost use Rattle.terminal_model.specs.Screen.{Page, Screen, IsSound, starting, blank_page};
-ghost use Rattle.terminal_model.specs.Screen.{with_state};
+ghost use Rattle.terminal_model.specs.Screen.{Page, Screen, IsSound, starting, blank_page, with_state};
 ghost use Rattle.terminal_model.specs.Functions.{actions_of, rendered, private_mode_set};
 ghost use Rattle.terminal_model.specs.Motion.{bottom_of, unpending, unjoined, moved_to};
 ghost use Rattle.terminal_model.specs.Printing.{advanced, columns_of, drawn};
@@ -34,16 +31,12 @@ ghost use Rattle.terminal_model.specs.Writing.{Writing, IsWriting, Output, write
 ghost use Rattle.terminal_model.specs.Scrollback.{lines_of, all_left, KeepsLast};
 ghost use Rattle.charsets.specs.Units.{units};
 ghost use Rattle.control_parser.specs.Grammar.{functions};
-ghost use Rattle.terminal_model.specs.Whole.{functions_of_bytes, acted_functions, KeepsCodingIn};
-ghost use Rattle.terminal_model.specs.Whole.{IsWhole};
+ghost use Rattle.terminal_model.specs.Whole.{functions_of_bytes, acted_functions, KeepsCodingIn, IsWhole};
 ghost use Rattle.terminal_model.specs.Shows.{blank_view};
-ghost use Rattle.terminal_model.specs.Drawing.{frame_bytes, frame_start, Draws, IsListed, IsDrawn};
-ghost use Rattle.terminal_model.specs.Drawing.{AreSpelled};
+ghost use Rattle.terminal_model.specs.Drawing.{frame_bytes, frame_start, Draws, IsListed, IsDrawn, AreSpelled};
 ghost use Rattle.terminal_model.specs.Drawable.{IsDrawableScreen};
-ghost use Rattle.terminal_model.specs.Places.{place, overlaid_cell, with_mark, IsPlain, narrow_at};
-ghost use Rattle.terminal_model.specs.Places.{wide_at};
-ghost use Rattle.terminal_model.specs.Places.{PutsOver, PutsMark, mode_final, keypad_final};
-ghost use Rattle.terminal_model.specs.Places.{rendition_values};
+ghost use Rattle.terminal_model.specs.Places.{place, overlaid_cell, with_mark, IsPlain, narrow_at, wide_at, PutsOver};
+ghost use Rattle.terminal_model.specs.Places.{PutsMark, mode_final, keypad_final, rendition_values};
 
 /// Bytes read in two pieces give the same as all of them at once, and so does a window's writing.
 pub fn pieces_are_whole()

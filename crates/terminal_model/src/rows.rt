@@ -1,22 +1,19 @@
 //! Worked rows: what a fresh window shows after it has read some bytes, computed from the
 //! definitions.
 
-ghost use Rattle.std.specs.Prelude.{◌≡◌, true, false, List, [], ◌∷◌, ◌++◌, codes};
+ghost use Rattle.std.specs.Prelude.{◌≡◌, true, false, List, [], ◌∷◌, ◌++◌, codes, None};
 ghost use Rattle.cells.specs.Line.{plain, narrow_cell, marked};
-ghost use Rattle.cells.specs.declared.rendition.Colour.TheVariants.{Default, Black, Red, Yellow, Blue};
-ghost use Rattle.cells.specs.declared.rendition.Colour.TheVariants.{Cyan, White};
+ghost use Rattle.cells.specs.declared.rendition.Colour.TheVariants.{Default, Black, Red, Yellow, Blue, Cyan, White};
 ghost use Rattle.terminal_model.specs.Screen.{blank_page, starting};
 ghost use Rattle.terminal_model.specs.Sizing.{resized};
 ghost use Rattle.terminal_model.specs.Reading.{ready};
 ghost use Rattle.terminal_model.specs.Writing.{Output, writes_all};
 ghost use Rattle.std.specs.List.{AllByRecursion};
-ghost use Rattle.std.specs.Prelude.{None};
 ghost use Rattle.control_parser.specs.declared.parser.Func.TheVariants.{Csi};
 ghost use Rattle.terminal_model.specs.Drawing.{IsDiscreet, IsListed};
-ghost use Rattle.terminal_model.specs.Rows.{fresh_reads, with_cursor, letters, protected_letters};
-ghost use Rattle.terminal_model.specs.Rows.{in_colours, wide_in_colour, wide, seen, shown};
-ghost use Rattle.terminal_model.specs.Rows.{shown_keeping, csi, kanji, new_line, narrowed};
-ghost use Rattle.terminal_model.specs.Rows.{wide_page, printed_beside};
+ghost use Rattle.terminal_model.specs.Rows.{fresh_reads, with_cursor, letters, protected_letters, in_colours};
+ghost use Rattle.terminal_model.specs.Rows.{wide_in_colour, wide, seen, shown, shown_keeping, csi, kanji, new_line};
+ghost use Rattle.terminal_model.specs.Rows.{narrowed, wide_page, printed_beside};
 ghost use Rattle.terminal_model.specs.Scrollback.{all_left};
 
 /// Printing: the pending wrap, wide characters and their halves, marks.

@@ -7,13 +7,11 @@ ghost use Rattle.acl.specs.declared.user_id.UserId.{UserId};
 ghost use Rattle.acl.specs.History.{History};
 ghost use Rattle.hub.specs.Following.{StandsAfter};
 ghost use Rattle.trail_confined.specs.Confining.{circle};
-ghost use Rattle.trail_confined.specs.Telling.{act_giver_text, any_gives, bit_text, bits_text};
-ghost use Rattle.trail_confined.specs.Telling.{causes_text, concerned_text, confined_text};
-ghost use Rattle.trail_confined.specs.Telling.{confinement_text, contrary_text, deciders_of_one};
-ghost use Rattle.trail_confined.specs.Telling.{failing_text, found_of, givers_text, gives};
-ghost use Rattle.trail_confined.specs.Telling.{indented_owner_text, letter_if, may_give};
-ghost use Rattle.trail_confined.specs.Telling.{power_decider, power_text, setting_text};
-ghost use Rattle.trail_confined.specs.Telling.{settled_by};
+ghost use Rattle.trail_confined.specs.Telling.{act_giver_text, any_gives, bit_text, bits_text, causes_text};
+ghost use Rattle.trail_confined.specs.Telling.{concerned_text, confined_text, confinement_text, contrary_text};
+ghost use Rattle.trail_confined.specs.Telling.{deciders_of_one, failing_text, found_of, givers_text, gives};
+ghost use Rattle.trail_confined.specs.Telling.{indented_owner_text, letter_if, may_give, power_decider, power_text};
+ghost use Rattle.trail_confined.specs.Telling.{setting_text, settled_by};
 
 use crate::confined::is_confined;
 use crate::premises::{Premise, push_circle};

@@ -6,9 +6,8 @@ ghost use Rattle.acl.specs.declared.leaders.Edition.{Edition};
 ghost use Rattle.acl.specs.declared.user_id.UserId.{UserId};
 ghost use Rattle.acl.specs.History.{History};
 ghost use Rattle.hub.specs.Following.{StandsAfter};
-ghost use Rattle.trail_confined.specs.Confining.{circles_of, concerns, masks_by, masks_of};
-ghost use Rattle.trail_confined.specs.Confining.{circle, may_open, openers_of, powers_of, premises_of};
-ghost use Rattle.trail_confined.specs.Confining.{standing_of};
+ghost use Rattle.trail_confined.specs.Confining.{circles_of, concerns, masks_by, masks_of, circle, may_open};
+ghost use Rattle.trail_confined.specs.Confining.{openers_of, powers_of, premises_of, standing_of};
 
 use acl::{Bit, CommandName, Object, UserId};
 use hub::Rights;

@@ -8,9 +8,8 @@ use Rattle.acl.specs.declared.leaders.Edition.TheVariants as edition
 use Rattle.acl.specs.declared.user_id.UserId.{UserId}
 use Rattle.acl.specs.Names.{name_of}
 use Rattle.line_fields.specs.Cutting.{◌>>=◌, cut}
-use Rattle.line_fields.specs.Numbers.{number_below}
+use Rattle.line_fields.specs.Numbers.{number_below, number_at}
 use Rattle.line_fields.specs.Parts.{blank, field, user_at}
-use Rattle.line_fields.specs.Numbers.{number_at}
 use Rattle.line_fields.specs.Sayable.{IsNamed}
 use Rattle.trail_lines.specs.declared.header.Header.{Header}
 use Rattle.trail_lines.specs.declared.ending.Cause.{Cause}

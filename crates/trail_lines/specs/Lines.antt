@@ -1,6 +1,5 @@
 -- How a line is read from a reader.
-use Rattle.std.specs.Prelude.{ℕ, ◌≡◌, ◌≢◌, ◌==◌, Bool, true, not, List, [], ◌∷◌, ◌++◌}
-use Rattle.std.specs.Prelude.{Option, Some, None}
+use Rattle.std.specs.Prelude.{ℕ, ◌≡◌, ◌≢◌, ◌==◌, Bool, true, not, List, [], ◌∷◌, ◌++◌, Option, Some, None}
 use Rattle.std.specs.List.{list_all}
 use Rattle.trail_lines.specs.declared.halt.NextLine.{NextLine}
 use Rattle.trail_lines.specs.declared.halt.NextLine.TheVariants as came

@@ -28,10 +28,8 @@ use Rattle.session.specs.Texts.{separated, windows_number}
 use Rattle.hub.specs.kept.Finished.{Finished}
 use Rattle.hub.specs.Trails.{Ending}
 use Rattle.line_fields.specs.Cutting.{◌>>=◌, cut, words}
-use Rattle.line_fields.specs.Numbers.{number_below}
-use Rattle.line_fields.specs.Parts.{colon, comma, field, user_at, nobody, mark, bit_in}
-use Rattle.line_fields.specs.Numbers.{number_at}
-use Rattle.line_fields.specs.Parts.{object_in}
+use Rattle.line_fields.specs.Numbers.{number_below, number_at}
+use Rattle.line_fields.specs.Parts.{colon, comma, field, user_at, nobody, mark, bit_in, object_in}
 
 -- ---- leaders
 

@@ -6,10 +6,9 @@ ghost use Rattle.acl.specs.Names.{name_of};
 ghost use Rattle.session.specs.Texts.{behind};
 ghost use Rattle.line_fields.specs.Cutting.{words};
 ghost use Rattle.line_fields.specs.Parts.{colon, comma, field};
-ghost use Rattle.trail_lines.specs.Replies.{leaders_text, with_leader, leaders_of, leaders_in, denied_then};
-ghost use Rattle.trail_lines.specs.Replies.{denied_of, denied_at, entry_in, lock_denied_in};
-ghost use Rattle.trail_lines.specs.Replies.{acl_fault, windows_fault, regions_fault, line_fault};
-ghost use Rattle.trail_lines.specs.Replies.{line_in, why_text, plain_in, caused_in, why_in};
+ghost use Rattle.trail_lines.specs.Replies.{leaders_text, with_leader, leaders_of, leaders_in, denied_then, denied_of};
+ghost use Rattle.trail_lines.specs.Replies.{denied_at, entry_in, lock_denied_in, acl_fault, windows_fault};
+ghost use Rattle.trail_lines.specs.Replies.{regions_fault, line_fault, line_in, why_text, plain_in, caused_in, why_in};
 ghost use Rattle.trail_lines.specs.Replies.{reply_text, finished_in, reply_in};
 
 use acl::{AclFault, Edition, Leaders, Object, UserId};

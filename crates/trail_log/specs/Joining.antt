@@ -15,8 +15,7 @@ use Rattle.trail_log.specs.declared.log_line.LogLine.{LogLine}
 use Rattle.trail_log.specs.Checks.{window_in}
 use Rattle.trail_log.specs.Choosing.{is_chosen}
 use Rattle.line_fields.specs.Dates.{clock_text}
-use Rattle.trail_log.specs.Lines.{client_text, count_text, deed_text}
-use Rattle.trail_log.specs.Lines.{typed_rest, typed_verb}
+use Rattle.trail_log.specs.Lines.{client_text, count_text, deed_text, typed_rest, typed_verb}
 use Rattle.trail_log.specs.Naming.{Names}
 
 -- ---- the line of one entry

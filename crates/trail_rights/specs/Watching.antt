@@ -1,6 +1,5 @@
 -- What a watch stands for, and what it tells of a file's entries.
-use Rattle.std.specs.Prelude.{ℕ, ◌≡◌, ◌+◌, ◌≤◌, ◌⊎◌, List, [], ◌∷◌, ◌++◌, length}
-use Rattle.std.specs.Prelude.{Result, Ok, Err, Option, Some}
+use Rattle.std.specs.Prelude.{ℕ, ◌≡◌, ◌+◌, ◌≤◌, ◌⊎◌, List, [], ◌∷◌, ◌++◌, length, Result, Ok, Err, Option, Some}
 use Rattle.std.specs.List.{FoldsTo}
 use Rattle.std.specs.Fn.{Mut, CalledAt}
 use Rattle.std.specs.Borrow.{Bor}

@@ -7,8 +7,7 @@ ghost use Rattle.acl.specs.declared.leaders.Edition.{Edition};
 ghost use Rattle.acl.specs.declared.user_id.UserId.{UserId};
 ghost use Rattle.acl.specs.History.{History, may, there, users_of, decides_known, decides_open};
 ghost use Rattle.hub.specs.Following.{StandsAfter};
-ghost use Rattle.trail_rights.specs.Deciding.{HasDecided, decides, decider_after, first_decider, found_in};
-ghost use Rattle.trail_rights.specs.Deciding.{there_after};
+ghost use Rattle.trail_rights.specs.Deciding.{HasDecided, decides, decider_after, first_decider, found_in, there_after};
 ghost use Rattle.trail_rights.specs.Keeping.{is_asked};
 
 use crate::acts::{AskedBits, Mark};

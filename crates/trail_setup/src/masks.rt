@@ -6,11 +6,9 @@ ghost use Rattle.acl.specs.declared.user_id.UserId.{UserId};
 ghost use Rattle.acl.specs.History.{History, among, is_open};
 ghost use Rattle.trail_setup.specs.Lines.{AddsWords, PutsLines, kind_of};
 ghost use Rattle.trail_setup.specs.Alone.{HasEntries};
-ghost use Rattle.trail_setup.specs.Masks.{Stands, closed_bits, comes_back, differing, has_if_back, has_on_all};
-ghost use Rattle.trail_setup.specs.Masks.{are_any, is_first, is_lent, known_in, lent_text};
-ghost use Rattle.trail_setup.specs.Masks.{mask_kind, mask_parts, mask_word};
-ghost use Rattle.trail_setup.specs.Masks.{other_head, other_parts, owner_head, parts_by, said_bits, words_in};
-ghost use Rattle.trail_setup.specs.Masks.{words_of};
+ghost use Rattle.trail_setup.specs.Masks.{Stands, closed_bits, comes_back, differing, has_if_back, has_on_all, are_any};
+ghost use Rattle.trail_setup.specs.Masks.{is_first, is_lent, known_in, lent_text, mask_kind, mask_parts, mask_word};
+ghost use Rattle.trail_setup.specs.Masks.{other_head, other_parts, owner_head, parts_by, said_bits, words_in, words_of};
 ghost use Rattle.trail_setup.specs.Giving.{PutsAll};
 
 use crate::commands::are_same;

@@ -9,11 +9,9 @@ use Rattle.regions.specs.Shapes.{Shape}
 use Rattle.terminal_model.specs.Shows.{View}
 use Rattle.view.specs.declared.view.Cursor.{Cursor}
 use Rattle.view.specs.Drawable.{IsDrawable}
-use Rattle.view.specs.Granted.{Part, AreParts, AreDrawable, HasPairedLines}
-use Rattle.view.specs.Granted.{box_piece, separator_piece, status_piece}
+use Rattle.view.specs.Granted.{Part, AreParts, AreDrawable, HasPairedLines, box_piece, separator_piece, status_piece}
 use Rattle.view.specs.Granted.{caption_text, cursor_of, pieces, view_of}
-use Rattle.view.specs.Rows.{IsBoxRow, IsFree, AreFree, IsPlaced, Lays, FocusesOn}
-use Rattle.view.specs.Rows.{row_of, row_piece}
+use Rattle.view.specs.Rows.{IsBoxRow, IsFree, AreFree, IsPlaced, Lays, FocusesOn, row_of, row_piece}
 use Rattle.view.specs.View.{HasSize, place_of}
 
 -- the view has the size of the page of these rectangles, whose last row is the status line

@@ -1,7 +1,6 @@
 -- What a client is to see is a view, as the terminal's definitions have it: a page, the cursor's
 -- place, and two modes.
-use Rattle.std.specs.Prelude.{◌≡◌, ℕ, ◌+◌, ◌<◌, ◌≤◌, false, List, length, replicate}
-use Rattle.std.specs.Prelude.{Option, Some, None, IfSome}
+use Rattle.std.specs.Prelude.{◌≡◌, ℕ, ◌+◌, ◌<◌, ◌≤◌, false, List, length, replicate, Option, Some, None, IfSome}
 use Rattle.cells.specs.declared.cell.Cell.{Cell}
 use Rattle.cells.specs.Page.{line_at, IsGrid, page_from, edited}
 use Rattle.cells.specs.Line.{Source, blank, spliced}

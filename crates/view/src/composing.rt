@@ -6,9 +6,8 @@ ghost use Rattle.std.specs.Str.Lossy.{utf8_lossy};
 ghost use Rattle.cells.specs.Page.{IsGrid, IsGridSize};
 ghost use Rattle.view.specs.View.{KeepsSize};
 ghost use Rattle.view.specs.Granted.{read, window_of, part_of, parts_of, key_modes_of};
-ghost use Rattle.view.specs.Composing.{HasPageSize, ShowsParts, ShowsDrawable, HasFreePieces};
-ghost use Rattle.view.specs.Composing.{HasScalarCaption, TakesFocus, IsCursorOf};
-ghost use Rattle.view.specs.Composing.{LaysRow, LaysBoxRow, LaysBox, LaysSeparator, LaysStatus};
+ghost use Rattle.view.specs.Composing.{HasPageSize, ShowsParts, ShowsDrawable, HasFreePieces, HasScalarCaption};
+ghost use Rattle.view.specs.Composing.{TakesFocus, IsCursorOf, LaysRow, LaysBoxRow, LaysBox, LaysSeparator, LaysStatus};
 
 use crate::region_rows::{BoxRow, box_row, first_shown, line_shown_whole, reverse};
 use crate::text::text_row;

@@ -2,8 +2,7 @@
 
 ghost use Rattle.std.specs.Prelude.{◌≡◌, ◌<◌, ◌+◌, ℕ, IfOk, OnOk, length, chars, string_bytes};
 ghost use Rattle.std.specs.Prelude.{false, Bool, IsTrue, IfSome};
-ghost use Rattle.view.specs.Rows.{IsRow, whole_cell, cut_cell};
-ghost use Rattle.view.specs.Rows.{IsWindowRow, IsPartRow, IsCaptionRow, IsBoxRow};
+ghost use Rattle.view.specs.Rows.{IsRow, whole_cell, cut_cell, IsWindowRow, IsPartRow, IsCaptionRow, IsBoxRow};
 ghost use Rattle.cells.specs.Line.{cell_at};
 ghost use Rattle.view.specs.Granted.{part_of, window_of, line_cell, reverse, shown_cell as shown_cell_of};
 ghost use Rattle.view.specs.Granted.{first_shown as first_shown_of, caption_text as caption_of};

@@ -4,8 +4,7 @@ use Rattle.std.specs.Prelude.{ℕ, ◌+◌, ◌-◌, ◌==◌, min, cond, Bool, 
 use Rattle.charsets.specs.Shifts.{mapped}
 use Rattle.terminal_model.specs.declared.state.State.{State}
 use Rattle.terminal_model.specs.declared.action.Action.{Action}
-use Rattle.terminal_model.specs.declared.action.Action.TheVariants.{Print, LineFeed, Index}
-use Rattle.terminal_model.specs.declared.action.Action.TheVariants.{NextLine, ReverseIndex}
+use Rattle.terminal_model.specs.declared.action.Action.TheVariants.{Print, LineFeed, Index, NextLine, ReverseIndex}
 use Rattle.terminal_model.specs.declared.action.Action.TheVariants.{InsertLines, DeleteLines}
 use Rattle.terminal_model.specs.Screen.{Screen}
 use Rattle.terminal_model.specs.Scrollback.{is_wrapped}

@@ -3,12 +3,10 @@
 
 ghost use Rattle.std.specs.Prelude.{◌≡◌, ◌<◌, ◌≤◌};
 ghost use Rattle.cells.specs.Page.{IsPage, page_from};
-ghost use Rattle.terminal_model.specs.declared.action.Action.TheVariants.{EraseCells, EraseInLine};
-ghost use Rattle.terminal_model.specs.declared.action.Action.TheVariants.{EraseInPage};
+ghost use Rattle.terminal_model.specs.declared.action.Action.TheVariants.{EraseCells, EraseInLine, EraseInPage};
 ghost use Rattle.terminal_model.specs.declared.action.Action.TheVariants.{EraseUnprotectedInLine};
 ghost use Rattle.terminal_model.specs.declared.action.Action.TheVariants.{EraseUnprotectedInPage};
-ghost use Rattle.terminal_model.specs.Erasing.{line_erased, part_erased, part_unprotected};
-ghost use Rattle.terminal_model.specs.Erasing.{unprotected_lines};
+ghost use Rattle.terminal_model.specs.Erasing.{line_erased, part_erased, part_unprotected, unprotected_lines};
 ghost use Rattle.terminal_model.specs.Table.{acted};
 ghost use Rattle.vt_screen.specs.Acting.{KeepsLines};
 ghost use Rattle.vt_screen.specs.Displays.{IsFit, screen_of};

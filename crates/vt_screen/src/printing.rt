@@ -2,8 +2,7 @@
 
 ghost use Rattle.std.specs.Prelude.{◌≡◌, ◌<◌, ◌+◌, ◌&&◌, Some};
 ghost use Rattle.charsets.specs.declared.decoder.Unit.TheVariants.{Code};
-ghost use Rattle.terminal_model.specs.Printing.{lacks_room, marked_at};
-ghost use Rattle.terminal_model.specs.Printing.{placed_narrow, placed_wide, printed, printed_as};
+ghost use Rattle.terminal_model.specs.Printing.{lacks_room, marked_at, placed_narrow, placed_wide, printed, printed_as};
 ghost use Rattle.terminal_model.specs.Printing.{wide_printed, wrapped};
 ghost use Rattle.terminal_model.specs.Table.{acted};
 ghost use Rattle.terminal_model.specs.declared.action.Action.TheVariants.{Print};

@@ -2,10 +2,8 @@
 
 ghost use Rattle.std.specs.Prelude.{◌≡◌};
 ghost use Rattle.terminal_model.specs.Table.{acted};
-ghost use Rattle.terminal_model.specs.declared.action.Action.TheVariants.{Align, BlankPage};
-ghost use Rattle.terminal_model.specs.declared.action.Action.TheVariants.{ClearTab, ClearTabs};
-ghost use Rattle.terminal_model.specs.declared.action.Action.TheVariants.{Reset, Restore, Save};
-ghost use Rattle.terminal_model.specs.declared.action.Action.TheVariants.{SetTab, SoftReset, Tab};
+ghost use Rattle.terminal_model.specs.declared.action.Action.TheVariants.{Align, BlankPage, ClearTab, ClearTabs, Reset};
+ghost use Rattle.terminal_model.specs.declared.action.Action.TheVariants.{Restore, Save, SetTab, SoftReset, Tab};
 ghost use Rattle.vt_screen.specs.Acting.{KeepsLines};
 ghost use Rattle.vt_screen.specs.Displays.{IsFit, screen_of};
 

@@ -1,8 +1,7 @@
 -- Counts are at least 1.
 use Rattle.std.specs.Prelude.{◌<◌}
 use Rattle.terminal_model.specs.declared.action.Action.{Action}
-use Rattle.terminal_model.specs.declared.action.Action.TheVariants.{EraseCells, InsertCells}
-use Rattle.terminal_model.specs.declared.action.Action.TheVariants.{DeleteCells}
+use Rattle.terminal_model.specs.declared.action.Action.TheVariants.{EraseCells, InsertCells, DeleteCells}
 
 -- the action's number of cells is at least 1
 abbrev pub IsCounted : Action → Type 0

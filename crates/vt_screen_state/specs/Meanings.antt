@@ -5,8 +5,7 @@ use Rattle.charsets.specs.Entries.{entry_at, entry_or}
 use Rattle.terminal_model.specs.declared.action.Action.{Action}
 use Rattle.terminal_model.specs.Functions.{rendered, mode_set, private_mode_set}
 use Rattle.vt_screen_state.specs.declared.values.Setting.{Setting}
-use Rattle.vt_screen_state.specs.declared.values.Setting.TheVariants.{Rendition as SetRendition, Mode}
-use Rattle.vt_screen_state.specs.declared.values.Setting.TheVariants.{PrivateMode}
+use Rattle.vt_screen_state.specs.declared.values.Setting.TheVariants.{Rendition as SetRendition, Mode, PrivateMode}
 
 -- what a control sequence sets by each of its parameters; None if it is another sequence
 abbrev pub setting_of : Option ℕ → List ℕ → ℕ → Option Setting

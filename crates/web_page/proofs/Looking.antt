@@ -1,7 +1,6 @@
 -- Looks at the rows of a page, one after another.
-use Rattle.std.proofs.Common.{◌≡◌, ◌⊎◌, ℕ, suc, ◌+◌, ◌<◌, ◌≤◌, Bool, true, false, ◌||◌, List, [], ◌∷◌, length}
-use Rattle.std.proofs.Common.{take, map, refl, sym, ap, ◌∙◌, ◌++◌, set, arith, inl, inr, ⊎_elim}
-use Rattle.std.proofs.Common.{below_more}
+use Rattle.std.proofs.Common.{◌≡◌, ◌⊎◌, ℕ, suc, ◌+◌, ◌<◌, ◌≤◌, Bool, true, false, ◌||◌, List, [], ◌∷◌, length, take}
+use Rattle.std.proofs.Common.{map, refl, sym, ap, ◌∙◌, ◌++◌, set, arith, inl, inr, ⊎_elim, below_more}
 use Rattle.std.proofs.lemmas.List.{get_or-take, take_all, length-take, length_push, get_or_push, get_or_append_left}
 use Rattle.std.proofs.lemmas.List.{length-set, get_or-set_same, get_or-set_other}
 use Rattle.std.proofs.lemmas.Bool.{or_parts, true≢false, cases_lt}

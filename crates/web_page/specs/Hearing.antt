@@ -10,8 +10,7 @@ use Rattle.attach_proto.specs.Table.{untold, noted, draw_in}
 use Rattle.terminal_model.specs.Reading.{Terminal, reads}
 use Rattle.terminal_model.specs.Writing.{Size}
 use Rattle.emulator.specs.Standing.{StandsFor, TakesWriting}
-use Rattle.web_page.specs.Showing.{Sheet, AreAsFar}
-use Rattle.web_page.specs.Showing.{IsBlank as IsBlankSheet}
+use Rattle.web_page.specs.Showing.{Sheet, AreAsFar, IsBlank as IsBlankSheet}
 use Rattle.web_page.specs.declared.display.ClientFault.{ClientFault}
 use Rattle.web_page.specs.declared.display.ClientFault.TheVariants as client
 

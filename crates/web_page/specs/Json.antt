@@ -1,6 +1,5 @@
 -- Texts of JSON (RFC 8259, section 7) in which no character is markup.
-use Rattle.std.specs.Prelude.{◌≢◌, ◌≤◌, ℕ, ◌/◌, ◌%◌, Bool, ◌&&◌, ◌||◌, ◌==◌, nat_lt, cond}
-use Rattle.std.specs.Prelude.{List, [], ◌∷◌, ◌++◌}
+use Rattle.std.specs.Prelude.{◌≢◌, ◌≤◌, ℕ, ◌/◌, ◌%◌, Bool, ◌&&◌, ◌||◌, ◌==◌, nat_lt, cond, List, [], ◌∷◌, ◌++◌}
 use Rattle.std.specs.Char.{encode_utf8, digit_char}
 use Rattle.std.specs.List.{flat_map}
 

@@ -4,8 +4,7 @@ ghost use Rattle.std.specs.Prelude.{◌≡◌, ◌++◌, ◌<◌, ◌≤◌, ℕ
 ghost use Rattle.std.specs.List.{flat_map};
 ghost use Rattle.std.specs.String.{string_bytes};
 ghost use Rattle.web_page.specs.Json.{spelled_text};
-ghost use Rattle.web_page.specs.Runs.{Run, letters, run_head, after_cell, runs, spelled_runs};
-ghost use Rattle.web_page.specs.Runs.{rest_of};
+ghost use Rattle.web_page.specs.Runs.{Run, letters, run_head, after_cell, runs, spelled_runs, rest_of};
 ghost use Rattle.web_page.specs.Styles.{flag, colour_value, rendition_value, style_value};
 ghost use Rattle.web_page.specs.Updates.{next_number};
 

@@ -1,7 +1,6 @@
 -- The values of the headers of one name.
-use Rattle.std.proofs.Common.{◌≡◌, ℕ, ◌+◌, ◌<◌, ◌≤◌, Bool, true, false, cond, List, [], ◌∷◌, ◌++◌, length, drop}
-use Rattle.std.proofs.Common.{get_or, Bor, Option, None, Some, option_to_list, option_copied, is_some, ap, sym}
-use Rattle.std.proofs.Common.{◌∙◌, refl}
+use Rattle.std.proofs.Common.{◌≡◌, ℕ, ◌+◌, ◌<◌, ◌≤◌, Bool, true, false, cond, List, [], ◌∷◌, ◌++◌, length, drop, get_or}
+use Rattle.std.proofs.Common.{Bor, Option, None, Some, option_to_list, option_copied, is_some, ap, sym, ◌∙◌, refl}
 use Rattle.std.proofs.lemmas.List.{drop_more, drop_all}
 use Rattle.httparse.specs.declared.spans.HeaderSpan.{HeaderSpan}
 use Rattle.httparse.specs.Spans.{span_bytes}

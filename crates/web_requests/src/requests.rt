@@ -4,9 +4,8 @@ ghost use Rattle.std.specs.Prelude.{◌≡◌, All, length, IfOk, option_copied,
 ghost use Rattle.httparse.specs.Spans.{span_bytes, IsHeaderWithin, IsRequestWithin};
 ghost use Rattle.websocket.specs.Headers.{fields_of, eq_ignore_case};
 ghost use Rattle.std.specs.String.{string_bytes};
-ghost use Rattle.web_requests.specs.Serving.{guards, head_of, reply, refusal, reply_with, file_at};
-ghost use Rattle.web_requests.specs.Serving.{value_of, address_of};
-ghost use Rattle.web_requests.specs.Serving.{spanned, IsPage, Opens, page_for, AnswersSocket, AnswersBytes};
+ghost use Rattle.web_requests.specs.Serving.{guards, head_of, reply, refusal, reply_with, file_at, value_of};
+ghost use Rattle.web_requests.specs.Serving.{address_of, spanned, IsPage, Opens, page_for, AnswersSocket, AnswersBytes};
 
 use crate::site::Site;
 use httparse::Status;

@@ -1,6 +1,5 @@
 -- What holds of each table of windows, and what a call leaves unchanged.
-use Rattle.std.specs.Prelude.{ℕ, ◌≡◌, ◌≢◌, ◌<◌, ◌==◌, not, ◌++◌, ◌∷◌, [], List, AllPairs, map}
-use Rattle.std.specs.Prelude.{filter}
+use Rattle.std.specs.Prelude.{ℕ, ◌≡◌, ◌≢◌, ◌<◌, ◌==◌, not, ◌++◌, ◌∷◌, [], List, AllPairs, map, filter}
 use Rattle.windows_model.specs.declared.rows.TheConstants.{WINDOWS}
 use Rattle.windows_model.specs.Finding.{row_of}
 use Rattle.windows.specs.declared.window.Window.{Window}

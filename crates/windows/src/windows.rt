@@ -1,7 +1,6 @@
 //! The open windows.
 
-ghost use Rattle.std.specs.Prelude.{◌≡◌, List, [], true, Some, length, option_copied};
-ghost use Rattle.std.specs.Prelude.{IfOk, IfSome, OnOk, OnErr};
+ghost use Rattle.std.specs.Prelude.{◌≡◌, List, [], true, Some, length, option_copied, IfOk, IfSome, OnOk, OnErr};
 ghost use Rattle.emulator.specs.Commanded.{writing_in};
 
 use crate::among::{Among, End, nearest};

@@ -1,6 +1,5 @@
-use Rattle.std.proofs.Common.{◌≡◌, ◌<◌, ◌+◌, ◌-◌, ◌∙◌, ◌++◌, [], List, ℕ}
-use Rattle.std.proofs.Common.{true, false, length, take, drop, ap, sym, arith}
-use Rattle.std.proofs.Common.{Bool, get_or, set, subst, refl}
+use Rattle.std.proofs.Common.{◌≡◌, ◌<◌, ◌+◌, ◌-◌, ◌∙◌, ◌++◌, [], List, ℕ, true, false, length, take, drop, ap, sym}
+use Rattle.std.proofs.Common.{arith, Bool, get_or, set, subst, refl}
 use Rattle.std.specs.Prelude.{if◌then◌else◌}
 use Rattle.std.proofs.lemmas.List.{drop_more, drop-set-lt}
 use Rattle.server_sending.specs.declared.typists.TypedFrame.{TypedFrame}

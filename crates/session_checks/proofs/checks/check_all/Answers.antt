@@ -3,8 +3,7 @@ use Rattle.std.specs.Prelude.{◌≡◌, ◌⊎◌, option_to_list}
 use Rattle.session_model.specs.declared.refusal.Check.{Check}
 use Rattle.session_model.specs.declared.refusal.Refusal.TheVariants.{NoMemory}
 use Rattle.session_checks.specs.Checked.{Passed, Failed, AllMade, listed}
-use Rattle.session_checks.proofs.Checking.{passed_on, refused_on, passed_back, made_at, take_one}
-use Rattle.session_checks.proofs.Checking.{around_one}
+use Rattle.session_checks.proofs.Checking.{passed_on, refused_on, passed_back, made_at, take_one, around_one}
 use Rattle.session_checks.proofs.checks.check_all.Goals as goal
 
 pub returns-in_err-check_one : goal.returns-in_err-check_one

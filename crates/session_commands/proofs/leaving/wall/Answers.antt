@@ -1,5 +1,4 @@
-use Rattle.std.proofs.Common.{◌≡◌, ◌++◌, ℕ, List, length, map, replicate, refl, ap, sym, ◌∙◌}
-use Rattle.std.proofs.Common.{append-nil, rules}
+use Rattle.std.proofs.Common.{◌≡◌, ◌++◌, ℕ, List, length, map, replicate, refl, ap, sym, ◌∙◌, append-nil, rules}
 use Rattle.std.specs.Prelude.{codes}
 use Rattle.acl.specs.Names.{name_of}
 use Rattle.session_model.specs.declared.event.Effect.{Effect}

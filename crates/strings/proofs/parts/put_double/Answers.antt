@@ -1,7 +1,6 @@
 use Rattle.std.proofs.Common.{ap}
 use Rattle.std.specs.Option.{option_map}
-use Rattle.strings.proofs.Steps.{double-closes, double-goes, double-breaks, double-ends}
-use Rattle.strings.proofs.Steps.{less-behind-character}
+use Rattle.strings.proofs.Steps.{double-closes, double-goes, double-breaks, double-ends, less-behind-character}
 use Rattle.strings.proofs.parts.put_double.Goals as goal
 
 pub returns-then-c-eq34 : goal.returns-then-c-eq34

@@ -4,8 +4,7 @@ use Rattle.client_peer.specs.Meeting.{StaysClosed}
 use Rattle.client_peer.specs.Showing.{PassesOn, StopsAt}
 use Rattle.client_peer.proofs.Closing.{closed_same, closed_then}
 use Rattle.client_peer.proofs.Passing.{on_err_given, passes_keeps, passes_same, passes_heard, passes_stops, passes_then}
-use Rattle.client_peer.proofs.peer.Peer.take.Goals.{then-told+in_ok-welcome, else-told}
-use Rattle.client_peer.proofs.peer.Peer.take.Goals.{in-Some+in_ok-hear, in_default}
+use Rattle.client_peer.proofs.peer.Peer.take.Goals.{then-told+in_ok-welcome, else-told, in-Some+in_ok-hear, in_default}
 use Rattle.client_peer.proofs.peer.Peer.take.Goals as goal
 
 pub returns-clause-ok : goal.returns-clause-ok

@@ -1,6 +1,5 @@
 use Rattle.std.proofs.Common.{ℕ, List, [], ◌∷◌, ◌++◌, ◌∙◌, refl, sym, subst, append_assoc}
-use Rattle.keys.specs.Grammar.{control_a, colon, carriage_return}
-use Rattle.keys.specs.Grammar.{items_from}
+use Rattle.keys.specs.Grammar.{control_a, colon, carriage_return, items_from}
 use Rattle.keys.specs.Kept.{StandsFor}
 use Rattle.client_typing.proofs.Fitting.{given-alone}
 use Rattle.client_typing.proofs.typing.Typing.give.Goals as goal

@@ -1,6 +1,5 @@
-use Rattle.std.proofs.Common.{arith, subst, ap, ◌∙◌, List, ℕ}
+use Rattle.std.proofs.Common.{arith, subst, ap, ◌∙◌, List, ℕ, ◌^◌}
 use Rattle.std.specs.Prelude.{slice_set, bit_or, ◌*◌, ◌/◌, ◌%◌}
-use Rattle.std.proofs.Common.{◌^◌}
 use Rattle.server_connections.specs.Marked.{IsSameBut, with_mark}
 use Rattle.server_connections.proofs.Marking.{marked, marked_alone, as_marked}
 use Rattle.server_connections.proofs.marked.MarkedKeys.mark.Goals as goal

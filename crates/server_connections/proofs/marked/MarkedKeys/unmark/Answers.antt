@@ -1,6 +1,5 @@
-use Rattle.std.proofs.Common.{arith, subst, ap, ◌∙◌, List, ℕ}
+use Rattle.std.proofs.Common.{arith, subst, ap, ◌∙◌, List, ℕ, ◌^◌}
 use Rattle.std.specs.Prelude.{slice_set, bit_and, ◌*◌, ◌/◌, ◌%◌, ◌-◌}
-use Rattle.std.proofs.Common.{◌^◌}
 use Rattle.server_connections.specs.Marked.{IsSameBut, without_mark}
 use Rattle.server_connections.proofs.Marking.{unmarked, unmarked_alone, as_unmarked}
 use Rattle.server_connections.proofs.marked.MarkedKeys.unmark.Goals as goal

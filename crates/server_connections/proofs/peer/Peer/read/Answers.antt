@@ -1,5 +1,4 @@
-use Rattle.std.proofs.Common.{◌≡◌, ◌∙◌, ◌++◌, ℕ, List, [], sym, ap}
-use Rattle.std.proofs.Common.{refl, subst, rules, arith, eq-eqb, ne_eqb, length}
+use Rattle.std.proofs.Common.{◌≡◌, ◌∙◌, ◌++◌, ℕ, List, [], sym, ap, refl, subst, rules, arith, eq-eqb, ne_eqb, length}
 use Rattle.std.proofs.lemmas.List.{length-take-le}
 use Rattle.std.specs.Prelude.{take, true}
 use Rattle.server_inbox.specs.Asking.{Stands}
