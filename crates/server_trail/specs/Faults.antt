@@ -1,8 +1,8 @@
 -- The fault of a trail's file, and why a line isn't put down.
 use Rattle.std.specs.Prelude.{Bool, true, false, Option, Some, None, Result, Ok, Err}
 use Rattle.std.specs.declared.io.Error.{Error}
-use Rattle.server_trail.specs.declared.stop.StopCause.{StopCause}
-use Rattle.server_trail.specs.declared.stop.StopCause.TheVariants as stop
+use Rattle.server_trail.specs.declared.file.StopCause.{StopCause}
+use Rattle.server_trail.specs.declared.file.StopCause.TheVariants as stop
 use Rattle.server_trail.specs.declared.journal.JournalFault.{JournalFault}
 use Rattle.server_trail.specs.declared.journal.JournalFault.TheVariants as fault
 use Rattle.server_trail.specs.declared.reading.ReadBack.{ReadBack}

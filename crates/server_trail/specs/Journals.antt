@@ -5,7 +5,7 @@ use Rattle.trail_lines.specs.declared.ending.Cause.{Cause}
 use Rattle.server_trail.specs.Files.{IsEnded}
 use Rattle.server_trail.specs.Stopping.{last_cause}
 use Rattle.server_trail.specs.declared.journal.Journal.{Journal}
-use Rattle.server_trail.specs.declared.stop.StopCause.{StopCause}
+use Rattle.server_trail.specs.declared.file.StopCause.{StopCause}
 use Rattle.server_trail.specs.declared.waiting.Written.{Written}
 
 abbrev pub journal_path : {F : Type 0} → Journal F → List ℕ

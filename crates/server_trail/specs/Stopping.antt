@@ -2,8 +2,8 @@
 use Rattle.std.specs.Prelude.{ℕ, ◌==◌, ◌&&◌, ◌||◌, Bool, Option, Some, None, nat_le, nat_lt}
 use Rattle.trail_lines.specs.declared.ending.Cause.{Cause}
 use Rattle.trail_lines.specs.declared.ending.Cause.TheVariants as cause
-use Rattle.server_trail.specs.declared.stop.StopCause.{StopCause}
-use Rattle.server_trail.specs.declared.stop.StopCause.TheVariants as stop
+use Rattle.server_trail.specs.declared.file.StopCause.{StopCause}
+use Rattle.server_trail.specs.declared.file.StopCause.TheVariants as stop
 
 -- ---- the writer
 

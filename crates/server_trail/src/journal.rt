@@ -4,10 +4,9 @@ ghost use Rattle.std.specs.Prelude.{◌≡◌, IfOk};
 ghost use Rattle.server_trail.specs.Faults.{fault_of, read_as};
 ghost use Rattle.server_trail.specs.Journals.{HasEnded, journal_path};
 
-use crate::file::{begin, header_of};
+use crate::file::{StopCause, begin, header_of, last_cause};
 use crate::reading::{ReadBack, read_back};
 use crate::recorder::Recorder;
-use crate::stop::{StopCause, last_cause};
 use crate::waiting::Written;
 use acl::{Edition, UserId};
 use hub::EntryList;

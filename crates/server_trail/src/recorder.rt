@@ -4,8 +4,7 @@ ghost use Rattle.std.specs.Prelude.{◌≡◌, IfOk};
 ghost use Rattle.std.specs.Option.{option_copied};
 ghost use Rattle.server_trail.specs.Waiting.{IsEntrys};
 
-use crate::file::time;
-use crate::stop::StopCause;
+use crate::file::{StopCause, time};
 use crate::waiting::{EntryLine, Left, PutLine, Stopped, WaitingLines};
 use hub::TrailEntry;
 use std::alloc::Global;

@@ -12,11 +12,11 @@ ghost use Rattle.server_trail.specs.Files.{HasWritten};
 ghost use Rattle.server_trail.specs.Merging.{HasMerged, Placed, early_bytes};
 ghost use Rattle.server_trail.specs.Stopping.{wakes};
 ghost use Rattle.server_trail.specs.Waiting.{IsOfEntry};
-ghost use Rattle.server_trail.specs.declared.stop.StopCause.TheVariants.{Disk, Memory};
+ghost use Rattle.server_trail.specs.declared.file.StopCause.TheVariants.{Disk, Memory};
 ghost use Rattle.trail_lines.specs.Entries.{line_of};
 
+use crate::file::StopCause;
 use crate::merge::Merge;
-use crate::stop::StopCause;
 use hub::{TrailEntry, asks_for_command};
 use session::Verdict;
 use std::alloc::{AllocError, Global};
