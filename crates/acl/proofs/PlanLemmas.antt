@@ -39,17 +39,6 @@ answers-first X Y NoMemory f g a = tt
 pub option_or-none : (f g : Option AclFault) → f ≡ None → option_or f g ≡ g
 option_or-none f g e = ap (λ o. option_or o g) e
 
--- a result that is an error is this error for any other type of success
-pub answers-other : (X Y : Type 0) (e : AclFault) (f : Option AclFault) → Answers {X = X} (Err e) f
-    → Answers {X = Y} (Err e) f
-answers-other X Y UnknownUser f a = a
-answers-other X Y OwnerKept f a = a
-answers-other X Y TooManyUsers f a = a
-answers-other X Y ReservedName f a = a
-answers-other X Y NoSuchGroup f a = a
-answers-other X Y TooManyGroups f a = a
-answers-other X Y NoMemory f a = tt
-
 -- the number of acts counted from i on
 pub counted : (p : Act → Bool) (xs : List Act) (i : ℕ) (d : Act) → i < length xs
     → count_by p (drop i xs) ≡ (if p (slice_index_or xs i d) then 1 else 0) + count_by p (drop (i + 1) xs)

@@ -19,10 +19,6 @@ use Rattle.acl.proofs.StandsForLemmas.{same_user-true}
 use Rattle.acl_words.specs.declared.command_name.CommandName.{CommandName}
 use Rattle.acl_words.specs.declared.command_name.CommandName.TheVariants as command
 
-chosen-and : (c d : Bool) (value x : Bool) → (if c then value else x) ≡ (if c && true then value else x)
-chosen-and true d value x = refl
-chosen-and false d value x = refl
-
 skipped-and : (c : Bool) (value x : Bool) → x ≡ (if c && false then value else x)
 skipped-and true value x = refl
 skipped-and false value x = refl

@@ -1,5 +1,5 @@
 -- Facts of the slots that windows stand in, while one opens or closes.
-use Rattle.std.proofs.Common.{◌≡◌, ◌≢◌, ◌∙◌, ℕ, zero, suc, ◌+◌, ◌<◌, Bool, true, false, ◌==◌, nat_eq, cond, ap, subst}
+use Rattle.std.proofs.Common.{◌≡◌, ◌≢◌, ◌∙◌, ℕ, zero, suc, ◌+◌, ◌<◌, Bool, true, false, ◌==◌, cond, ap, subst}
 use Rattle.std.proofs.Common.{sym, refl, arith, List, [], ◌∷◌, Option, Some, None, is_some, is_none, eq-eqb, zero-add}
 use Rattle.std.proofs.Common.{if◌then◌else◌, slice_index_or, slice_set, true≢false, length, map, position}
 use Rattle.std.proofs.Common.{◌≤◌, ◌-◌, replicate, unwrap_or, length-set}

@@ -5,6 +5,5 @@ pub mod Joins
 pub mod Pieces
 pub mod Shifted
 pub mod Scalars
-pub mod Characters
 pub mod Texts
 pub mod Proved

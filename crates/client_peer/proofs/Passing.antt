@@ -24,14 +24,6 @@ passes_keeps old new k = record {
 pub passes_stops : (old new : Peer) → PassesOn old new → StopsAt old new
 passes_stops old new p is came begun stands = (p.passes is came begun stands).passed
 
--- the same bytes wait
-pub stops_kept : (old new : Peer) → new.bytes.items ≡ old.bytes.items → StopsAt old new
-stops_kept old new k is came begun stands = record {
-  more = [];
-  added = k ∙ sym (append-nil old.bytes.items);
-  begin = subst BeginDraws (sym (append-nil came)) begun;
-}
-
 module _ (old middle new : Peer) (p : PassesOn old middle) where
   passed_then : (is : old.subcommand ≡ Attach) (came : List ℕ) (begun : BeginDraws came)
       (stands : old.draws ≡ place_after came)

@@ -2,8 +2,6 @@
 use Rattle.std.proofs.Common.{◌≡◌, ◌∙◌, refl, sym, ap, subst, inl, inr, ◌⊎◌, ℕ, ◌≤◌, ◌-◌, true, false, [], ◌++◌}
 use Rattle.std.proofs.Common.{Option, Some, None, IsSome, Result, Ok, Err}
 use Rattle.std.specs.Prelude.{IfOk, IsSomeAnd}
-use Rattle.attach_proto.specs.declared.kind.Kind.TheVariants.{Detach}
-use Rattle.attach_proto.specs.Spelling.{frame}
 use Rattle.client_notice.specs.declared.notice.NoticeTask.{NoticeTask}
 use Rattle.client_notice.specs.declared.notice.NoticeTask.TheVariants.{Nothing, Show, TakeAway}
 use Rattle.client_typing.specs.Following.{stage_of}
@@ -13,7 +11,7 @@ use Rattle.client_peer.specs.declared.looking.PeerTask.TheVariants as task
 use Rattle.client_peer.specs.declared.peer.Peer.{Peer}
 use Rattle.client_peer.specs.Acting.{Acts, ActsIf, ActsInTime, Does, IsUnmoved}
 use Rattle.client_peer.specs.Looking.{BeginsInTime, DoesNext, IsDone, IsIdle, IsToLeave, LeavesInTime, MayLeave}
-use Rattle.client_peer.specs.Looking.{acting, in_time, leaving, paired_after}
+use Rattle.client_peer.specs.Looking.{acting, in_time, paired_after}
 use Rattle.client_peer.specs.Sending.{MaySend}
 
 pub false_true : false ≡ true → ⊥
@@ -25,10 +23,6 @@ not_none o none some = false_true (subst IsSome none some)
 is_none : {T : Type 0} (o : Option T) → (IsSome o → ⊥) → o ≡ None
 is_none None h = refl
 is_none (Some x) h = absurd (h refl)
-
-is_some_if : {T : Type 0} (o : Option T) → (o ≡ None → ⊥) → IsSome o
-is_some_if None h = absurd (h refl)
-is_some_if (Some x) h = refl
 
 pub if_ok_by : {T E : Type 0} (r : Result T E) (P Q : T → Type 0) → ((x : T) → P x → Q x) → IfOk r P → IfOk r Q
 if_ok_by (Ok x) P Q f p = f x p
@@ -47,10 +41,6 @@ module _ (old first : Peer) (now : ℕ) (m : MayLeave old now first) where
   stays_on none to =
       not_none first.times.left_at none (subst IsSome (sym (m.leaves (was_none none) to).0) refl)
 
-  was_left : IsSome first.times.left_at → (IsToLeave old now → ⊥) → old.times.left_at ≡ None → ⊥
-  was_left some not none =
-      not_none first.times.left_at (ap (λ (p : Peer). p.times.left_at) (m.stays none not) ∙ none) some
-
   pub leaves_then : (new : Peer) → new.times.left_at ≡ first.times.left_at → new.times.paired ≡ first.times.paired
       → new.typing.leave ≡ first.typing.leave → LeavesInTime old now new
   leaves_then new left paired leave = record {
@@ -61,23 +51,6 @@ module _ (old first : Peer) (now : ℕ) (m : MayLeave old now first) where
       paired ∙ ap (λ (p : Peer). p.times.paired) (m.stays none not),
       leave ∙ ap (λ (p : Peer). p.typing.leave) (m.stays none not),
     );
-  }
-
-  pub acts_left : (next : PeerTask)
-      → (old.times.left_at ≡ None → IsToLeave old now → first.frames.items ≡ old.frames.items ++ frame Detach [])
-      → first ≡ leaving old first → IsSome first.times.left_at → ActsInTime old now next first
-  acts_left next tells same some = record {
-    leaves = λ l. (tells l.0 l.1, ap (λ (p : Peer). p.bytes.items) same);
-    acts = λ not. record {
-      acts = λ is. absurd (not_none first.times.left_at is.1 some);
-      rests = λ closed.
-          let is : first ≡ old =
-          m.left (is_some_if old.times.left_at (λ none. was_left some (λ to. not (none, to)) none)) in (
-            (ap (λ (p : Peer). p.frames.items) is, ap (λ (p : Peer). p.bytes.items) is),
-            ap (λ (p : Peer). p.typing) is,
-            ap (λ (p : Peer). p.notice) is,
-          );
-    };
   }
 
 -- ---- a peer whose user stays, and which ends, perhaps

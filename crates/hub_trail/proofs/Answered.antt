@@ -1,7 +1,7 @@
 -- When the verdicts and the reply of an entry are legal, and that those of a Command are.
 use Rattle.hub_trail.proofs.Vocabulary.{◌≡◌, ◌∙◌, ℕ, Bool, true, false, List, [], ◌++◌, Option, Some, None, refl, subst}
 use Rattle.hub_trail.proofs.Vocabulary.{inl, inr, if◌then◌else◌, AllByRecursion, both_ways, Edition, UserId, History}
-use Rattle.hub_trail.proofs.Vocabulary.{Execute, same_user, same_user-refl, ParseFault, name_of, read_line, line, Check}
+use Rattle.hub_trail.proofs.Vocabulary.{Execute, same_user, same_user-refl, ParseFault, name_of, read_line, Check}
 use Rattle.hub_trail.proofs.Vocabulary.{Done, Refusal, UnknownUser, Line, Command, Tables, is_known, may_in, Caller}
 use Rattle.hub_trail.proofs.Vocabulary.{line_caller, verdicts, first_fault, checks, Deed, Answer, does, taken, Outcome}
 use Rattle.hub_trail.proofs.Vocabulary.{finished, refused, left_acts, reply_of, done, outcome, line_ruling, answered}

@@ -2,7 +2,7 @@
 -- acts.
 use Rattle.hub_trail.proofs.Vocabulary.{◌≡◌, ◌∙◌, ℕ, Bool, true, false, List, [], ◌∷◌, ◌++◌, Option, Some, None, Result}
 use Rattle.hub_trail.proofs.Vocabulary.{Ok, Err, refl, ap, inl, inr, ⊎_elim, take, ◌==◌, if◌then◌else◌, AllByRecursion}
-use Rattle.hub_trail.proofs.Vocabulary.{and_from, or_left, eq-eqb, UserId, Write, same_user, same_user-refl}
+use Rattle.hub_trail.proofs.Vocabulary.{and_from, or_left, eq-eqb, UserId, Write, same_user-refl}
 use Rattle.hub_trail.proofs.Vocabulary.{stops_nobody_but, ParseFault, read_line, Item, typed, bound, line, Check, Done}
 use Rattle.hub_trail.proofs.Vocabulary.{StatusMessage, Refusal, NoWindow, Line, Verdict, EventValue, Attach, Detach}
 use Rattle.hub_trail.proofs.Vocabulary.{Keys, Command, Open, Closed, ActsAgree, Window, Client, Tables, window_at}

@@ -4,18 +4,17 @@ use Rattle.hub_trail.proofs.Vocabulary.{Ok, Err, refl, ap, sym, ◌∙◌, subst
 use Rattle.hub_trail.proofs.Vocabulary.{◌==◌, ◌&&◌, AllByRecursion, list_all, option_map_or, UserId, Act, Execute}
 use Rattle.hub_trail.proofs.Vocabulary.{CommandName, History, same_user, same_user-refl, ParseFault, name_of, Item}
 use Rattle.hub_trail.proofs.Vocabulary.{typed, bound, line, Effect, NoWindow, UnknownUser, Verdict, EventValue, Attach}
-use Rattle.hub_trail.proofs.Vocabulary.{Detach, Keys, Command, Open, Output, Closed, Draw, Reply, AreFit, Window}
-use Rattle.hub_trail.proofs.Vocabulary.{Client, Tables, window_at, client_at, focused, is_known, may_in, Caller}
-use Rattle.hub_trail.proofs.Vocabulary.{caller_of, line_caller, verdicts, first_fault, checks, Deed, Answer, parts}
-use Rattle.hub_trail.proofs.Vocabulary.{closes, entering, without_windows, does, step_items, typed_bytes, command_item}
-use Rattle.hub_trail.proofs.Vocabulary.{taken, Outcome, finished, refused, left_acts, reply_of, done, outcome}
-use Rattle.hub_trail.proofs.Vocabulary.{attach_checks, attaches, new_client, open_checks, opens, new_window, answered}
-use Rattle.hub_trail.proofs.Vocabulary.{commanded, line_ruling, keys_outcome, typing_verdicts, ordered, reading, types}
-use Rattle.hub_trail.proofs.Vocabulary.{Given, commands_of, with_order, order_in, ok_of, SomeOf, IsStep, equal, itself}
-use Rattle.hub_trail.proofs.Vocabulary.{both_true, row_serial, all_weaken, all_append, all_map, all_passed, all_of}
-use Rattle.hub_trail.proofs.Vocabulary.{none_left, Either, Did, Obeys, with_clients, IsMine, obeys_of, Kept, Entry}
-use Rattle.hub_trail.proofs.Vocabulary.{AsksFirst, from_command, is_client_of, kept_of, ending_of, entry_of, makes}
-use Rattle.hub_trail.proofs.Vocabulary.{LeftBy, left_where, parted}
+use Rattle.hub_trail.proofs.Vocabulary.{Detach, Keys, Command, Open, Closed, Reply, AreFit, Window, Client, Tables}
+use Rattle.hub_trail.proofs.Vocabulary.{window_at, client_at, focused, is_known, may_in, Caller, caller_of, line_caller}
+use Rattle.hub_trail.proofs.Vocabulary.{verdicts, first_fault, checks, Deed, Answer, parts, closes, entering}
+use Rattle.hub_trail.proofs.Vocabulary.{without_windows, does, step_items, typed_bytes, command_item, taken, Outcome}
+use Rattle.hub_trail.proofs.Vocabulary.{finished, refused, left_acts, reply_of, done, outcome, attach_checks, attaches}
+use Rattle.hub_trail.proofs.Vocabulary.{new_client, open_checks, opens, new_window, answered, commanded, line_ruling}
+use Rattle.hub_trail.proofs.Vocabulary.{keys_outcome, ordered, reading, types, Given, commands_of, with_order, order_in}
+use Rattle.hub_trail.proofs.Vocabulary.{ok_of, SomeOf, IsStep, equal, itself, both_true, row_serial, all_weaken}
+use Rattle.hub_trail.proofs.Vocabulary.{all_append, all_map, all_passed, all_of, none_left, Either, Did, Obeys}
+use Rattle.hub_trail.proofs.Vocabulary.{with_clients, IsMine, obeys_of, Kept, Entry, AsksFirst, from_command}
+use Rattle.hub_trail.proofs.Vocabulary.{is_client_of, kept_of, ending_of, entry_of, makes, LeftBy, left_where, parted}
 use Rattle.acl.specs.declared.act.Act.TheVariants as act
 use Rattle.acl.specs.declared.act.Object.TheVariants as object
 use Rattle.command_lang.specs.declared.command.Command.{Command as Order}

@@ -1,7 +1,7 @@
 -- An event that isn't refused is one of a known user.
 use Rattle.hub_trail.proofs.Vocabulary.{◌≡◌, ℕ, Bool, true, false, List, [], Option, None, Ok, Err, refl, ap, sym}
 use Rattle.hub_trail.proofs.Vocabulary.{if◌then◌else◌, is_ok, AllByRecursion, UserId, Act, History, Effect, UnknownUser}
-use Rattle.hub_trail.proofs.Vocabulary.{Verdict, EventValue, Attach, Detach, Keys, Command, Open, Output, Closed, Draw}
+use Rattle.hub_trail.proofs.Vocabulary.{Verdict, EventValue, Attach, Detach, Keys, Command, Open, Closed}
 use Rattle.hub_trail.proofs.Vocabulary.{Reply, Tables, Window, is_known, line_caller, first_fault, verdicts, outcome}
 use Rattle.hub_trail.proofs.Vocabulary.{Outcome, reply_of, refused, attach_checks, attaches, new_client, open_checks}
 use Rattle.hub_trail.proofs.Vocabulary.{opens, new_window, commanded, line_ruling, IsStep, Entry, kept_of, entry_of}

@@ -6,7 +6,7 @@ use Rattle.hub_trail.proofs.Vocabulary.{name_of, Arrangement, Quit, StatusMessag
 use Rattle.hub_trail.proofs.Vocabulary.{NoSuchWindow, Tables, Window, Client, window_at, client_at, with_client}
 use Rattle.hub_trail.proofs.Vocabulary.{with_layout, focused, known_users, group_fault_in, names_of, new_leader_of}
 use Rattle.hub_trail.proofs.Vocabulary.{window_named, Caller, left_acts, Deed, Answer, removes, parts, closes, is_of}
-use Rattle.hub_trail.proofs.Vocabulary.{enters, entering, changing, acting, without_windows, does, caller_client}
+use Rattle.hub_trail.proofs.Vocabulary.{enters, entering, without_windows, does, caller_client}
 use Rattle.hub_trail.proofs.Vocabulary.{mask_entries, Either, is_plain, none_left, nobody_left, equal, itself}
 use Rattle.hub_trail.proofs.Vocabulary.{all_weaken, all_append, all_map, all_of, all_passed, all_left, IsMine, makes}
 use Rattle.hub_trail.proofs.Vocabulary.{LeftBy, left_where, parted}

@@ -1,7 +1,7 @@
 -- The line of a Command that was done is a command, and says all acts on users and rights.
 use Rattle.hub_trail.proofs.Vocabulary.{◌≡◌, ℕ, Bool, true, false, List, [], ◌∷◌, Option, Some, None, Result, Ok, Err}
 use Rattle.hub_trail.proofs.Vocabulary.{refl, ap, sym, ◌∙◌, subst, map, filter, inl, inr, if◌then◌else◌, ◌&&◌, is_ok}
-use Rattle.hub_trail.proofs.Vocabulary.{AllByRecursion, UserId, Act, History, same_user, named_by, change_acts}
+use Rattle.hub_trail.proofs.Vocabulary.{AllByRecursion, UserId, Act, History, named_by, change_acts}
 use Rattle.hub_trail.proofs.Vocabulary.{add_acts, added, group_acts, names_user, same_user-refl, ParseFault, read_line}
 use Rattle.hub_trail.proofs.Vocabulary.{Effect, Verdict, EventValue, Attach, Detach, Keys, Command, Open, Closed, Reply}
 use Rattle.hub_trail.proofs.Vocabulary.{Window, Client, Tables, known_users, focused, with_layout, is_known, names_of}

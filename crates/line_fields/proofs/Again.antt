@@ -1,8 +1,6 @@
 -- Parts, acts and verdicts that were printed are read again.
-use Rattle.std.proofs.Common.{◌≡◌, ℕ, ◌<◌, ◌≤◌, ◌^◌, List, [], ◌∷◌, ◌++◌, length, ap, refl, sym, ◌∙◌, arith}
-use Rattle.std.proofs.Common.{append-nil, subst}
-use Rattle.std.specs.Prelude.{Bool, true, false, cond, not, ◌&&◌, ◌||◌, ◌==◌, Option, Some, None, option_map, codes}
-use Rattle.std.specs.Prelude.{decimal, map}
+use Rattle.std.proofs.Common.{◌≡◌, ℕ, ◌<◌, ◌≤◌, ◌^◌, List, [], ◌∷◌, ◌++◌, ap, refl, sym, ◌∙◌, arith, append-nil, subst}
+use Rattle.std.specs.Prelude.{Bool, true, false, cond, not, ◌&&◌, ◌||◌, ◌==◌, Option, Some, None, option_map, decimal}
 use Rattle.std.specs.List.{list_all}
 use Rattle.std.specs.Char.{is_ascii_digit}
 use Rattle.std.specs.Str.{bytes_eq}
@@ -21,12 +19,12 @@ use Rattle.acl.specs.declared.bits.Bit.TheVariants as bit
 use Rattle.acl.specs.declared.command_name.CommandName.{CommandName}
 use Rattle.acl.specs.declared.command_name.CommandName.TheVariants as name
 use Rattle.acl.specs.declared.user_id.UserId.{UserId}
-use Rattle.acl.specs.Names.{is_name_byte, is_name, begins_with_letter, name_of, named_by}
+use Rattle.acl.specs.Names.{is_name_byte, is_name, begins_with_letter, name_of}
 use Rattle.command_lang.specs.Names.{name_text}
 use Rattle.session_model.specs.declared.refusal.Verdict.{Verdict}
 use Rattle.session_model.specs.declared.refusal.Verdict.TheVariants as verdict
 use Rattle.line_fields.specs.Cutting.{◌>>=◌, is_byte, cut}
-use Rattle.line_fields.specs.Numbers.{number_below, is_number}
+use Rattle.line_fields.specs.Numbers.{is_number}
 use Rattle.line_fields.proofs.Words.{IsFree, passing, first_field, free_append}
 use Rattle.line_fields.proofs.Digits.{digits, number_again, not_number}
 use Rattle.line_fields.specs.declared.acts.ActKind.{ActKind}

@@ -1,13 +1,12 @@
 -- A text that was spelled is read as the same bytes.
-use Rattle.std.proofs.Common.{◌≡◌, ◌≢◌, ℕ, ◌<◌, ◌≤◌, ◌+◌, ◌*◌, ◌/◌, ◌%◌, length, List, [], ◌∷◌, ◌++◌, ap, refl, ◌∙◌}
-use Rattle.std.proofs.Common.{arith}
-use Rattle.std.specs.Prelude.{Bool, true, false, cond, ◌&&◌, nat_le, nat_lt, Option, Some, None}
-use Rattle.std.specs.List.{AllByRecursion, list_all}
+use Rattle.std.proofs.Common.{◌≡◌, ◌≢◌, ℕ, ◌<◌, ◌≤◌, ◌+◌, ◌*◌, ◌/◌, ◌%◌, List, [], ◌∷◌, ◌++◌, ap, refl, ◌∙◌, arith}
+use Rattle.std.specs.Prelude.{Bool, true, false, cond, ◌&&◌, nat_lt, Option, Some, None}
+use Rattle.std.specs.List.{AllByRecursion}
 use Rattle.std.specs.Char.{digit_value}
 use Rattle.std.specs.Fmt.{digit_glyph}
 use Rattle.std.proofs.lemmas.Bool.Decides.{nat_tests}
 use Rattle.std.proofs.lemmas.Str.{digit_value-digit_char}
-use Rattle.line_fields.specs.Texts.{coded, is_plain, escape, byte_of, put_before, spelled, escaped}
+use Rattle.line_fields.specs.Texts.{coded, is_plain, byte_of, put_before, spelled, escaped}
 use Rattle.line_fields.proofs.Spelled.{spelled-nil, spelled-plain, spelled-escape}
 
 value_of_glyph : (d : ℕ) → d < 16 → digit_value (digit_glyph false d) ≡ d

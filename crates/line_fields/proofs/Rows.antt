@@ -1,6 +1,6 @@
 -- What a row prints is read again.
 use Rattle.std.proofs.Common.{◌≡◌, ℕ, List, [], ◌∷◌, ◌++◌, refl, ap, ◌∙◌, append-nil}
-use Rattle.std.specs.Prelude.{◌&&◌, not, true, false, Option, Some, None, option_map}
+use Rattle.std.specs.Prelude.{◌&&◌, not, true, false, Option, Some, option_map}
 use Rattle.line_fields.specs.Cutting.{◌>>=◌, is_byte}
 use Rattle.line_fields.specs.Rows.{Values, Maker, made_by, Row, row, fields_in, made_in, Prints, after_each, PrintsThen}
 use Rattle.line_fields.specs.Rows.{all_then, Reads, value_at, read_between, read_in, ReadsAt, read_all, read_all_in}

@@ -1,6 +1,6 @@
 -- What an escaped text spells, from its first byte on.
 use Rattle.std.proofs.Common.{◌≡◌, ◌≢◌, ℕ, List, [], ◌∷◌, ◌++◌, length, ap, ◌∙◌, refl, rules, arith, append-nil}
-use Rattle.std.specs.Prelude.{Bool, true, false, cond, Option, Some, None, option_map}
+use Rattle.std.specs.Prelude.{Bool, true, false, Option, Some, None, option_map}
 use Rattle.line_fields.specs.Texts.{byte_of, put_before, spelled}
 
 pub spelled-nil : spelled [] ≡ Some []

@@ -1,8 +1,8 @@
 -- Fields that are put together, with one byte after each, are cut apart again.
-use Rattle.std.proofs.Common.{◌≡◌, ℕ, suc, ◌+◌, ◌<◌, ◌≤◌, List, [], ◌∷◌, ◌++◌, length, ap, refl, ◌∙◌, arith, append-nil}
+use Rattle.std.proofs.Common.{◌≡◌, ℕ, ◌+◌, ◌<◌, ◌≤◌, List, [], ◌∷◌, ◌++◌, length, ap, refl, ◌∙◌, arith}
 use Rattle.std.proofs.Common.{length-append, take, drop}
 use Rattle.std.specs.Prelude.{Bool, true, false, cond, not, ◌==◌, ◌&&◌, nat_lt, Option, Some, None}
-use Rattle.std.specs.List.{list_all, position, position_or_len, AllByRecursion, All, before_first, after_first}
+use Rattle.std.specs.List.{list_all, position, position_or_len, AllByRecursion, All}
 use Rattle.std.proofs.lemmas.List.Elements.{All-from_recursion, All-from_get_or}
 use Rattle.std.proofs.lemmas.List.Sums.{fails_before_first}
 use Rattle.std.proofs.lemmas.Option.{some_pair_parts}
@@ -10,7 +10,7 @@ use Rattle.std.proofs.lemmas.List.Splits.{slice_split_none, slice_split_at, slic
 use Rattle.std.proofs.Math.Seq.{take-append_seam, drop-append-add}
 use Rattle.std.proofs.lemmas.Bool.{and_parts}
 use Rattle.std.proofs.lemmas.Bool.Decides.{nat_tests}
-use Rattle.line_fields.specs.Cutting.{◌>>=◌, is_byte, cut, cut_at, words, words_behind}
+use Rattle.line_fields.specs.Cutting.{◌>>=◌, is_byte, cut, cut_at, words}
 
 abbrev pub is_other : ℕ → ℕ → Bool
 is_other separator byte = not (is_byte separator byte)

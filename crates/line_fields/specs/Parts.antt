@@ -17,7 +17,6 @@ use Rattle.acl.specs.command_name.TheConstants.CommandName.{ALL}
 use Rattle.acl.specs.declared.user_id.UserId.{UserId}
 use Rattle.acl.specs.Names.{name_of, named_by}
 use Rattle.command_lang.specs.Names.{name_text}
-use Rattle.session_model.specs.Texts.{letter}
 use Rattle.line_fields.specs.Cutting.{◌>>=◌, cut}
 use Rattle.line_fields.specs.Numbers.{number_below}
 

@@ -1,7 +1,7 @@
 -- A screen on which a frame is drawn, after each command that moves the pen or sets a rendition.
 use Rattle.redraw.proofs.Vocabulary.{◌≡◌, ℕ, ◌+◌, ◌-◌, ◌<◌, min, max, true, false, eqb, List, Option, Some, refl, sym}
 use Rattle.redraw.proofs.Vocabulary.{ap, subst, arith, ⊎_elim, cases_Bool, ne_eqb, eqb-true, Utf8, Rendition, IsPage}
-use Rattle.redraw.proofs.Vocabulary.{spelling, State, Page, Screen, IsSound, plain_sequence, unpending, unjoined}
+use Rattle.redraw.proofs.Vocabulary.{spelling, State, Page, Screen, IsSound, plain_sequence, unjoined}
 use Rattle.redraw.proofs.Vocabulary.{effect, acted_from, drawn_state, IsSound-effect, Pen, Command, Glyph, MoveTo}
 use Rattle.redraw.proofs.Vocabulary.{NextLine, Forward, Render, EraseCells, EraseToEnd, Arrows, ShowCursor, Keypad}
 use Rattle.redraw.proofs.Vocabulary.{func_of, place_params, Drawing, Knows, Leads, Keeps, IsWay}
@@ -14,9 +14,6 @@ use Rattle.redraw.proofs.Renditions.{with_rendition, params-made}
 
 moved_drawn : (s : State) (l c : ℕ) → s ≡ drawn_state s → moved_to s l c ≡ drawn_state (moved_to s l c)
 moved_drawn s l c e = ap (λ z. moved_to z l c) e
-
-settled_drawn : (s : State) → s ≡ drawn_state s → unpending s ≡ drawn_state (unpending s)
-settled_drawn s e = ap unpending e
 
 rendered_drawn : (s : State) (r : Rendition) → s ≡ drawn_state s
     → unjoined (record s { rendition = r }) ≡ drawn_state (unjoined (record s { rendition = r }))

@@ -10,9 +10,6 @@ module _ {X : Type 0} where
   pub keep_all : (n : ℕ) (xs : List X) → length xs ≤ n → keep_last n xs ≡ xs
   keep_all n xs h = let z : length xs - n ≡ 0 = omega arith in ap (λ k. drop k xs) z
 
-  pub keep_fewer : (n : ℕ) (xs : List X) → n ≤ length xs → length (keep_last n xs) ≡ n
-  keep_fewer n xs h = length-drop (length xs - n) xs ∙ omega arith
-
   -- the last items of a list, and one more item
   last_and_one : (n : ℕ) (xs : List X) (x : X) → keep_last n xs ++ x ∷ [] ≡ drop (length xs - n) (xs ++ x ∷ [])
   last_and_one n xs x = sym (drop-append-le (length xs - n) xs (x ∷ []) (omega arith))

@@ -1,6 +1,6 @@
 -- What came to a loop by an event of its poll.
 use Rattle.std.specs.Prelude.{◌≡◌, ℕ, ◌+◌, ◌-◌, ◌%◌, ◌^◌, ◌==◌, ◌||◌, if◌then◌else◌, false, min, slice_get}
-use Rattle.std.specs.Prelude.{Option, Some, None, IfSome, option_map}
+use Rattle.std.specs.Prelude.{Option, Some, None, option_map}
 use Rattle.mio.specs.Events.{items}
 use Rattle.mio.specs.declared.token.Token.{Token}
 use Rattle.server_seat.specs.declared.seat.ServerEnd.{ServerEnd}

@@ -195,15 +195,6 @@ module _ (words : List ℕ) (from place low : ℕ) (small : low < 64) (begun : f
     ];
   }
 
-  pub none_here : HasNoBit (get_or words place 0) low → NoneBetween words from (64 * (place + 1) + 0)
-  none_here free k behind below is =
-      elim (cases_lt k (64 * place + low)) [
-        | inl lt ↦ none k behind lt is
-        | inr le ↦
-            let at : k / 64 ≡ place = omega (arith, le, below, small) in
-            absurd (free (k % 64) (omega (arith, le, at, below)) (omega arith) (of_key words place k at is))
-      ]
-
   pub none_behind : length words ≤ place → NoneFrom words from
   none_behind all k behind is =
       elim (cases_lt (k / 64) (length words)) [

@@ -1,6 +1,6 @@
 -- Frames that are put one after the other.
 use Rattle.std.proofs.Common.{◌≡◌, ◌∙◌, ◌++◌, ◌∷◌, [], List, ℕ, Option, refl, sym, ap, append_assoc, append-nil}
-use Rattle.std.specs.List.{concat, fold}
+use Rattle.std.specs.List.{concat}
 use Rattle.std.proofs.lemmas.List.Elements.{All-nil, All-push}
 use Rattle.std.proofs.lemmas.List.Sums.{fold-append}
 use Rattle.acl.specs.declared.user_id.UserId.{UserId}

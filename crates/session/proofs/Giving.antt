@@ -3,7 +3,7 @@ use Rattle.session.proofs.Vocabulary.{ℕ, ◌+◌, ◌<◌, ◌≡◌, refl, sy
 use Rattle.session.proofs.Vocabulary.{take, drop, get_or, Result, Ok, Err, IfErr, IsErrAnd, is_ok, map-append, UserId}
 use Rattle.session.proofs.Vocabulary.{Line, line_of, Effect, text_of, EventValue, Reply, Entry, Trace, with_step}
 use Rattle.session.proofs.Vocabulary.{tables_of, with_steps, AllSteps, StandsFor, Takes, entry_of, Session, command_of}
-use Rattle.session.proofs.Vocabulary.{AreDone, SetsUp, Behind, Refuses, StopsAt, IfRefused}
+use Rattle.session.proofs.Vocabulary.{AreDone, Behind, Refuses, StopsAt, IfRefused}
 use Rattle.std.proofs.lemmas.List.{map_more, drop_more, take-append-drop}
 use Rattle.program_words.specs.declared.setup.SetupLine.{SetupLine}
 use Rattle.session_model.specs.declared.event.Done.{Done}

@@ -108,15 +108,6 @@ module _ (t : Tables) (list : List (List ℕ)) (i : ℕ) (item : List ℕ) (obje
   here : objects_of t (drop i list) ≡ objects_of t (item ∷ drop (i + 1) list)
   here = ap (objects_of t) (drop_more list i item inside ∙ ap (λ x. x ∷ drop (i + 1) list) (sym at))
 
-  -- an item that names something, and one that names nothing
-  pub item_named : (more : List Object) → item_objects t item ≡ Some more
-      → option_map (λ os. objects ++ os) (objects_of t (drop i list)) ≡ option_map (λ os. (objects ++ more) ++ os)
-      (objects_of t (drop (i + 1) list))
-  item_named more is =
-      ap (option_map (λ os. objects ++ os))
-      (here ∙ ap (option_and_then (λ xs. option_map (λ ys. xs ++ ys) (objects_of t (drop (i + 1) list)))) is)
-      ∙ regrouped objects more (objects_of t (drop (i + 1) list))
-
   pub item_unnamed : item_objects t item ≡ None → objects_of t (drop i list) ≡ None
   item_unnamed is = here
       ∙ ap (option_and_then (λ xs. option_map (λ ys. xs ++ ys) (objects_of t (drop (i + 1) list)))) is

@@ -4,7 +4,7 @@ use Rattle.session_commands.proofs.Vocabulary.{Option, Some, None, Ok, Err, refl
 use Rattle.session_commands.proofs.Vocabulary.{append-nil, ◌⊎◌, nat_lt, slice_get, AllByRecursion, option_map}
 use Rattle.session_commands.proofs.Vocabulary.{option_and_then, nat_tests, has_room, Size, NoMemory, NoWindow, Regions}
 use Rattle.session_commands.proofs.Vocabulary.{refusal_of, WindowsFault, Window, Tables, window_at, with_row, Deed}
-use Rattle.session_commands.proofs.Vocabulary.{Answer, on_client, on_window, if_true, serial_is, StandFor, Answered}
+use Rattle.session_commands.proofs.Vocabulary.{Answer, on_client, on_window, serial_is, StandFor, Answered}
 use Rattle.session_commands.proofs.Vocabulary.{serial, written_to, row_done, row_refused_as, Client, ClientStands}
 use Rattle.session_commands.proofs.Vocabulary.{Caller, StepOutput, State, Stands, Answers, caller_in}
 use Rattle.std.specs.Prelude.{◌&&◌, nat_le}

@@ -1,9 +1,8 @@
 -- If the program of a window writes, the state stands for the tables with that output and its answers.
-use Rattle.session_events.proofs.Vocabulary.{◌≡◌, ℕ, true, false, List, [], ◌∷◌, ◌++◌, length, Some, Ok, Err, ap, sym}
-use Rattle.session_events.proofs.Vocabulary.{subst, ◌∙◌, append-nil, ◌⊎◌, inl, inr, is_ok, ◌==◌, if◌then◌else◌, Result}
-use Rattle.session_events.proofs.Vocabulary.{reads, Input, WindowsFault, refusal_of, NoMemory, Tables, Window, with_row}
-use Rattle.session_events.proofs.Vocabulary.{terminal_of, StandFor, AnsweredIfRoom, if_true, if_false, StepOutput}
-use Rattle.session_events.proofs.Vocabulary.{State, Stands, HasDone}
+use Rattle.session_events.proofs.Vocabulary.{◌≡◌, ℕ, true, false, List, [], ◌∷◌, ◌++◌, length, Some, Ok, ap, sym, subst}
+use Rattle.session_events.proofs.Vocabulary.{◌∙◌, append-nil, ◌⊎◌, is_ok, ◌==◌, if◌then◌else◌, Result, reads, Input}
+use Rattle.session_events.proofs.Vocabulary.{Tables, Window, with_row, terminal_of, StandFor, AnsweredIfRoom, if_true}
+use Rattle.session_events.proofs.Vocabulary.{if_false, StepOutput, State, Stands, HasDone}
 use Rattle.terminal_model.specs.Writing.{Output}
 use Rattle.session_model.specs.rows.WindowsFault.TheVariants as fault
 use Rattle.session_model.specs.Tables.{window_at}
@@ -11,7 +10,7 @@ use Rattle.session_model.specs.Deeds.{input_of}
 use Rattle.session_model.specs.Comings.{outputs}
 use Rattle.windows.specs.declared.window.Window.{Window as Row}
 use Rattle.windows.specs.Standing.{serial, written, written_to, fed_in}
-use Rattle.windows.proofs.Callers.{row_done, row_refused_as}
+use Rattle.windows.proofs.Callers.{row_done}
 use Rattle.windows_model.proofs.Serials.{serial_is}
 
 -- bytes for a window's program
@@ -61,10 +60,3 @@ module _ (t : Tables) (window : ℕ) (w : Window) (bytes : List ℕ)
             ∙ ap (λ n. before.effects.items ++ input_of n (reads (terminal_of w) bytes).reports)
             (sym serial_of_row);
       }
-
-  -- memory was refused
-  pub unfed : (f : WindowsFault) → (f ≡ fault.NoMemory) ⊎ (fed_in window bytes t.windows ≡ Err f)
-      → refusal_of f ≡ NoMemory
-  unfed f (inl full) = ap refusal_of full
-  unfed f (inr by) =
-      absurd (cc (row_refused_as t.windows window (written (Output bytes)) w here f by))

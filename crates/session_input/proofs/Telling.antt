@@ -1,6 +1,6 @@
 -- A client that was told a text has its message, and the state stands for that.
 use Rattle.session_input.proofs.Vocabulary.{◌≡◌, ℕ, List, [], ◌∷◌, ◌++◌, Option, Some, None, ap, sym, subst, ◌∙◌}
-use Rattle.session_input.proofs.Vocabulary.{append-nil, Say, StatusMessage, Tables, client_at, with_client, row_of}
+use Rattle.session_input.proofs.Vocabulary.{append-nil, Say, StatusMessage, Tables, client_at, with_client}
 use Rattle.session_input.proofs.Vocabulary.{with_row, Deed, changing, hearing, says, serial_is, AreClients, StepOutput}
 use Rattle.session_input.proofs.Vocabulary.{State, Stands, HasDone}
 use Rattle.session_model.specs.Tables as model

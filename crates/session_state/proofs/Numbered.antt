@@ -2,7 +2,7 @@
 use Rattle.session_state.proofs.Vocabulary.{◌≡◌, ℕ, zero, suc, ◌+◌, Bool, true, false, List, [], ◌∷◌, ◌++◌, Option}
 use Rattle.session_state.proofs.Vocabulary.{Some, None, option_to_list, refl, ap, sym, ◌∙◌, subst, map, append_assoc}
 use Rattle.session_state.proofs.Vocabulary.{append-nil, arith, codes, if◌then◌else◌, ◌==◌, nat_tests, UserId, Tables}
-use Rattle.session_state.proofs.Vocabulary.{row_of, window_at, with_number, window_item, separated, separator, numbered}
+use Rattle.session_state.proofs.Vocabulary.{row_of, with_number, window_item, separated, separator, numbered}
 use Rattle.session_state.proofs.Vocabulary.{AreFit, IsList}
 use Rattle.std.proofs.Common.{add-zero, add-one, is_some}
 use Rattle.std.proofs.lemmas.List.{map-append}

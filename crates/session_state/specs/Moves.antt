@@ -7,7 +7,7 @@ use Rattle.regions.specs.Pages.{has_room}
 use Rattle.session_model.specs.declared.event.Effect.{Effect}
 use Rattle.session_model.specs.declared.event.Effect.TheVariants.{Say}
 use Rattle.session_model.specs.declared.event.StatusMessage.TheVariants.{Text}
-use Rattle.session_model.specs.Tables.{last_after, former_after, focused}
+use Rattle.session_model.specs.Tables.{last_after, former_after}
 use Rattle.session_state.specs.declared.client.Client.{Client}
 
 -- the window in the focused region

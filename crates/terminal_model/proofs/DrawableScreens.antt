@@ -9,10 +9,7 @@ use Rattle.terminal_model.proofs.Vocabulary.{IsDrawableLine, AreDrawableLines, I
 use Rattle.cells.specs.Moves.{filled}
 use Rattle.control_parser.specs.declared.parser.Func.TheVariants as funcs
 use Rattle.terminal_model.specs.declared.action.Action.TheVariants.{Print, LineFeed, Index, NextLine, ReverseIndex}
-use Rattle.terminal_model.specs.declared.action.Action.TheVariants.{Reset, Align, EraseInPage, EraseInLine, EraseCells}
-use Rattle.terminal_model.specs.declared.action.Action.TheVariants.{EraseUnprotectedInPage, EraseUnprotectedInLine}
-use Rattle.terminal_model.specs.declared.action.Action.TheVariants.{InsertCells, DeleteCells, InsertLines, DeleteLines}
-use Rattle.terminal_model.specs.declared.action.Action.TheVariants.{BlankPage}
+use Rattle.terminal_model.specs.declared.action.Action.TheVariants.{InsertLines, DeleteLines}
 use Rattle.terminal_model.specs.declared.action.Mode.TheVariants as modes
 use Rattle.terminal_model.specs.Motion
 use Rattle.terminal_model.specs.Printing

@@ -2,7 +2,7 @@
 use Rattle.terminal_model.proofs.Vocabulary.{common_steps, ◌≡◌, ℕ, ◌<◌, ⊎_elim, List, [], ◌∷◌, ◌++◌, ◌⊎◌, refl, sym, ap}
 use Rattle.terminal_model.proofs.Vocabulary.{◌∙◌, arith, append_assoc, append-nil, nat_tests, Coding, Utf8, Ecma35}
 use Rattle.terminal_model.proofs.Vocabulary.{units, cut, units-go_on, units-rest, Func, Esc, Rest, nothing, escape}
-use Rattle.terminal_model.proofs.Vocabulary.{control, functions, functions_behind, begun_by, with_front, opening}
+use Rattle.terminal_model.proofs.Vocabulary.{functions, functions_behind, with_front, opening}
 use Rattle.terminal_model.proofs.Vocabulary.{IsGiven, coding_of, spelling, ReadsAs, functions-go_on, functions-opening}
 use Rattle.terminal_model.proofs.Vocabulary.{Screen, effect, report, Terminal, ready, Read, joined, act, act_all}
 use Rattle.terminal_model.proofs.Vocabulary.{read_unit, read_units, rest_in, in_coding, read_byte, reads}

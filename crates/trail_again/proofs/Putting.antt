@@ -224,10 +224,6 @@ module _ (edition : Edition) (owner : UserId) (u : UserId) (given : List Bool) w
   abbrev mark_acts : List ℕ → List Act
   mark_acts w = given_acts u given ALL
 
-  same_line : (l : List (List ℕ)) → map (λ (w : List ℕ). w) l ≡ l
-  same_line [] = refl
-  same_line (x ∷ l) = ap (λ (m : List (List ℕ)). x ∷ m) (same_line l)
-
   each_mark : EachLeads edition owner (given_kind u given) (λ w. w) mark_acts OneMark
   each_mark h w [] rest holds = (
     subst (λ (b : List ℕ). Leads owner (session_after edition owner h) b

@@ -1,13 +1,10 @@
 -- Words, texts and fields don't have a byte below 0x21: a blank, which ends words, or a line feed.
 use Rattle.trail_lines.proofs.Vocabulary.{◌≡◌, ℕ, ◌<◌, ◌≤◌, ◌^◌, List, [], ◌∷◌, ◌++◌, refl, arith, Bool, true, false}
-use Rattle.trail_lines.proofs.Vocabulary.{cond, not, ◌&&◌, Option, Some, None, Ok, Err, codes, decimal, map, flat_map}
-use Rattle.trail_lines.proofs.Vocabulary.{list_all, nat_tests, UserId, name_of, name_text, Denied, Refusal, behind}
-use Rattle.trail_lines.proofs.Vocabulary.{Kept, Ending, is_byte, Field, User, Number, Serial, Window, Bytes, Text}
-use Rattle.trail_lines.proofs.Vocabulary.{Title, Value, row_of, word_of, Parts, colon, blank, field, nobody, mark}
-use Rattle.trail_lines.proofs.Vocabulary.{fields_in, all_then, IsNamed, IsSerial, EventKind, word_part, all_free}
-use Rattle.trail_lines.proofs.Vocabulary.{IsFree, is_other, free_append, text_field, window_text, field_then}
-use Rattle.trail_lines.proofs.Vocabulary.{leaders_text, denied_then, why_text, reply_text, IsDenied, IsRefusal, IsReply}
-use Rattle.trail_lines.proofs.Vocabulary.{IsNumberIfAny, IsField, AreFields}
+use Rattle.trail_lines.proofs.Vocabulary.{cond, not, ◌&&◌, Option, Some, None, Ok, Err, codes, decimal, map, nat_tests}
+use Rattle.trail_lines.proofs.Vocabulary.{UserId, name_of, name_text, Denied, Refusal, behind, Ending, is_byte, Window}
+use Rattle.trail_lines.proofs.Vocabulary.{colon, field, nobody, mark, IsNamed, IsSerial, IsFree, is_other, free_append}
+use Rattle.trail_lines.proofs.Vocabulary.{text_field, window_text, leaders_text, denied_then, why_text, reply_text}
+use Rattle.trail_lines.proofs.Vocabulary.{IsDenied, IsRefusal, IsReply, IsNumberIfAny}
 use Rattle.std.proofs.Common.{◌/◌, ◌%◌}
 use Rattle.std.specs.Fmt.{digit_glyph}
 use Rattle.session.specs.refusal.Denied.TheVariants as denied

@@ -1,8 +1,7 @@
 -- First and last lines that were printed are read.
-use Rattle.trail_lines.proofs.Vocabulary.{◌≡◌, ℕ, ◌<◌, ◌≤◌, ◌^◌, List, ◌∷◌, ◌++◌, ap, refl, sym, ◌∙◌, arith, Bool, true}
-use Rattle.trail_lines.proofs.Vocabulary.{false, cond, Option, Some, None, codes, decimal, list_all, bytes_eq}
-use Rattle.trail_lines.proofs.Vocabulary.{bytes_eq-Decides, Edition, name_of, ◌>>=◌, cut, IsFree, first_field}
-use Rattle.trail_lines.proofs.Vocabulary.{number_again, blank, field}
+use Rattle.trail_lines.proofs.Vocabulary.{◌≡◌, ℕ, ◌<◌, ◌≤◌, ◌^◌, List, ◌∷◌, ◌++◌, ap, refl, ◌∙◌, Bool, true, false}
+use Rattle.trail_lines.proofs.Vocabulary.{cond, Option, Some, None, codes, decimal, bytes_eq, bytes_eq-Decides, Edition}
+use Rattle.trail_lines.proofs.Vocabulary.{name_of, ◌>>=◌, cut, IsFree, first_field, number_again, blank, field}
 use Rattle.acl.specs.declared.leaders.Edition.TheVariants as edition
 use Rattle.line_fields.proofs.Again.{apart_blank, most64, number_at_again, user_at_again}
 use Rattle.trail_lines.specs.declared.header.Header.{Header}

@@ -1,6 +1,6 @@
 -- What loops print, from its end; titles.
 use Rattle.trail_lines.proofs.Vocabulary.{◌≡◌, ℕ, List, [], ◌∷◌, ◌++◌, ap, refl, sym, ◌∙◌, append_assoc, append-nil}
-use Rattle.trail_lines.proofs.Vocabulary.{rules, Bool, true, false, cond, Option, Some, None, option_copied, Result, Ok}
+use Rattle.trail_lines.proofs.Vocabulary.{Bool, true, false, cond, Option, Some, None, option_copied, Result, Ok}
 use Rattle.trail_lines.proofs.Vocabulary.{Err, MatchResult, codes, map, IsUtf8, is_utf8, flat_map, map_push, UserId}
 use Rattle.trail_lines.proofs.Vocabulary.{name_of, behind, title_of}
 use Rattle.std.specs.Borrow.{Bor}

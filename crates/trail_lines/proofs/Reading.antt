@@ -1,7 +1,6 @@
 -- What loops read, from its front.
-use Rattle.trail_lines.proofs.Vocabulary.{◌≡◌, ℕ, List, [], ◌∷◌, ap, refl, sym, ◌∙◌, length, ◌<◌, arith, Option, Some}
-use Rattle.trail_lines.proofs.Vocabulary.{None, UserId, named_by, ◌>>=◌, words, words_behind, comma, leaders_of}
-use Rattle.trail_lines.proofs.Vocabulary.{with_leader, Noted, note_in, noting, notes_of}
+use Rattle.trail_lines.proofs.Vocabulary.{◌≡◌, ℕ, List, [], ◌∷◌, ap, refl, sym, ◌∙◌, ◌<◌, Option, Some, None, UserId}
+use Rattle.trail_lines.proofs.Vocabulary.{named_by, ◌>>=◌, leaders_of, with_leader, Noted, note_in, noting, notes_of}
 use Rattle.trail_lines.specs.declared.entries.Remark.{Remark}
 
 abbrev leaders_with : Option UserId → List (List ℕ) → List UserId → Option (List UserId)

@@ -1,13 +1,12 @@
 -- Replies that were printed are read again.
 use Rattle.trail_lines.proofs.Vocabulary.{◌≡◌, ℕ, ◌<◌, ◌≤◌, ◌^◌, ◌+◌, List, [], ◌∷◌, ◌++◌, length, ap, refl, sym, ◌∙◌}
 use Rattle.trail_lines.proofs.Vocabulary.{arith, append-nil, append_assoc, length-append, Bool, true, false, cond}
-use Rattle.trail_lines.proofs.Vocabulary.{nat_le, Option, Some, None, option_map, Ok, Err, codes, decimal, map}
-use Rattle.trail_lines.proofs.Vocabulary.{AllByRecursion, bytes_eq, nat_tests, UserId, name_of, named_by, name_text}
-use Rattle.trail_lines.proofs.Vocabulary.{Denied, Refusal, behind, separated, windows_number, Ending, ◌>>=◌, cut, words}
-use Rattle.trail_lines.proofs.Vocabulary.{IsFree, first_field, one_word, first_word, number_again, colon, comma, field}
-use Rattle.trail_lines.proofs.Vocabulary.{user_at, nobody, mark, bit_in, leaders_text, with_leader, leaders_of}
-use Rattle.trail_lines.proofs.Vocabulary.{denied_then, why_text, reply_text, IsNamed, IsSerial, AreLeaders, IsDenied}
-use Rattle.trail_lines.proofs.Vocabulary.{IsRefusal, IsReply}
+use Rattle.trail_lines.proofs.Vocabulary.{nat_le, Option, Some, None, Ok, Err, codes, decimal, map, AllByRecursion}
+use Rattle.trail_lines.proofs.Vocabulary.{nat_tests, UserId, name_of, name_text, Denied, Refusal, behind, separated}
+use Rattle.trail_lines.proofs.Vocabulary.{windows_number, Ending, ◌>>=◌, cut, words, IsFree, first_field, one_word}
+use Rattle.trail_lines.proofs.Vocabulary.{first_word, number_again, colon, comma, field, user_at, nobody, mark, bit_in}
+use Rattle.trail_lines.proofs.Vocabulary.{leaders_text, with_leader, leaders_of, denied_then, why_text, reply_text}
+use Rattle.trail_lines.proofs.Vocabulary.{IsNamed, IsSerial, AreLeaders, IsDenied, IsRefusal, IsReply}
 use Rattle.acl.specs.declared.act.Object.TheVariants as object
 use Rattle.acl.specs.declared.bits.Bit.{Bit}
 use Rattle.acl.specs.declared.bits.Bit.TheVariants as bit
@@ -25,10 +24,9 @@ use Rattle.session.specs.refusal.Denied.TheVariants as denied
 use Rattle.session.specs.refusal.Refusal.TheVariants as refusal
 use Rattle.session.specs.rows.WindowsFault.{WindowsFault}
 use Rattle.session.specs.rows.WindowsFault.TheVariants as windows
-use Rattle.line_fields.specs.Numbers.{number_below, number_at}
-use Rattle.trail_lines.specs.Replies.{few, leaders_in, denied_of, denied_at, entry_in, acl_fault, windows_fault}
-use Rattle.trail_lines.specs.Replies.{regions_fault, line_fault, small_in, plain_in, caused_in, or_caused, why_in}
-use Rattle.trail_lines.specs.Replies.{finished_in, done, refused, reply_by, reply_in}
+use Rattle.line_fields.specs.Numbers.{number_at}
+use Rattle.trail_lines.specs.Replies.{few, leaders_in, denied_at, acl_fault, windows_fault, regions_fault, line_fault}
+use Rattle.trail_lines.specs.Replies.{why_in, reply_in}
 use Rattle.line_fields.proofs.Again.{IsPart, free, apart_colon, apart_comma, name_part, number_part, wide, most64}
 use Rattle.line_fields.proofs.Again.{most32, most8, number_at_again, user_at_again, no_dash_name, object_again}
 use Rattle.line_fields.proofs.Again.{command_part}

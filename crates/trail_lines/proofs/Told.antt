@@ -1,6 +1,6 @@
 -- Entries that were printed are read again.
 use Rattle.trail_lines.proofs.Vocabulary.{◌≡◌, ℕ, ◌<◌, ◌^◌, List, [], ◌∷◌, ◌++◌, ap, refl, sym, ◌∙◌, arith, append-nil}
-use Rattle.trail_lines.proofs.Vocabulary.{append_assoc, Bool, true, false, cond, Option, Some, None, codes, decimal}
+use Rattle.trail_lines.proofs.Vocabulary.{append_assoc, Bool, true, false, cond, Option, Some, None, decimal}
 use Rattle.trail_lines.proofs.Vocabulary.{map, AllByRecursion, flat_map, bytes_eq, is_utf8, nat_tests, bytes_eq-Decides}
 use Rattle.trail_lines.proofs.Vocabulary.{Act, Verdict, Kept, Entry, act_text, verdict_text, ◌>>=◌, words, Field, User}
 use Rattle.trail_lines.proofs.Vocabulary.{Number, Serial, Window, Bytes, Text, Title, Value, row_of, word_of, Parts}

@@ -5,7 +5,6 @@ use Rattle.std.specs.List.{list_all}
 use Rattle.std.specs.Str.{bytes_eq}
 use Rattle.acl.specs.declared.leaders.Edition.{Edition}
 use Rattle.acl.specs.declared.leaders.Edition.TheVariants as edition
-use Rattle.acl.specs.declared.user_id.UserId.{UserId}
 use Rattle.acl.specs.Names.{name_of}
 use Rattle.line_fields.specs.Cutting.{◌>>=◌, cut}
 use Rattle.line_fields.specs.Numbers.{number_below, number_at}

@@ -1,7 +1,6 @@
 -- Which of an entry's checks are of typed bytes and which of a command, and what they name.
 use Rattle.std.specs.Prelude.{ℕ, Bool, true, false, if◌then◌else◌, List, [], ◌∷◌, Option, Some, None}
 use Rattle.acl.specs.declared.act.Object.TheVariants as object
-use Rattle.acl.specs.declared.bits.Bit.TheVariants.{Execute}
 use Rattle.acl.specs.declared.command_name.CommandName.TheVariants.{Title}
 use Rattle.command_lang.specs.Names.{name_text}
 use Rattle.session.specs.refusal.Verdict.{Verdict}

@@ -1,6 +1,6 @@
 -- The lines of a log: a line an entry, but that typed bytes are joined.
 use Rattle.std.specs.Prelude.{ℕ, ◌+◌, ◌-◌, ◌&&◌, Bool, nat_lt, if◌then◌else◌, List, [], ◌∷◌, ◌++◌}
-use Rattle.std.specs.Prelude.{Option, Some, None, option_map, Ok, Err, codes}
+use Rattle.std.specs.Prelude.{Option, Some, None, option_map, Ok, codes}
 use Rattle.std.specs.Str.{bytes_eq}
 use Rattle.client_words.specs.Visible.{visible}
 use Rattle.session.specs.refusal.Verdict.{Verdict}

@@ -1,6 +1,5 @@
 -- What a log tells of an entry: the time of day (UTC), who, and what; a row an event.
-use Rattle.std.specs.Prelude.{ℕ, ◌==◌, if◌then◌else◌, List, [], ◌∷◌, ◌++◌}
-use Rattle.std.specs.Prelude.{Option, Some, None, Ok, Err, codes, decimal, find, not}
+use Rattle.std.specs.Prelude.{ℕ, ◌==◌, if◌then◌else◌, List, [], ◌∷◌, ◌++◌, Option, Some, None, Ok, Err, codes, decimal}
 use Rattle.acl.specs.Names.{name_of}
 use Rattle.acl.specs.declared.user_id.UserId.{UserId}
 use Rattle.session.specs.refusal.Verdict.{Verdict}

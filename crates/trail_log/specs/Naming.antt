@@ -1,6 +1,6 @@
 -- What a log calls clients and windows: the users of clients, and the titles of windows.
 use Rattle.std.specs.Prelude.{ℕ, ◌==◌, not, ◌&&◌, if◌then◌else◌, List, [], ◌∷◌, ◌++◌}
-use Rattle.std.specs.Prelude.{Option, Some, None, option_map, Result, Ok, Err, filter}
+use Rattle.std.specs.Prelude.{Option, Some, None, option_map, Result, Ok, filter}
 use Rattle.std.specs.List.{list_all}
 use Rattle.acl.specs.declared.act.Act.{Act}
 use Rattle.acl.specs.declared.act.Act.TheVariants.{Closed}

@@ -1,6 +1,6 @@
 -- The parts of a setup, put out one after another.
 use Rattle.trail_setup.proofs.Vocabulary.{◌≡◌, ◌++◌, List, [], ◌∷◌, ℕ, Result, Ok, Err, refl, map, false, OnOk}
-use Rattle.trail_setup.proofs.Vocabulary.{flat_map, Edition, UserId, History, name_of, Part, PutsAll, first_text}
+use Rattle.trail_setup.proofs.Vocabulary.{flat_map, Edition, UserId, History, name_of, PutsAll, first_text}
 use Rattle.trail_setup.proofs.Vocabulary.{leader_lines, lines_of, users_kind, PutsLines, Known, mask_parts}
 use Rattle.trail_setup.specs.Setup.{later_parts, parts_for, state_parts, users_parts}
 use Rattle.trail_setup.proofs.Putting.{puts_append}

@@ -1,9 +1,9 @@
 -- Masks, presets and the default lock that a state keeps are those of the history of the acts that it follows.
 use Rattle.trail_setup.proofs.Vocabulary.{◌≡◌, ◌∙◌, ◌∷◌, ◌&&◌, ◌||◌, [], ℕ, List, Bool, true, false, not, refl, sym, ap}
-use Rattle.trail_setup.proofs.Vocabulary.{subst, arith, Some, None, if◌then◌else◌, unwrap_or, length, cond, filter}
-use Rattle.trail_setup.proofs.Vocabulary.{AllByRecursion, Act, PresetKind, Bit, UserId, History, followed_by, mask}
+use Rattle.trail_setup.proofs.Vocabulary.{subst, arith, Some, None, if◌then◌else◌, unwrap_or, cond, filter}
+use Rattle.trail_setup.proofs.Vocabulary.{AllByRecursion, Act, PresetKind, Bit, UserId, History, mask}
 use Rattle.trail_setup.proofs.Vocabulary.{preset_of, same_bit, same_preset, same_user, SetMask, SetupState, FollowsAct}
-use Rattle.trail_setup.proofs.Vocabulary.{FollowsEach, masked_in, with_bit, all_bits, mask_in, preset_in}
+use Rattle.trail_setup.proofs.Vocabulary.{masked_in, with_bit, all_bits, mask_in, preset_in}
 use Rattle.acl.specs.declared.act.Act.TheVariants as act
 use Rattle.acl.specs.declared.act.LockMode.{LockMode}
 use Rattle.acl.specs.declared.act.PresetKind.TheVariants as preset

@@ -1,8 +1,7 @@
 -- A state that stands for a history stands for it followed by the acts that the state follows.
 use Rattle.trail_setup.proofs.Vocabulary.{◌≡◌, ◌∷◌, ◌++◌, [], ℕ, List, Bool, true, false, not, refl, sym, subst, ◌==◌}
-use Rattle.trail_setup.proofs.Vocabulary.{◌∙◌, ap, arith, if◌then◌else◌, unwrap_or, Some, None, cond, filter}
-use Rattle.trail_setup.proofs.Vocabulary.{AllByRecursion, nat_tests, Act, Edition, UserId, History, followed_by}
-use Rattle.trail_setup.proofs.Vocabulary.{is_open, CanFollow, SetupState, FollowsEach, Stands}
+use Rattle.trail_setup.proofs.Vocabulary.{◌∙◌, arith, if◌then◌else◌, unwrap_or, Some, None, cond, filter}
+use Rattle.trail_setup.proofs.Vocabulary.{AllByRecursion, nat_tests, Act, UserId, History, is_open, SetupState, Stands}
 use Rattle.acl.specs.declared.act.Act.TheVariants as act
 use Rattle.trail_setup.specs.Keeping.{StatesStand, windows_after}
 

@@ -12,10 +12,6 @@ use Rattle.vt_screen.specs.Places.{acted_places, all_acted_places}
 abbrev pub ActsByAll : Display → List Action → Display → Type 0
 ActsByAll old actions new = screen_of new ≡ all_acted (screen_of old) actions
 
--- none of these actions, in turn, is answered
-abbrev pub AreUnanswered : Display → List Action → Type 0
-AreUnanswered old actions = all_answered (screen_of old) actions ≡ []
-
 -- the lines of the page are stored as the change says, and the kept lines are as wide as before
 pub record MovesLines (old : Display) (change : State → List ℕ → List ℕ) (new : Display) : Type 0 where
   pub width : new.ring.columns ≡ old.ring.columns

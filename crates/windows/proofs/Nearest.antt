@@ -2,7 +2,7 @@
 use Rattle.windows.proofs.Vocabulary.{◌≡◌, ℕ, suc, ◌-◌, ◌<◌, ◌≤◌, Bool, true, false, List, [], ◌∷◌, Option, Some, None}
 use Rattle.windows.proofs.Vocabulary.{length, filter, get_or, drop, refl, ap, sym, subst, ◌∙◌, arith, if◌then◌else◌}
 use Rattle.windows.proofs.Vocabulary.{nat_lt, ◌==◌, not, ◌||◌, ◌&&◌, find, option_copied, list_any, range_with_len}
-use Rattle.windows.proofs.Vocabulary.{option_or, option_map, option_map_or, option_and_then, WINDOWS, if_true, if_false}
+use Rattle.windows.proofs.Vocabulary.{option_or, option_map, option_map_or, option_and_then, WINDOWS}
 use Rattle.windows.proofs.Vocabulary.{Window, All, Above, Below, Titled, Lowest, Highest, is_above, is_among, nearest}
 use Rattle.windows.proofs.Vocabulary.{numbered, taken_by_other, first_free, number, WindowStands, StandFor, is_taken}
 use Rattle.std.specs.Borrow.{Bor}
@@ -33,15 +33,6 @@ module _ (end : End) (among : Among) (rows : List Window) (place : ℕ) (row : W
     (within : place ≤ length rows) (at : row ≡ get_or rows (place - 1) row) where
   abbrev past : Option Window
   past = nearest end (filter (is_among among) (drop place rows))
-
-  pub one_among : is_among among row ≡ true
-      → nearest end (filter (is_among among) (drop (place - 1) rows)) ≡ nearer end row past
-  one_among is = ap (λ ws. nearest end (filter (is_among among) ws)) (one_more rows place row some within at)
-      ∙ ap (nearest end) (if_true (is_among among row) _ _ is)
-
-  pub one_other : is_among among row ≡ false → nearest end (filter (is_among among) (drop (place - 1) rows)) ≡ past
-  one_other is = ap (λ ws. nearest end (filter (is_among among) ws)) (one_more rows place row some within at)
-      ∙ ap (nearest end) (if_false (is_among among row) _ _ is)
 
 -- ---- in both tables: the definitions' and the code's
 

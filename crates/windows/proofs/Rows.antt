@@ -19,12 +19,6 @@ Before v w = v.serial < w.serial
 abbrev Apart : Window → Window → Type 0
 Apart v w = v.number ≢ w.number
 
-pub no_rows : AreRows []
-no_rows = record {
-  rise = λ i j d before inside. absurd (omega (arith, inside));
-  differ = λ i j d before inside. absurd (omega (arith, inside));
-}
-
 pub rows_kept : (p : Window → Bool) (ws : List Window) → AreRows ws → AreRows (filter p ws)
 rows_kept p ws are = record {
   rise = AllPairs-filter Before p ws are.rise;
@@ -141,9 +135,6 @@ rows_written old new s written are = record {
 -- a call that changes nothing
 pub none_changes : (s : ℕ) (ws : List Window) → ChangesRow s ws ws
 none_changes s ws = record { serials = refl; others = λ t other. refl }
-
-pub none_writes : (s : ℕ) (ws : List Window) → WritesRow s ws ws
-none_writes s ws = record { row = none_changes s ws; numbers = refl }
 
 -- ---- a row that gets another number
 

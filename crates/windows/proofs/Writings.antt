@@ -1,7 +1,7 @@
 -- What is written to a window's terminal.
-use Rattle.windows.proofs.Vocabulary.{◌≡◌, ℕ, true, false, List, [], ◌∷◌, refl, ap, sym, subst, ◌∙◌, Ok, Err, Writing}
+use Rattle.windows.proofs.Vocabulary.{◌≡◌, ℕ, true, false, List, [], ◌∷◌, refl, ap, sym, subst, ◌∙◌, Ok, Writing}
 use Rattle.windows.proofs.Vocabulary.{Output, IsWriting, writes, writes_all, writing_in, terminal_of, is_title, if_true}
-use Rattle.windows.proofs.Vocabulary.{if_false, Window, WindowStands, written_to, retitled, new_row, HasFed}
+use Rattle.windows.proofs.Vocabulary.{Window, WindowStands, written_to, retitled, new_row, HasFed}
 use Rattle.std.specs.String.{string_bytes}
 use Rattle.terminal_model.specs.Screen.{starting}
 use Rattle.terminal_model.specs.Reading.{Terminal, ready, nothing_read, IsTerminal}
@@ -14,7 +14,6 @@ use Rattle.emulator.specs.Standing.{Parts}
 use Rattle.emulator.specs.declared.emulator.Writing.{Writing as Commanded}
 use Rattle.emulator.specs.declared.emulator.Writing.TheVariants.{Clear, Reset, Encoding}
 use Rattle.windows_model.specs.Table as model
-use Rattle.windows_model.specs.declared.rows.WindowsFault.TheVariants.{BadTitle}
 
 one_writing : (t : Terminal) (what : Writing) → (writes_all t (what ∷ [])).terminal ≡ (writes t what).terminal
 unfolding writes_all
@@ -79,9 +78,6 @@ stands_new s number rows columns keep title w serial_is number_is title_is on =
 pub retitled_ok : (m : model.Window) (title : List ℕ) → is_title title ≡ true
     → retitled title m ≡ Ok (record m { title = title })
 retitled_ok m title good = if_true (is_title title) _ _ good
-
-pub retitled_bad : (m : model.Window) (title : List ℕ) → is_title title ≡ false → retitled title m ≡ Err BadTitle
-retitled_bad m title bad = if_false (is_title title) _ _ bad
 
 pub stands_retitled : (m : model.Window) (w new : Window) (title : List ℕ) → WindowStands m w → new.serial ≡ w.serial
     → new.number ≡ w.number → string_bytes new.title ≡ title → new.emulator ≡ w.emulator

@@ -1,6 +1,6 @@
 -- Facts of two tables whose rows belong together in pairs.
 use Rattle.std.proofs.Common.{◌≡◌, ℕ, suc, Bool, true, false, List, [], ◌∷◌, ◌++◌, Option, Some, None, map, filter}
-use Rattle.std.proofs.Common.{length, refl, ap, sym, subst, is_some}
+use Rattle.std.proofs.Common.{length, refl, ap, sym, subst}
 use Rattle.std.specs.Prelude.{if◌then◌else◌, ◌==◌, find, not}
 use Rattle.windows_model.specs.Finding.{row_of, with_row}
 use Rattle.windows_model.specs.Matched.{Matched, BothOrNone}
@@ -28,12 +28,6 @@ module _ {A B : Type 0} (R : A → B → Type 0) where
   none_back None None m at = refl
   none_back (Some x) None m at = absurd m
   none_back o (Some y) m at = absurd (cc (at))
-
-  pub both_some : (o : Option A) (p : Option B) → BothOrNone R o p → is_some o ≡ is_some p
-  both_some None None m = refl
-  both_some (Some x) (Some y) m = refl
-  both_some None (Some y) m = absurd m
-  both_some (Some x) None m = absurd m
 
 -- ---- tables
 

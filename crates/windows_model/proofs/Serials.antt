@@ -1,7 +1,7 @@
 -- Facts of tables whose rows have serials, and of searches in them.
 use Rattle.std.proofs.Common.{◌≡◌, ◌≢◌, ℕ, zero, suc, ◌<◌, ◌≤◌, Bool, true, false, List, [], ◌∷◌, length, Some, None}
 use Rattle.std.proofs.Common.{Ok, Err, set, map, get_or, refl, ap, sym, ◌∙◌, arith, Option}
-use Rattle.std.specs.Prelude.{if◌then◌else◌, ◌==◌, slice_get, Result, OnOk, OnErr, IfOk, is_err}
+use Rattle.std.specs.Prelude.{if◌then◌else◌, ◌==◌, slice_get, Result, OnOk, OnErr, IfOk}
 use Rattle.std.specs.List.{position, position_or_len}
 use Rattle.std.proofs.lemmas.Bool.Decides.{nat_tests}
 use Rattle.std.proofs.lemmas.List.Quantifiers.{position-Some}
@@ -34,10 +34,6 @@ other_number m n differ = grind (arith, nat_tests, differ)
 pub is_equal : (m n : ℕ) → (m == n) ≡ true → m ≡ n
 is_equal m n is = grind (arith, nat_tests, is)
 
-pub on_both : {A E P Q R : Type 0} (r : Result A E) → (P → Q → R) → OnOk r P → OnOk r Q → OnOk r R
-on_both (Ok a) f p q = f p q
-on_both (Err e) f p q = tt
-
 pub on_ok : {A E P Q : Type 0} (r : Result A E) → (P → Q) → OnOk r P → OnOk r Q
 on_ok (Ok a) f p = f p
 on_ok (Err e) f p = tt
@@ -46,19 +42,9 @@ pub if_ok : {A E : Type 0} {P Q : A → Type 0} (r : Result A E) → ((a : A) �
 if_ok (Ok a) f p = f a p
 if_ok (Err e) f p = tt
 
-pub taken_ok : {A E P : Type 0} (r : Result A E) → is_err r ≡ false → OnOk r P → P
-taken_ok (Ok a) is p = p
-taken_ok (Err e) is p = absurd (cc (is))
-
 pub on_error : {A E P Q : Type 0} (r : Result A E) → (P → Q) → OnErr r P → OnErr r Q
 on_error (Ok a) f p = tt
 on_error (Err e) f p = f p
-
--- putting back a row where it was changes nothing
-pub set_back : {A : Type 0} (rows : List A) (i : ℕ) (row : A) → row ≡ get_or rows i row → set rows i row ≡ rows
-set_back [] i row is = refl
-set_back (r ∷ rows) zero row is = ap (λ x. x ∷ rows) is
-set_back (r ∷ rows) (suc i) row is = ap (λ rs. r ∷ rs) (set_back rows i row is)
 
 module _ {A : Type 0} (f : A → ℕ) where
   -- the row at the first place of a serial is the row of the serial

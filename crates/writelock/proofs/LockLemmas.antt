@@ -10,7 +10,7 @@ use borrow.Author.Tests.{eqb-true}
 use Rattle.acl.specs.declared.act.LockMode.TheVariants.{Off, Auto, On}
 use Rattle.acl.proofs.FollowingLemmas.{same_user-sym}
 use Rattle.writelock.specs.declared.locks.Locks.{Locks}
-use Rattle.writelock.specs.Holding.{mode_of, holder, given, kept, or_else, is_off, is_auto, loses_last}
+use Rattle.writelock.specs.Holding.{mode_of, holder, kept, or_else, is_off, is_auto, loses_last}
 use Rattle.writelock.proofs.HolderLemmas.{able-kept, unheld-kept, holder-same}
 
 module _ (default : LockMode) (old new : ℕ → Option Lock) (edition : Edition) (owner : UserId) (h : History)

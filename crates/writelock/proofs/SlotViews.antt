@@ -114,11 +114,6 @@ pub record ChangedBelow (f : Option ℕ → Lock → Lock) (windows : List (Opti
     pub below : (k : ℕ) → k < i → slice_get new k ≡ option_map (f (slice_index_or windows k None)) (slice_get old k)
     pub above : (k : ℕ) → i ≤ k → slice_get new k ≡ slice_get old k
 
-pub changed_below-none : (f : Option ℕ → Lock → Lock) (windows : List (Option ℕ)) (old : List Lock)
-    → ChangedBelow f windows 0 old old
-changed_below-none f windows old = record
-    { same_length = refl; below = λ k b. absurd (omega arith); above = λ k a. refl }
-
 pub length-set_lock : (locks : List Lock) (k : ℕ) (lock : Lock) → length (slice_set locks k lock) ≡ length locks
 length-set_lock [] k lock = refl
 length-set_lock (x ∷ locks) zero lock = refl

@@ -1,4 +1,4 @@
-use Rattle.std.proofs.Common.{rules, tests, ◌≡◌, ◌+◌, ap, sym, ◌∙◌, inr}
+use Rattle.std.proofs.Common.{rules, tests, ◌≡◌, ◌+◌, ap, ◌∙◌, inr}
 use Rattle.std.proofs.lemmas.Iterator.Consumers.{map_from_collect}
 use Rattle.std.proofs.lemmas.Iterator.Splits.{YieldsList-from_slice_split}
 use Rattle.std.specs.List.{slice_split}

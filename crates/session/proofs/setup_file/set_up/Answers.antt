@@ -1,5 +1,4 @@
-use Rattle.session.proofs.Vocabulary.{sym, ap, ◌∙◌, ◌≡◌, ℕ, List, take, map, subst, length, line_of, Trace, StandsFor}
-use Rattle.session.proofs.Vocabulary.{StopsAt, Refuses, IfRefused}
+use Rattle.session.proofs.Vocabulary.{◌∙◌, ◌≡◌, ℕ, List, map, line_of, Trace, StandsFor, StopsAt, IfRefused}
 use Rattle.session.proofs.Giving.{none_given, next_given, stops, stopped_by, if_err}
 use Rattle.session.proofs.setup_file.set_up.Goals as goal
 

@@ -1,5 +1,4 @@
-use Rattle.session_core.proofs.Vocabulary.{◌≡◌, ◌∙◌, Bool, ap, sym, ◌&&◌, option_copied, Write, passes, Right, Unlocked}
-use Rattle.acl.specs.declared.act.Object.TheVariants.{Window}
+use Rattle.session_core.proofs.Vocabulary.{◌≡◌, ◌∙◌, Bool, ap, sym, ◌&&◌, option_copied, passes, Unlocked}
 use Rattle.session_core.proofs.MayTyping.{copied_some, one_there}
 use Rattle.session_core.proofs.may_type.may_type.Goals as goal
 

@@ -1,5 +1,4 @@
-use Rattle.trail_setup.proofs.Vocabulary.{◌++◌, [], ℕ, List, Result, Ok, Err, refl, OnOk, true, Part, PutsAll, known_in}
-use Rattle.trail_setup.proofs.Vocabulary.{mask_parts}
+use Rattle.trail_setup.proofs.Vocabulary.{◌++◌, [], ℕ, List, refl, true, known_in, mask_parts}
 use Rattle.trail_setup.specs.Setup.{later_start, mode_text}
 use Rattle.trail_setup.proofs.Putting.{puts_text}
 use Rattle.trail_setup.proofs.setup.push_later.Goals as goal

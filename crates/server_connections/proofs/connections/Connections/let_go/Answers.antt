@@ -1,6 +1,5 @@
 use Rattle.std.proofs.Common.{◌≡◌, ◌∙◌, ◌+◌, sym, ap, inr}
 use Rattle.slab.specs.Slab.{Slab, get}
-use Rattle.server_connections.specs.Changing.{ended_by}
 use Rattle.server_connections.specs.Lending.{touched}
 use Rattle.server_connections.specs.declared.connections.Connections.{Connections}
 use Rattle.server_connections.specs.declared.peer.Peer.{Peer}
