@@ -7,6 +7,7 @@ the first one's.
 """
 import argparse
 import os
+import signal
 import statistics
 import subprocess
 import sys
@@ -74,7 +75,19 @@ def main():
     reader.add_argument("--pause", type=float, default=1.5, help="milliseconds between two keys")
     reader.add_argument("sessions", nargs="+", metavar="FOLDER:LOOPS")
     words = reader.parse_args()
-    sessions = [Session(word) for word in words.sessions]
+    signal.signal(signal.SIGTERM, lambda *_: sys.exit(143))
+    sessions = []
+    try:
+        for word in words.sessions:
+            sessions.append(Session(word))
+        measure(words, sessions)
+    finally:
+        for session in sessions:
+            session.end()
+
+
+def measure(words, sessions):
+    """Types to each session in turn, and prints how long that took."""
     for number in range(words.keys):
         key = b"abcdefghijklmnopqrstuvwxyz"[number % 26:][:1]
         # Each key is begun by another one of them.
@@ -90,8 +103,6 @@ def main():
         quarters = statistics.quantiles(session.found, n=4)
         print(f"{session.word}: quarters {quarters[0]:.0f} {quarters[1]:.0f} {quarters[2]:.0f} us, "
               f"{quarters[1] / least:.2f} times the first one's")
-    for session in sessions:
-        session.end()
 
 
 main()

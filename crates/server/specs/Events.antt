@@ -54,14 +54,15 @@ module _ {L E : Type 0} where
 
   module _ (asks : L → ℕ → L → Type 0) (tells : L → ℕ → Option KnownUsers → Type 0)
       (sets : E → ServerEnd → Type 0) (holds : E → Option ServerEnd → Type 0) where
-    -- What a call of a loop shows of what lies around it: the events of a wait come in turn, each once, and so do the
-    -- connections that were handed to the loop. What the other threads and the system see of a call lies in atomics,
-    -- under locks and in the system.
+    -- What a call of a loop shows of what lies around it, and that it changes nothing else there: the events of a
+    -- wait come in turn, each once, and so do the connections that were handed to the loop. What the other threads
+    -- and the system see of a call lies in atomics, under locks and in the system.
     abbrev pub Shows : Inlet L E → Call → Inlet L E → Type 0
     Shows inlet (calls.Event came) left = (came ≡ option_map came_by (slice_get (items inlet.events) inlet.seen))
         × (left ≡ record inlet { seen = next inlet.seen })
     Shows inlet (calls.Wait longest waited) left = left ≡ polled inlet left
     Shows inlet (calls.Pause waited) left = left ≡ polled inlet left
+    Shows inlet (calls.Accept result) left = left ≡ record inlet { acceptor = left.acceptor }
     Shows inlet (calls.Hand None) left = left ≡ record inlet { calls = once_more inlet.calls }
     Shows inlet (calls.Hand (Some is_extra)) left = (handed : HandedStream) × (handed.is_extra ≡ is_extra)
         × (left ≡ record inlet { handed = Some handed; calls = once_more inlet.calls })
@@ -69,11 +70,11 @@ module _ {L E : Type 0} where
     Shows inlet (calls.Know count learned next) left =
         (left ≡ inlet) × (looks : L) × (known : Option KnownUsers) × tells looks count known
         × (learned ≡ option_map learned_of known) × (next ≡ count_after count known)
-    Shows inlet (calls.Queue backlog) left = backlog ≡ backlog_of inlet.acceptor
+    Shows inlet (calls.Queue backlog) left = (left ≡ inlet) × (backlog ≡ backlog_of inlet.acceptor)
     Shows inlet (calls.End end result) left = (left ≡ inlet) × sets inlet.shared.now.over end
     Shows inlet (calls.Over end) left = (left ≡ inlet) × holds inlet.shared.now.over end
     Shows inlet calls.Close left = left ≡ record inlet { acceptor = None }
-    Shows inlet other left = Unit {0}
+    Shows inlet other left = left ≡ inlet
 
 -- the token of the connection of a key
 abbrev pub token_of : ℕ → Token

@@ -23,7 +23,6 @@ use Rattle.server_outcome.specs.declared.fault.SetupCause.TheVariants as cause
 use Rattle.server.specs.declared.loop_handle.LoopStart.{LoopStart}
 use Rattle.server.specs.declared.loops.KeptSession.{KeptSession}
 use Rattle.server.specs.declared.starting.Options.{Options}
-use Rattle.server.specs.declared.starting.Setup.{Setup}
 use Rattle.server.specs.declared.starting.ServerStart.{ServerStart}
 
 -- ---- options
@@ -78,9 +77,9 @@ pub record AreStarts (n : ℕ) (starts : List LoopStart) : Type 0 where
 
 -- no option names a setup, and it is empty; or it is what was read of the file at the path
 module _ (reads : List ℕ → Result (Vec ℕ Global) Error → Type 0) where
-  abbrev pub IsSetupAt : Option (List ℕ) → Setup → Type 0
-  IsSetupAt None s = s.file.items ≡ []
-  IsSetupAt (Some path) s = (s.path.now ≡ path) × reads path (Ok s.file)
+  abbrev pub IsSetupAt : Option (List ℕ) → Vec ℕ Global → Type 0
+  IsSetupAt None setup = setup.items ≡ []
+  IsSetupAt (Some path) setup = reads path (Ok setup)
 
   -- the file at the path couldn't be read, and this is why
   abbrev pub IsUnread : Option (List ℕ) → ServeFault → Type 0
@@ -104,7 +103,7 @@ module _ {R A B C : Type 0} (system : Ghosts R A B C) (reads : List ℕ → Resu
     pub start : ServerStart
     pub began_so : IsStartOf start
     pub users : users_of kept.session ≡ start.users
-    pub setup : setup_of kept.session ≡ start.setup.file.items
+    pub setup : setup_of kept.session ≡ start.setup.items
     pub agrees_with : agrees kept.session ≡ true
     pub trail : is_some kept.trail ≡ is_some o.trail
 

@@ -1,14 +1,15 @@
 //! A server: its socket, its threads, its files, its log and its end.
 
-ghost use Rattle.std.specs.Prelude.{◌≡◌, IfOk, is_some, length, option_map, true};
+ghost use Rattle.std.specs.Prelude.{◌≡◌, IfOk, Some, is_some, length, option_map, true};
 ghost use Rattle.std.specs.Arc.{arc_value};
+ghost use Rattle.server_seat.specs.declared.seat.ServerEnd.TheVariants.{Quit};
 ghost use Rattle.server_session.specs.SettingUp.{agrees, setup_of, users_of};
 ghost use Rattle.server_system.specs.Paths.{socket_path, watched_path};
 ghost use Rattle.server_trail.specs.Journals.{journal_path};
 ghost use Rattle.server.specs.Starting.{loops_of, text_of};
 
 use crate::latch::ReadyLine;
-use crate::loop_handle::{LoopStart, Shared};
+use crate::loop_handle::{EndCause, LoopStart, Shared};
 use crate::starting::{Options, start_fault};
 use crate::turns::run_loop;
 use server_loop::{Gate, ServerEnd};
@@ -17,12 +18,12 @@ use server_session::{
     Accounts, Agreement, Begun, Books, LoopBody, Recorder, Seat, Seated, SharedSession, Start,
     Trail, keep,
 };
-use server_system::{Host, SocketPath};
+use server_system::{Host, Looks, SocketPath};
 use server_trail::{Journal, ReadBack};
 use std::alloc::Global;
 use std::io::Write;
 use std::rt::{HostRuntime, Stderr};
-use std::sync::Wait;
+use std::sync::{OnceLock, Wait};
 use std::thread::Threads;
 use std::time::{Clock, Duration};
 
@@ -38,8 +39,8 @@ pub struct KeptSession {
 
 /// A server, of which each loop runs in a thread of its own.
 #[derive(Drop)]
-pub struct Server<'a, G, O> {
-    pub shared: Shared,
+pub struct Server<'a, G, O, E = OnceLock<ServerEnd>> {
+    pub shared: Shared<Looks, E>,
     /// Where it says that it is ready.
     pub ready: ReadyLine<'a, O>,
     /// Is called around each event that a loop submits.
@@ -60,7 +61,7 @@ pub struct Server<'a, G, O> {
     ghost tells: { shared.tells ≡ options.tells },
 }
 
-impl<G: Drop, O: Write> Server<'_, G, O> {
+impl<G: Drop, O: Write, E: EndCause> Server<'_, G, O, E> {
     // A loop has ended. After the last one nobody can connect, so another server may take the place.
     fn leave(&self, rt: &impl Wait) {
         if let Some(last) = self.shared.log.leave(rt) {
@@ -94,7 +95,7 @@ impl<G: Drop, O: Write> Server<'_, G, O> {
     }
 }
 
-impl<G: Gate + Copy + Sync + Drop, O: Write + Send> Server<'_, G, O> {
+impl<G: Gate + Copy + Sync + Drop, O: Write + Send, E: EndCause + Sync> Server<'_, G, O, E> {
     /// Serves a new session until it ends. If it never said that it is ready, the trail's file is removed.
     pub fn serve<R: Host + Send + Sync + Threads + Wait>(
         &self,
@@ -106,6 +107,7 @@ impl<G: Gate + Copy + Sync + Drop, O: Write + Send> Server<'_, G, O> {
         ensures setup { IfOk result (λ kept. setup_of kept.session ≡ start.setup.items) }
         ensures agrees { IfOk result (λ kept. agrees kept.session ≡ true) }
         ensures trail { IfOk result (λ kept. is_some kept.trail ≡ is_some self.now.journal) }
+        ensures end { IfOk result (λ kept. E.EndCause.holds self.now.shared.over (Some Quit)) }
     {
         let kept = match keep(rt, start, self) {
             Ok(agreement) => Ok(agreement),
@@ -121,18 +123,21 @@ impl<G: Gate + Copy + Sync + Drop, O: Write + Send> Server<'_, G, O> {
             journal.remove(never);
         }
         let session = served(kept, said, self.shared.latch.fault(rt))?;
-        let end = self.shared.over.get().copied();
+        let end = self.shared.over.get();
         let trail = outcome_of(end, self.trail_file(rt), session.holds())?;
         Ok(KeptSession { session, trail })
     }
 }
 
-impl<R, G, O> LoopBody<LoopStart, R> for Server<'_, G, O>
+impl<R, G, O, E> LoopBody<LoopStart, R> for Server<'_, G, O, E>
 where
     R: Clock + Wait,
     G: Gate + Copy + Drop,
     O: Write,
+    E: EndCause,
 {
+    ghost records = { λ server lines. is_some lines ≡ is_some server.journal };
+
     fn run<L: Begun>(
         &self,
         rt: &R,
@@ -184,7 +189,7 @@ where
                 path: journal.path(),
             };
             let written = journal.write(rt, recorder, &watch);
-            let cause = cause_of(self.shared.over.get().copied());
+            let cause = cause_of(self.shared.over.get());
             journal.end(rt, recorder, written, cause);
         }
     }

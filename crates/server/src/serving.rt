@@ -9,7 +9,7 @@ ghost use Rattle.server.specs.Starting.{AreOptionsOf, IsKeptFor, IsStartOf, text
 use crate::latch::{Latch, ReadyLine};
 use crate::loop_handle::{LoopHandle, Shared, places, start_watching};
 use crate::loops::{KeptSession, Server};
-use crate::starting::{Options, ServerStart, Setup, SetupHost, listen, read_users};
+use crate::starting::{Options, ServerStart, SetupHost, listen, read_setup, read_users};
 use acl::UserId;
 use clap::Error;
 use program_words::{SystemError, tell};
@@ -136,7 +136,6 @@ where
         place,
         listener,
     } = beginning;
-    let Setup { file: setup, .. } = setup;
     let alloc = rt.alloc();
     let owner = users.owner();
     let loops = usize::from(options.loops.clamp(1, 8));
@@ -181,7 +180,7 @@ where
 {
     let files = handles.files;
     let (users, seen) = read_users(rt, options.users, errors)?;
-    let setup = Setup::read(rt, options.setup)?;
+    let setup = read_setup(rt, options.setup)?;
     let (place, listener) = listen(rt, options.socket, errors)?;
     let beginning = ServerStart {
         users,

@@ -92,32 +92,20 @@ impl<'a> Options<'a> {
     }
 }
 
-/// A setup: the path of its file, and the file's bytes.
-#[derive(Drop)]
-pub struct Setup<'a> {
-    pub path: &'a str,
-    pub file: Vec<u8>,
-}
-
-impl<'a> Setup<'a> {
-    /// Reads the setup at a path. Without a path it has no lines.
-    pub fn read<R: SetupHost>(rt: &R, path: Option<&'a str>) -> Result<Setup<'a>, ServeFault>
-        ensures ok { IfOk result (IsSetupAt (R.SetupHost.reads rt.now) (text_of path.entry)) }
-        ensures fault { IfErr result (IsUnread (R.SetupHost.reads rt.now) (text_of path.entry)) }
-    {
-        let alloc = rt.alloc();
-        let Some(path) = path else {
-            return Ok(Setup {
-                path: "",
-                file: Vec::new(alloc),
-            });
-        };
-        match rt.read_file(path) {
-            Ok(file) => Ok(Setup { path, file }),
-            Err(error) => {
-                let cause = SetupCause::NotRead(SystemError(error));
-                Err(ServeFault::of_setup(alloc, path, cause))
-            }
+/// Reads the setup at a path. Without a path it has no lines.
+pub fn read_setup<R: SetupHost>(rt: &R, path: Option<&str>) -> Result<Vec<u8>, ServeFault>
+    ensures ok { IfOk result (IsSetupAt (R.SetupHost.reads rt.now) (text_of path.entry)) }
+    ensures fault { IfErr result (IsUnread (R.SetupHost.reads rt.now) (text_of path.entry)) }
+{
+    let alloc = rt.alloc();
+    let Some(path) = path else {
+        return Ok(Vec::new(alloc));
+    };
+    match rt.read_file(path) {
+        Ok(setup) => Ok(setup),
+        Err(error) => {
+            let cause = SetupCause::NotRead(SystemError(error));
+            Err(ServeFault::of_setup(alloc, path, cause))
         }
     }
 }
@@ -141,7 +129,7 @@ pub fn start_fault(alloc: Global, path: &str, fault: LoopsFault) -> ServeFault
 pub struct ServerStart<'a> {
     pub users: Users,
     pub seen: Stamp,
-    pub setup: Setup<'a>,
+    pub setup: Vec<u8>,
     pub place: &'a SocketPath<'a>,
     pub listener: UnixListener,
 }

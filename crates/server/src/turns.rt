@@ -1,6 +1,7 @@
 //! What each loop has around it.
 
-ghost use Rattle.std.specs.Prelude.{◌≡◌, IfSome};
+ghost use Rattle.std.specs.Prelude.{◌≡◌, IfSome, None, Some, slice_get};
+ghost use Rattle.std.specs.Arc.{arc_value};
 ghost use Rattle.server.specs.Events.{Shows, came_by, polled, token_of};
 
 use crate::acceptor::{Acceptor, NONE};
@@ -42,6 +43,7 @@ struct Inlet<'a, L = Looks, E = OnceLock<ServerEnd>> {
     // The connection that was handed to the loop last.
     handed: Option<HandedStream>,
     calls: HandCalls,
+    ghost own: { slice_get (arc_value shared.now.loop_handles).items me ≡ Some loop_handle.now },
 }
 
 // What came by an event.
@@ -83,7 +85,8 @@ impl<'a, L: SharedLooks, E: EndCause> Around<Wired<PeerSocket<'a>>> for Inlet<'a
     ghost does = { Shows L.asks L.tells E.sets E.holds };
 
     // Events of the stream that was handed come to this key.
-    ghost wires = { λ inlet key stream left. IfSome stream (λ wired. wired.stream.token ≡ token_of key) };
+    ghost wires = { λ inlet key stream left. (left ≡ record inlet { handed = None })
+        × IfSome stream (λ wired. wired.stream.token ≡ token_of key) };
 
     fn arrive<R: Wait>(&mut self, rt: &R) -> bool {
         self.shared.latch.arrive(rt).is_some()
@@ -260,9 +263,9 @@ impl<L, E> Shared<L, E> {
 }
 
 /// Runs one loop until the server ends, and returns its seat.
-pub fn run_loop<J: SessionSeat + Drop, G: Gate + Copy + Drop, R: Clock + Wait>(
+pub fn run_loop<J: SessionSeat + Drop, G: Gate + Copy + Drop, R: Clock + Wait, E: EndCause>(
     rt: &R,
-    shared: &Shared,
+    shared: &Shared<Looks, E>,
     mut gate: G,
     seat: J,
     start: LoopStart,

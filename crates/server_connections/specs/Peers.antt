@@ -4,6 +4,8 @@ use Rattle.std.specs.Prelude.{[], Option, Some, None, is_none, IsSomeAnd}
 use Rattle.slab.specs.Slab.{Slab, get}
 use Rattle.attach_proto.specs.declared.kind.Side.TheVariants.{Server}
 use Rattle.server_inbox.specs.Asking.{Stands, is_empty}
+use Rattle.server_typing.specs.Sized.{no_size}
+use Rattle.server_typing.specs.Typed.{untyped}
 use Rattle.server_connections.specs.declared.peer.Awaits.{Awaits}
 use Rattle.server_connections.specs.declared.peer.Awaits.TheVariants as awaited
 use Rattle.server_connections.specs.declared.peer.Peer.{Peer}
@@ -31,10 +33,14 @@ is_closed stage.Closed = true
 is_closed other = false
 
 module _ {S : Type 0} where
-  -- A new connection of this stream: nobody is known to have it, nothing was read, and nothing is to be done or sent.
+  -- A new connection of this stream: nobody is known to have it, nothing was read or typed, and nothing is to be done
+  -- or sent.
   pub record IsNewcomer (stream : S) (number : ℕ) (is_extra : Bool) (peer : Peer S) : Type 0 where
     pub unread : Stands peer.inbox peer.reader [] []
     pub empty : is_empty peer.inbox ≡ true
+    pub sound : peer.inbox.is_broken ≡ false
+    pub nothing_typed : peer.inbox.typed ≡ untyped
+    pub never_sized : peer.inbox.sizing ≡ no_size
     pub peer_is : peer ≡ record {
       stream = Some stream;
       reader = record { side = Server; rest = []; fault = None };

@@ -1,6 +1,8 @@
 -- How a connection is written to: what its stream holds of what was put, write after write.
 use Rattle.std.specs.Prelude.{◌≡◌, ◌⊎◌, ◌<◌, ◌≤◌, ℕ, zero, suc, Bool, true, false, List, Option, Some, None, MatchOption}
 use Rattle.std.specs.Prelude.{drop, if◌then◌else◌, length}
+use Rattle.std.specs.declared.io.ErrorKind.{ErrorKind}
+use Rattle.std.specs.declared.io.ErrorKind.TheVariants.{WouldBlock, Interrupted}
 use Rattle.server_inbox.specs.Joining.{IsGathered}
 use Rattle.server_inbox.specs.declared.inbox.Inbox.{Inbox}
 use Rattle.server_sending.specs.Written.{IsWritten, Waiting, unbegun}
@@ -9,6 +11,8 @@ use Rattle.server_connections.specs.Life.{given_up}
 use Rattle.server_connections.specs.declared.peer.Peer.{Peer}
 use Rattle.server_connections.specs.declared.peer.Stage.{Stage}
 use Rattle.server_connections.specs.declared.peer.Stage.TheVariants as stage
+use Rattle.server_connections.specs.declared.peer_stream.Arrival.{Arrival}
+use Rattle.server_connections.specs.declared.peer_stream.Arrival.TheVariants as arrived
 use Rattle.server_connections.specs.declared.peer_stream.Wrote.{Wrote}
 use Rattle.server_connections.specs.declared.peer_stream.Wrote.TheVariants as wrote
 
@@ -22,6 +26,18 @@ is_last other = false
 abbrev pub is_cut : Stage → Bool
 is_cut stage.Cut = true
 is_cut other = false
+
+-- a stream that fails has ended, unless it only has to be asked again
+abbrev pub lack_of : ErrorKind → Arrival
+lack_of WouldBlock = arrived.Nothing
+lack_of Interrupted = arrived.Some
+lack_of _ = arrived.End
+
+-- the same of a write
+abbrev pub stop_of : ErrorKind → Wrote
+stop_of WouldBlock = wrote.Full
+stop_of Interrupted = wrote.Nothing
+stop_of _ = wrote.Broken
 
 -- how many bytes a write took
 abbrev pub count_of : Wrote → ℕ

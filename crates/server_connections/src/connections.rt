@@ -37,6 +37,7 @@ impl<S: Drop> Connections<S> {
     pub fn new(alloc: Global) -> Connections<S>
         ensures nobody { result.peers.slots ≡ [] }
         ensures asleep { (key : ℕ) → ¬ (IsMarked result.awake key) }
+        ensures number { result.number ≡ 0 }
     {
         Connections {
             alloc,

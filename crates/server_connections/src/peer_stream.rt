@@ -1,11 +1,14 @@
 //! A connection's stream: one read of it, and one write of what waits.
 
-ghost use Rattle.std.specs.Prelude.{◌≡◌, take};
+ghost use Rattle.std.specs.Prelude.{◌≡◌, ◌≢◌, take};
 ghost use Rattle.std.specs.Io.KnownBytes.{Appends, Consumes};
-ghost use Rattle.server_connections.specs.Streaming.{count_of};
+ghost use Rattle.std.specs.IoError.{error_kind};
+ghost use Rattle.server_sending.specs.Written.{Waiting};
+ghost use Rattle.server_connections.specs.Streaming.{count_of, lack_of, sent_by, stop_of};
+ghost use Rattle.server_connections.specs.declared.peer_stream.Arrival.TheVariants.{Much};
 
 use server_sending::Turn;
-use std::io::{ErrorKind, Read, Write};
+use std::io::{self, ErrorKind, Read, Write};
 
 /// What a read brought.
 #[derive(Clone, Copy, Debug, PartialEq, Eq)]
@@ -31,6 +34,30 @@ pub enum Wrote {
     Full,
     /// The connection is broken.
     Broken,
+}
+
+// What a read's error means.
+fn lack_of(error: &io::Error) -> Arrival
+    ensures is { result ≡ lack_of (error_kind error.now) }
+    ensures none { result ≢ Much }
+{
+    match error.kind() {
+        ErrorKind::WouldBlock => Arrival::Nothing,
+        ErrorKind::Interrupted => Arrival::Some,
+        _ => Arrival::End,
+    }
+}
+
+// What a write's error means.
+fn stop_of(error: &io::Error) -> Wrote
+    ensures is { result ≡ stop_of (error_kind error.now) }
+    ensures none { (count_of result ≡ 0) × ((turn : Waiting) → sent_by result turn ≡ turn) }
+{
+    match error.kind() {
+        ErrorKind::WouldBlock => Wrote::Full,
+        ErrorKind::Interrupted => Wrote::Nothing,
+        _ => Wrote::Broken,
+    }
 }
 
 /// A connection's stream. Each relation is shown by a call of its function alone: a read that wasn't made
@@ -79,11 +106,7 @@ impl<S: Read + Write> PeerStream for S {
         match self.read(buffer) {
             Ok(0) => (0, Arrival::End),
             Ok(count) => (count, Arrival::Much),
-            Err(error) => match error.kind() {
-                ErrorKind::WouldBlock => (0, Arrival::Nothing),
-                ErrorKind::Interrupted => (0, Arrival::Some),
-                _ => (0, Arrival::End),
-            },
+            Err(error) => (0, lack_of(&error)),
         }
     }
 
@@ -91,11 +114,7 @@ impl<S: Read + Write> PeerStream for S {
         match turn.send(self) {
             Ok(0) => Wrote::Broken,
             Ok(count) => Wrote::Some(count),
-            Err(error) => match error.kind() {
-                ErrorKind::WouldBlock => Wrote::Full,
-                ErrorKind::Interrupted => Wrote::Nothing,
-                _ => Wrote::Broken,
-            },
+            Err(error) => stop_of(&error),
         }
     }
 }

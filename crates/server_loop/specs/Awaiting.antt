@@ -23,11 +23,12 @@ module _ {S J : Type 0} (calls : Calls J) where
   EndsBy s end = (has_stopped : Bool) × calls.stops s.seat has_stopped × (end ≡ option_or s.end (full_if has_stopped))
 
 module _ {S J : Type 0} where
-  -- one of so many loops: it has no connection, knows no other users' file, and counted, submitted, refused
+  -- one of so many loops: it has and had no connection, knows no other users' file, and counted, submitted, refused
   -- and told nothing
   abbrev pub IsFresh : ℕ → J → State S J → Type 0
   IsFresh loops seat s = (s.connections.peers.slots ≡ []) × ((key : ℕ) → ¬ (IsMarked s.connections.awake key))
-      × ((user : UserId) → end_of s.rations.list.items user ≡ None) × (as_nanos s.rations.period ≡ loops * 1000000)
+      × (s.connections.number ≡ 0) × ((user : UserId) → end_of s.rations.list.items user ≡ None)
+      × (as_nanos s.rations.period ≡ loops * 1000000)
       × (s ≡ record s {
         seat = seat;
         users = None;

@@ -1,5 +1,5 @@
 -- What a connection asked for is done: its messages in order, and what isn't done of one is put back, to come first.
-use Rattle.std.specs.Prelude.{◌≡◌, ◌⊎◌, ◌+◌, ℕ, Bool, true, false, not, Option, Some, None}
+use Rattle.std.specs.Prelude.{◌≡◌, ◌⊎◌, ◌+◌, ◌==◌, ◌&&◌, ℕ, Bool, true, false, not, Option, Some, None}
 use Rattle.std.specs.Prelude.{◌||◌, is_some, min, nat_le, nat_lt}
 use Rattle.slab.specs.Slab.{get}
 use Rattle.server_connections.specs.declared.connections.Connections.{Connections}
@@ -60,9 +60,9 @@ module _ {S J : Type 0} (calls : Calls J) where
   -- Something that a connection asked for was done, and it is said whether to go on. A window's output waits once as
   -- much as a turn does was done.
   abbrev pub Steps : ℕ → State S J → Bool → State S J → Type 0
-  Steps key old goes new =
-      ((old.output_left ≡ 0) × (is_window_at (peer_at key old) ≡ true) × (goes ≡ false) × (new ≡ old))
-      ⊎ ((result : Option Progress) × (mid : State S J)
+  Steps key old goes new = IfBool ((old.output_left == 0) && is_window_at (peer_at key old))
+      ((goes ≡ false) × (new ≡ old))
+      ((result : Option Progress) × (mid : State S J)
       × Obeys (role_at (peer_at key old)) (millis_of old.now) key old result mid × (goes ≡ goes_on result)
       × (new ≡ record mid { connections = held_after result key mid.connections }))
 

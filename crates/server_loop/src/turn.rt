@@ -60,7 +60,8 @@ impl<S: PeerStream + Drop, G: Gate + Drop, J: SessionSeat + Drop> Loop<S, G, J> 
     fn obey_step(&mut self, rt: &impl Wait, key: usize) -> bool
         ensures { Steps J.SessionSeat key (state_of self.old) result (state_of self.new) }
     {
-        if self.reading.output_left == 0 && is_window(&self.connections, key) {
+        let waits = self.reading.output_left == 0 && is_window(&self.connections, key);
+        if waits {
             return false;
         }
         let progress = self.obey_first(rt, key);

@@ -14,14 +14,10 @@ pub record Waiting : Type 0 where
   -- the last bytes were put
   pub has_ended : Bool
 
--- of the bytes that were put, these were written, and the rest waits
-abbrev pub HasWritten : List ℕ → List ℕ → Waiting → Type 0
-HasWritten put written turn = put ≡ written ++ turn.unsent
-
--- of the bytes that were put, a writer holds those that were written; its contents are known
+-- of the bytes that were put, a writer holds those that were written, and the rest waits; its contents are known
 abbrev pub IsWritten : List ℕ → Option (List ℕ) → Waiting → Type 0
 IsWritten put None turn = ⊥
-IsWritten put (Some written) turn = HasWritten put written turn
+IsWritten put (Some written) turn = put ≡ written ++ turn.unsent
 
 -- the last bytes are put once
 abbrev pub ended : List ℕ → Waiting → Waiting

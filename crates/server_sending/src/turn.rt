@@ -1,10 +1,10 @@
 //! What a connection has still to write.
 
 ghost use Rattle.std.specs.Prelude.{◌≡◌, ◌==◌, ◌&&◌, ◌≤◌, ◌++◌, ℕ, List, [], None, true, false, length, drop, take};
-ghost use Rattle.std.specs.Prelude.{vec_len, vec_capacity, IfOk, IfSome, OnOk, OnErr, if◌then◌else◌, ◌+◌, ◌-◌};
+ghost use Rattle.std.specs.Prelude.{vec_len, vec_capacity, IfOk, IfSome, OnOk, OnErr, ◌+◌, ◌-◌};
 ghost use Rattle.std.specs.Io.KnownBytes.{WriteAppends};
 ghost use Rattle.server_sending.specs.Typists.{HasNoTypist, IsNextTypist};
-ghost use Rattle.server_sending.specs.Written.{HasWritten, IsWritten, ended, unbegun, with_frame, without_typed};
+ghost use Rattle.server_sending.specs.Written.{IsWritten, ended, unbegun, with_frame, without_typed};
 
 use crate::typists::{TypedFrame, drop_frames, forget_begun, typist_after};
 use acl::UserId;
@@ -56,8 +56,9 @@ impl Model for Turn {
       has_ended = t.has_ended;
     } };
 
-    // Until the end, its bytes have room. Frames that were typed are among the bytes that wait.
-    ghost invariant = { λ t. (t.sent ≤ vec_len t.bytes)
+    // Until the end, its bytes have room. Frames that were typed are among the bytes that wait. No more bytes are kept
+    // that were written than wait.
+    ghost invariant = { λ t. (t.sent + t.sent ≤ vec_len t.bytes)
         × (t.has_ended ≡ false → vec_len t.bytes + 4 ≤ vec_capacity t.bytes)
         × AreWithin 0 t.typed.items (vec_len t.bytes - t.sent) };
 }
@@ -74,12 +75,28 @@ fn let_go(bytes: &mut Vec<u8>, sent: usize)
     bytes.truncate(left);
 }
 
+// Lets go of the bytes that were written, once they are more than those that wait. Returns how many of the bytes that
+// are left were written.
+fn shrink(bytes: &mut Vec<u8>, sent: usize) -> usize
+    requires { sent ≤ vec_len bytes.old }
+    ensures rest { drop result bytes.new.items ≡ drop sent bytes.old.items }
+    ensures few { result + result ≤ vec_len bytes.new }
+    ensures len { vec_len bytes.new - result ≡ vec_len bytes.old - sent }
+    ensures less { vec_len bytes.new ≤ vec_len bytes.old }
+    ensures room { vec_capacity bytes.new ≡ vec_capacity bytes.old }
+{
+    if sent <= bytes.len() - sent {
+        return sent;
+    }
+    let_go(bytes, sent);
+    0
+}
+
 impl Turn {
     /// A connection with nothing to write yet. The room for the last bytes is reserved.
     pub fn new(alloc: Global) -> Result<Turn, AllocError>
-        ensures nothing { IfOk result (λ t.
+        ensures { IfOk result (λ t.
             t ≡ record { unsent = []; typed = []; told = false; has_ended = false }) }
-        ensures written { IfOk result (HasWritten [] []) }
     {
         let mut bytes = Vec::new(alloc);
         bytes.reserve(LAST)?;
@@ -92,28 +109,12 @@ impl Turn {
         })
     }
 
-    // Lets go of what was written, once that is half of what is held or more.
-    fn shrink(&mut self)
-        ensures { self.new ≡ self.old }
-    {
-        if self.sent == self.bytes.len() {
-            self.bytes.clear();
-            self.sent = 0;
-        } else if self.sent >= self.bytes.len() - self.sent {
-            let_go(&mut self.bytes, self.sent);
-            self.sent = 0;
-        }
-    }
-
     /// Puts bytes after those that wait.
     pub fn put(&mut self, bytes: &[u8]) -> Result<(), AllocError>
         ensures ok { OnOk result
             (self.new ≡ record self.old { unsent = self.old.unsent ++ bytes.now }) }
         ensures err { OnErr result (self.new ≡ self.old) }
-        ensures written { (put written : List ℕ) → HasWritten put written self.old
-            → OnOk result (HasWritten (put ++ bytes.now) written self.new) }
     {
-        self.shrink();
         self.bytes.reserve(bytes.len() + LAST)?;
         self.bytes.extend_from_slice(bytes)
     }
@@ -129,10 +130,7 @@ impl Turn {
         ensures ok { OnOk result
             (self.new ≡ with_frame typist (head ++ payload.now) self.old) }
         ensures err { OnErr result (self.new ≡ self.old) }
-        ensures written { (put written : List ℕ) → HasWritten put written self.old
-            → OnOk result (HasWritten (put ++ (head ++ payload.now)) written self.new) }
     {
-        self.shrink();
         let len = HEAD + payload.len();
         self.bytes.reserve(len + LAST)?;
         self.typed.reserve(1)?;
@@ -149,9 +147,7 @@ impl Turn {
 
     /// Puts the last bytes after those that wait. A second call puts nothing. It takes no memory.
     pub fn end(&mut self, last: [u8; LAST])
-        ensures ended { self.new ≡ ended last self.old }
-        ensures written { (put written : List ℕ) → HasWritten put written self.old
-            → HasWritten (if self.old.has_ended then put else put ++ last) written self.new }
+        ensures { self.new ≡ ended last self.old }
     {
         if !self.has_ended {
             // The room is there.
@@ -177,8 +173,8 @@ impl Turn {
     {
         let (_, waiting) = self.bytes.as_slice().split_at(self.sent);
         let taken = writer.write(waiting)?;
-        self.sent += taken;
         forget_begun(&mut self.typed, taken);
+        self.sent = shrink(&mut self.bytes, self.sent + taken);
         Ok(taken)
     }
 

@@ -1,5 +1,5 @@
 -- One turn of a loop with what it has around it, and its last ones.
-use Rattle.std.specs.Prelude.{◌≡◌, ◌⊎◌, ◌↔◌, ◌&&◌, ◌||◌, ℕ, Bool, true, false, Option, Some, None}
+use Rattle.std.specs.Prelude.{◌≡◌, ◌≢◌, ◌⊎◌, ◌↔◌, ◌&&◌, ◌||◌, ℕ, Bool, true, false, Option, Some, None}
 use Rattle.std.specs.Prelude.{Result, Ok, Err, ⊤, [], is_some, not, option_map}
 use Rattle.std.specs.Duration.{as_nanos}
 use Rattle.std.specs.Option.{option_or}
@@ -157,11 +157,17 @@ module _ {S J A : Type 0} where
     AreLate count at = (now : Option Duration) × does at.around (Now now) at.around
         × (is_late (option_map as_nanos at.ended) (option_map as_nanos now) count ≡ true)
 
+    -- they still have some
+    abbrev pub IsInTime : ℕ → Course S J A → Type 0
+    IsInTime count at = (now : Option Duration) × does at.around (Now now) at.around
+        × (is_late (option_map as_nanos at.ended) (option_map as_nanos now) count ≡ false)
+
     -- one round more: nobody is left, the peers had their time, or all were told again why the server ends
     abbrev pub WindsOn : ServerEnd → ℕ → Course S J A → Result Bool Error → Course S J A → Type 0
     WindsOn end count old (Ok false) new = (new ≡ old)
         × ((slab_len old.own.connections.peers ≡ 0) ⊎ AreLate count old)
-    WindsOn end count old (Ok true) new = does old.around (Pause (Ok tt)) new.around
+    WindsOn end count old (Ok true) new = (slab_len old.own.connections.peers ≢ 0) × IsInTime count old
+        × does old.around (Pause (Ok tt)) new.around
         × Finishes calls streams end old.own new.own × (new ≡ record old { around = new.around; own = new.own })
     WindsOn end count old (Err error) new =
         does old.around (Pause (Err error)) new.around × (new ≡ record old { around = new.around })

@@ -1,6 +1,6 @@
 //! A loop with what it has around it, from its first turn to its last one.
 
-ghost use Rattle.std.specs.Prelude.{◌≡◌, IfOk, None, Ok, false};
+ghost use Rattle.std.specs.Prelude.{◌≡◌, Err, IfErr, IfOk, None, Ok, false};
 ghost use Rattle.server_loop.specs.Submitting.{state_of};
 ghost use Rattle.server_turns.specs.Course.{Course, course_of};
 ghost use Rattle.server_turns.specs.Rounds.{GoesRound, Serves, TakesTurns};
@@ -42,6 +42,7 @@ impl<S: PeerStream + Drop, G: Gate + Drop, J: SessionSeat + Drop, A: Around<S> +
           around = around;
           loops = loops;
           count = 0;
+          pace = record { much = None; awaits_echo = false; drawn = None; since = None };
           is_asked = false;
           ended = None;
         } }
@@ -101,8 +102,10 @@ impl<S: PeerStream + Drop, G: Gate + Drop, J: SessionSeat + Drop, A: Around<S> +
 
     /// Waits until all loops are ready, has turns until the server ends, and returns the seat.
     pub fn serve<R: Clock + Wait>(mut self, rt: &R) -> io::Result<J>
-        ensures { IfOk result (λ seat. (left : Course S J A) × (seat ≡ left.own.seat)
+        ensures ok { IfOk result (λ seat. (left : Course S J A) × (seat ≡ left.own.seat)
             × Serves J.SessionSeat S.PeerStream A.does A.wires (course_of self) (Ok tt) left) }
+        ensures err { IfErr result (λ error. (left : Course S J A)
+            × Serves J.SessionSeat S.PeerStream A.does A.wires (course_of self) (Err error) left) }
     {
         match self.serve_if(rt) {
             Ok(()) => {

@@ -16,7 +16,7 @@ module _ {R A B C : Type 0} (system : Ghosts R A B C) (reads : List ℕ → Resu
     (host : R) (o : Options) where
   kept_for : (b : ServerStart) (result : Result KeptSession ServeFault) → IsStartOf system reads host o b
       → IfOk result (λ (k : KeptSession). users_of k.session ≡ b.users)
-      → IfOk result (λ (k : KeptSession). setup_of k.session ≡ b.setup.file.items)
+      → IfOk result (λ (k : KeptSession). setup_of k.session ≡ b.setup.items)
       → IfOk result (λ (k : KeptSession). agrees k.session ≡ true)
       → IfOk result (λ (k : KeptSession). is_some k.trail ≡ is_some o.trail)
       → IfOk result (IsKeptFor system reads host o)

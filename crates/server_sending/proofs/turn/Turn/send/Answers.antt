@@ -1,6 +1,6 @@
 use Rattle.std.proofs.Common.{arith, drop, subst, sym, List, ◌≡◌, ◌+◌, ◌-◌, ◌∙◌, ap}
 use Rattle.std.proofs.lemmas.Grind.{common_steps}
-use Rattle.server_sending.specs.Written.{AreWithin, Waiting}
+use Rattle.server_sending.specs.Written.{AreWithin, Waiting, unbegun}
 use Rattle.server_sending.specs.declared.typists.TypedFrame.{TypedFrame}
 use Rattle.server_sending.proofs.Typing.{within_sent}
 use Rattle.server_sending.proofs.Writing.{kept, moved}
@@ -18,21 +18,16 @@ returns-clause-written g c = λ put w.
     ∙ (ap (λ xs. drop inside.sent xs) c.as_slice.ensures.value
     ∙ ap (λ (w : Waiting). w.unsent) c.self.view_is) in
     moved _ _ c.in_ok-taken.taken c.args.self.now _ (rw (← unsent) c.in_ok-taken.ensures.bytes) (rw
-    (← c.self.view_is) rest) put w
+    (← c.self.view_is) (c.shrink.ensures.rest ∙ rest)) put w
 
 pub invariant_of-self : goal.invariant_of-self
 invariant_of-self g c =
     let sent = c.self.inside.sent in
     let taken = c.in_ok-taken.taken in
     let len = c.self.inside.bytes.len in (
-      omega (
-        arith,
-        c.self.invariant.0,
-        c.in_ok-taken.ensures.bound,
-        c.split_at.ensures.back_len,
-        c.as_slice.ensures.len,
-      ),
-      c.self.invariant.1,
-      subst (λ (l : List TypedFrame). AreWithin 0 l (len - (sent + taken))) (sym c.forget_begun.ensures)
-          (within_sent c.self.inside.typed.items sent taken len c.self.invariant.2),
+      c.shrink.ensures.few,
+      λ e. omega (arith, c.self.invariant.1 e, c.shrink.ensures.less, c.shrink.ensures.room),
+      subst (λ (l : List TypedFrame). AreWithin 0 l (c.shrink.new.bytes.len - c.shrink.result))
+          (sym c.forget_begun.ensures) (subst (AreWithin 0 (unbegun taken c.self.inside.typed.items))
+          (sym c.shrink.ensures.len) (within_sent c.self.inside.typed.items sent taken len c.self.invariant.2)),
     )
