@@ -18,16 +18,16 @@ returns-clause-written g c = λ put w.
     ∙ (ap (λ xs. drop inside.sent xs) c.as_slice.ensures.value
     ∙ ap (λ (w : Waiting). w.unsent) c.self.view_is) in
     moved _ _ c.in_ok-taken.taken c.args.self.now _ (rw (← unsent) c.in_ok-taken.ensures.bytes) (rw
-    (← c.self.view_is) (c.shrink.ensures.rest ∙ rest)) put w
+    (← c.self.view_is) (c.shrink-self-inside.ensures.rest ∙ rest)) put w
 
 pub invariant_of-self : goal.invariant_of-self
 invariant_of-self g c =
     let sent = c.self.inside.sent in
     let taken = c.in_ok-taken.taken in
     let len = c.self.inside.bytes.len in (
-      c.shrink.ensures.few,
-      λ e. omega (arith, c.self.invariant.1 e, c.shrink.ensures.less, c.shrink.ensures.room),
-      subst (λ (l : List TypedFrame). AreWithin 0 l (c.shrink.new.bytes.len - c.shrink.result))
+      c.shrink-self-inside.ensures.few,
+      λ e. omega (arith, c.self.invariant.1 e, c.shrink-self-inside.ensures.less, c.shrink-self-inside.ensures.room),
+      subst (λ (l : List TypedFrame). AreWithin 0 l (c.shrink-self-inside.new.bytes.len - c.shrink-self-inside.result))
           (sym c.forget_begun.ensures) (subst (AreWithin 0 (unbegun taken c.self.inside.typed.items))
-          (sym c.shrink.ensures.len) (within_sent c.self.inside.typed.items sent taken len c.self.invariant.2)),
+          (sym c.shrink-self-inside.ensures.len) (within_sent c.self.inside.typed.items sent taken len c.self.invariant.2)),
     )
