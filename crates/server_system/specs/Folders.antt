@@ -1,6 +1,11 @@
 -- Who could replace what is in a folder.
-use Rattle.std.specs.Prelude.{◌≡◌, ℕ, Bool, true, List, [], Option, Some, None, codes}
-use Rattle.std.specs.Path.{path_parent}
+use Rattle.std.specs.Prelude.{◌≡◌, ◌⊎◌, ℕ, Bool, true, List, [], Option, Some, None, Result, Ok, Err, codes}
+use Rattle.std.specs.IoError.{error_kind}
+use Rattle.std.specs.Path.{path_buf_bytes, path_parent}
+use Rattle.std.specs.declared.alloc.Global.{Global}
+use Rattle.std.specs.declared.io.Error.{Error}
+use Rattle.std.specs.declared.io.ErrorKind.TheVariants.{OutOfMemory}
+use Rattle.std.specs.declared.path.PathBuf.{PathBuf}
 use Rattle.server_users.specs.Trust.{IsKeptFolder}
 use Rattle.server_users.specs.declared.trust.Access.{Access}
 use Rattle.server_system.specs.declared.folders.OpenFolder.{OpenFolder}
@@ -40,19 +45,43 @@ module _ {R A B C : Type 0} (system : Ghosts R A B C) (host : R) where
   -- a folder was found in which nobody but the account and root can replace what is theirs
   abbrev pub IsTrusted : ℕ → List ℕ → Type 0
   IsTrusted account folder =
-      (found : Stamp) × system.finds host folder found × IsKeptFolder account (access_of found)
+      (found : Stamp) × system.finds host folder (Ok found) × IsKeptFolder account (access_of found)
 
   -- so was the one that holds what is at a path, for the account that the program runs as
   pub record IsHeld (path : List ℕ) : Type 0 where
     pub account : ℕ
     pub runs : system.runs_as host account
-    pub folder : List ℕ
-    pub leads : system.leads host (holder_of path) folder
-    pub trusted : IsTrusted account folder
+    pub folder : PathBuf Global
+    pub leads : system.leads host (holder_of path) (Ok folder)
+    pub trusted : IsTrusted account (path_buf_bytes folder)
 
   -- so were the one that holds a file, and the one that holds what the file leads to
   pub record IsHeldFile (path : List ℕ) : Type 0 where
     pub held : IsHeld path
-    pub there : List ℕ
-    pub leads : system.leads host path there
-    pub held_there : IsHeld there
+    pub there : PathBuf Global
+    pub leads : system.leads host path (Ok there)
+    pub held_there : IsHeld (path_buf_bytes there)
+
+  -- a folder's stamp isn't told, or there is no memory
+  abbrev pub IsUnseen : Error → Type 0
+  IsUnseen why = ((folder : List ℕ) × system.finds host folder (Err why)) ⊎ (error_kind why ≡ OutOfMemory)
+
+  -- what was found of the folders from the first one up, or why that can't be told
+  abbrev pub IsClimbed : ℕ → List ℕ → Result (Option OpenFolder) Error → Type 0
+  IsClimbed account first (Ok found) = Looked (IsTrusted account) first found
+  IsClimbed account first (Err why) = IsUnseen why
+
+  -- it isn't told where the folder is that holds what is at a path, or what it is
+  abbrev pub IsUntold : List ℕ → Error → Type 0
+  IsUntold path why = system.leads host (holder_of path) (Err why) ⊎ IsUnseen why
+
+  -- so of the folders that hold what is at a path
+  abbrev pub IsLooked : List ℕ → Result (Option OpenFolder) Error → Type 0
+  IsLooked path (Ok found) = may_pass found ≡ true → IsHeld path
+  IsLooked path (Err why) = IsUntold path why
+
+  -- so of the folders that hold a file, and of those that hold what the file leads to
+  abbrev pub IsLookedFile : List ℕ → Result (Option OpenFolder) Error → Type 0
+  IsLookedFile path (Ok found) = may_pass found ≡ true → IsHeldFile path
+  IsLookedFile path (Err why) = IsUntold path why ⊎ system.leads host path (Err why)
+      ⊎ ((there : PathBuf Global) × system.leads host path (Ok there) × IsUntold (path_buf_bytes there) why)

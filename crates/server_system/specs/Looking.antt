@@ -1,13 +1,18 @@
 -- The users' file: when it is read, and what is taken from it.
 use Rattle.std.specs.Prelude.{◌≡◌, ◌⊎◌, ◌==◌, ℕ, ◌+◌, ◌-◌, ◌^◌, ◌<◌, ◌≤◌, List, length, Option, Some, None, Result, Ok}
 use Rattle.std.specs.Prelude.{Err, bit_and, false, if◌then◌else◌, min, slice_get}
+use Rattle.std.specs.Result.{result_ok}
+use Rattle.std.specs.String.{string_bytes}
+use Rattle.std.specs.declared.alloc.Global.{Global}
+use Rattle.std.specs.declared.io.Error.{Error}
+use Rattle.std.specs.declared.vec.Vec.{Vec}
 use Rattle.acl.specs.Names.{name_of}
 use Rattle.acl.specs.Same.{same_user}
 use Rattle.acl.specs.declared.user_id.UserId.{UserId}
 use Rattle.server_users.specs.Entries.{Entry, IsFileOf, names}
 use Rattle.server_users.specs.Stands.{Breaks}
 use Rattle.server_users.specs.Trust.{IsClosed, IsKept, IsOwn}
-use Rattle.server_system.specs.Folders.{IsHeldFile, access_of}
+use Rattle.server_system.specs.Folders.{IsHeldFile, IsLookedFile, access_of}
 use Rattle.server_system.specs.declared.fault.UsersFileFault.{UsersFileFault}
 use Rattle.server_system.specs.declared.fault.UsersFileFault.TheVariants as fault
 use Rattle.server_system.specs.declared.host.Host.{Ghosts}
@@ -36,21 +41,50 @@ pub record IsReadOf {R A B C : Type 0} (system : Ghosts R A B C) (host : R) (pat
     (stamp : Stamp)
     : Type 0 where
   pub held : IsHeldFile system host path
-  pub found : system.finds host path stamp
+  pub found : system.finds host path (Ok stamp)
   pub plain : IsPlain stamp
-  pub file : List ℕ
-  pub read : system.reads host path 1048577 file
+  pub file : Vec ℕ Global
+  pub read : system.reads host path 1048577 (Ok file)
   pub account : ℕ
   pub runs : system.runs_as host account
-  pub are : AreOf account stamp file users
+  pub are : AreOf account stamp file.items users
 
-abbrev pub IsWrong : ℕ → Stamp → List ℕ → UsersFileFault → Type 0
-IsWrong account stamp file (fault.Foreign path number) = IsOwn account (access_of stamp) → ⊥
-IsWrong account stamp file (fault.Writable path) = IsClosed (access_of stamp) → ⊥
-IsWrong account stamp file (fault.TooLarge path) = 1048576 < length file
-IsWrong account stamp file (fault.Users path why) = Breaks file why
-IsWrong account stamp file fault.NoMemory = Unit {0}
-IsWrong account stamp file other = ⊥
+-- what is wrong with the file at a path, for an account; the fault names both
+module _ (path : List ℕ) (account : ℕ) (stamp : Stamp) (file : List ℕ) where
+  abbrev pub IsWrong : UsersFileFault → Type 0
+  IsWrong (fault.Foreign at number) =
+      (string_bytes at ≡ path) × (number ≡ account) × (IsOwn account (access_of stamp) → ⊥)
+  IsWrong (fault.Writable at) = (string_bytes at ≡ path) × (IsClosed (access_of stamp) → ⊥)
+  IsWrong (fault.TooLarge at) = (string_bytes at ≡ path) × (1048576 < length file)
+  IsWrong (fault.Users at why) = (string_bytes at ≡ path) × Breaks file why
+  IsWrong fault.NoMemory = Unit {0}
+  IsWrong other = ⊥
+
+module _ {R A B C : Type 0} (system : Ghosts R A B C) (host : R) (path : List ℕ) where
+  -- the system doesn't tell what is at the path, or tells that it is no plain file; or a folder is open
+  abbrev pub IsUnfound : UsersFileFault → Type 0
+  IsUnfound (fault.NoFile at why) = (string_bytes at ≡ path) × (IsLookedFile system host path (Err why.0)
+      ⊎ system.finds host path (Err why.0) ⊎ system.reads host path 1048577 (Err why.0))
+  IsUnfound (fault.NotPlain at) =
+      (string_bytes at ≡ path) × (stamp : Stamp) × system.finds host path (Ok stamp) × (IsPlain stamp → ⊥)
+  IsUnfound (fault.Folder at folder) = string_bytes at ≡ path
+  IsUnfound fault.NoMemory = Unit {0}
+  IsUnfound other = ⊥
+
+  -- why no users are read: nothing was, or what was read is wrong
+  abbrev pub IsUnreadOf : UsersFileFault → Type 0
+  IsUnreadOf why = IsUnfound why ⊎ ((account : ℕ) × (stamp : Stamp) × (file : Vec ℕ Global)
+      × system.runs_as host account × system.finds host path (Ok stamp) × system.reads host path 1048577 (Ok file)
+      × IsWrong path account stamp file.items why)
+
+  -- what was read: the users of the file, or why there are none
+  abbrev pub IsReadAs : Result (List Entry) UsersFileFault → Type 0
+  IsReadAs (Ok users) = (stamp : Stamp) × IsReadOf system host path users stamp
+  IsReadAs (Err why) = IsUnreadOf why
+
+  -- the stamp that the system told; None if it told why it can't
+  abbrev pub IsFoundAs : Option Stamp → Type 0
+  IsFoundAs found = (told : Result Stamp Error) × system.finds host path told × (found ≡ result_ok told)
 
 -- what is remembered of a look, which found the file so, and this fault
 abbrev pub after_look : Option Stamp → Option UsersFileFault → LastLook → LastLook

@@ -1,5 +1,8 @@
 //! What can be wrong with a socket or with a users' file, and what to do about it.
 
+ghost use Rattle.std.specs.Prelude.{◌≡◌};
+ghost use Rattle.server_system.specs.declared.fault.UsersFileFault.TheVariants as fault;
+
 use crate::folders::OpenFolder;
 use program_words::SystemError;
 use server_users::UsersFault;
@@ -67,6 +70,8 @@ pub enum UsersFileFault {
 }
 
 impl From<AllocError> for UsersFileFault {
+    ghost from_gives = { λ _ why. why ≡ fault.NoMemory };
+
     fn from(_error: AllocError) -> UsersFileFault {
         UsersFileFault::NoMemory
     }

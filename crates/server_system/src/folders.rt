@@ -1,8 +1,8 @@
 //! Who could replace what is in a folder.
 
-ghost use Rattle.std.specs.Prelude.{◌≡◌, IfOk, None, Some, true};
+ghost use Rattle.std.specs.Prelude.{◌≡◌};
 ghost use Rattle.std.specs.Path.{path_bytes};
-ghost use Rattle.server_system.specs.Folders.{IsHeld, IsTrusted, Looked, holder_of, may_pass};
+ghost use Rattle.server_system.specs.Folders.{IsClimbed, IsLooked, holder_of, may_pass};
 
 use crate::host::Host;
 use server_users::Flaw;
@@ -42,10 +42,7 @@ impl Display for OpenFolder {
 pub fn may_pass(found: &Option<OpenFolder>) -> bool
     ensures { result ≡ may_pass found.now }
 {
-    match found {
-        Some(folder) => folder.is_above,
-        None => true,
-    }
+    matches!(found, None | Some(OpenFolder { is_above: true, .. }))
 }
 
 // The folder that holds what is at a path.
@@ -58,21 +55,13 @@ fn holder(path: &str) -> &str
     }
 }
 
-// Why others than this account and root could replace what is in a folder.
-fn flaw_of<R: Host>(host: &R, account: u32, folder: &str) -> io::Result<Option<Flaw>>
-    ensures { IfOk result (λ flaw. flaw ≡ None → IsTrusted R.Host host.now account folder.now) }
-{
-    let found = host.stamp(folder)?;
-    Ok(found.access().folder_flaw(account))
-}
-
 // The first open folder, from this one up to the root.
 fn first_open<R: Host>(host: &R, account: u32, holder: Path<'_>) -> io::Result<Option<OpenFolder>>
-    ensures { IfOk result (Looked (IsTrusted R.Host host.now account) (path_bytes holder.entry)) }
+    ensures { IsClimbed R.Host host.now account (path_bytes holder.entry) result }
 {
     let mut is_above = false;
     for folder in holder.ancestors() {
-        if let Some(flaw) = flaw_of(host, account, folder.as_str())? {
+        if let Some(flaw) = host.stamp(folder.as_str())?.access().folder_flaw(account) {
             return Ok(Some(OpenFolder {
                 path: String::from_str(host.alloc(), folder.as_str())?,
                 flaw,
@@ -87,7 +76,7 @@ fn first_open<R: Host>(host: &R, account: u32, holder: Path<'_>) -> io::Result<O
 
 /// The first folder, from the one that holds this path up to the root, in which others could replace what is there.
 pub fn open_folder<R: Host>(host: &R, path: &str) -> io::Result<Option<OpenFolder>>
-    ensures held { IfOk result (λ found. may_pass found ≡ true → IsHeld R.Host host.now path.now) }
+    ensures { IsLooked R.Host host.now path.now result }
 {
     let there = host.place_of(holder(path))?;
     first_open(host, host.account(), there.as_path())

@@ -15,23 +15,26 @@ use std::{fs, io};
 /// A runtime with all that a server asks for, except to wait and to start threads: a function says these
 /// two itself, as they let it never return. Only a call shows what the system answered.
 pub trait Host: Net + Files<File = File> + Clock + AllocGlobal + Copy {
-    ghost use Rattle.std.specs.Prelude.{ℕ, Bool, IfOk, List};
-    ghost use Rattle.std.specs.Path.{path_buf_bytes};
+    ghost use Rattle.std.specs.Prelude.{ℕ, Bool, IfOk, List, Result};
     ghost use Rattle.std.specs.String.{string_bytes};
+    ghost use Rattle.std.specs.declared.alloc.Global.{Global};
+    ghost use Rattle.std.specs.declared.io.Error.{Error};
+    ghost use Rattle.std.specs.declared.path.PathBuf.{PathBuf as Place};
+    ghost use Rattle.std.specs.declared.vec.Vec.{Vec as Bytes};
     ghost use Rattle.mio.specs.declared.net.uds.listener.UnixListener.{UnixListener as Listener};
     ghost use Rattle.server_system.specs.declared.users_file.Stamp.{Stamp as Stamped};
 
     // The account that the program runs as.
     ghost runs_as: { Self → ℕ → Type 0 };
 
-    // A path, and where it leads through all links.
-    ghost leads: { Self → List ℕ → List ℕ → Type 0 };
+    // A path, and where it leads through all links, or why the system doesn't tell.
+    ghost leads: { Self → List ℕ → Result (Place Global) Error → Type 0 };
 
-    // A path, and the stamp of what is there.
-    ghost finds: { Self → List ℕ → Stamped → Type 0 };
+    // A path, and the stamp of what is there, or why the system doesn't tell.
+    ghost finds: { Self → List ℕ → Result Stamped Error → Type 0 };
 
-    // A path, the most bytes that are read, and the first bytes of its file.
-    ghost reads: { Self → List ℕ → ℕ → List ℕ → Type 0 };
+    // A path, the most bytes that are read, and the first bytes of its file, or why they can't be read.
+    ghost reads: { Self → List ℕ → ℕ → Result (Bytes ℕ Global) Error → Type 0 };
 
     // A path, and whether a socket is there itself, and no link to one.
     ghost sockets: { Self → List ℕ → Bool → Type 0 };
@@ -46,13 +49,13 @@ pub trait Host: Net + Files<File = File> + Clock + AllocGlobal + Copy {
         ensures { runs_as self.now result };
 
     fn place_of(&self, path: &str) -> io::Result<PathBuf>
-        ensures { IfOk result (λ there. leads self.now path.now (path_buf_bytes there)) };
+        ensures { leads self.now path.now result };
 
     fn stamp(&self, path: &str) -> io::Result<Stamp>
-        ensures { IfOk result (finds self.now path.now) };
+        ensures { finds self.now path.now result };
 
     fn first_bytes(&self, path: &str, most: u64) -> io::Result<Vec<u8>>
-        ensures { IfOk result (λ bytes. reads self.now path.now most bytes.items) };
+        ensures { reads self.now path.now most result };
 
     fn is_socket(&self, path: &str) -> io::Result<bool>
         ensures { IfOk result (sockets self.now path.now) };

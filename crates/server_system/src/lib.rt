@@ -4,6 +4,7 @@
 mod fault;
 mod folders;
 mod host;
+mod leaving;
 mod log;
 mod looks;
 mod socket;

@@ -109,12 +109,10 @@ impl Log {
             Some(time) => writeln!(line, "muxd: {time} {what}"),
             None => writeln!(line, "muxd: {what}"),
         };
-        let mut waiting = self.waiting.lock(rt);
         match is_made {
-            Ok(()) => waiting.put(&line),
-            Err(_) => waiting.leave_out(),
+            Ok(()) => self.waiting.lock(rt).put(&line),
+            Err(_) => self.waiting.lock(rt).leave_out(),
         }
-        drop(waiting);
         self.news.notify_one();
     }
 
@@ -185,8 +183,7 @@ impl Log {
 
 // The time of day, in seconds.
 fn time<R: Clock>(rt: &R) -> Option<Timestamp> {
-    let now = rt.since_1970().ok()?;
-    Timestamp::from_second(i64::try_from(now.as_secs()).ok()?).ok()
+    Timestamp::from_second(i64::try_from(rt.since_1970().ok()?.as_secs()).ok()?).ok()
 }
 
 /// A pipe, a terminal or a socket that has room takes this many bytes without waiting.

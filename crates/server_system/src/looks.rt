@@ -169,10 +169,8 @@ impl SharedLooks for Looks {
     }
 
     fn end(&mut self, owner: UserId, found: FoundLook) {
-        let FoundLook {
-            look: BegunLook { number },
-            found,
-        } = found;
+        let FoundLook { look, found } = found;
+        let BegunLook { number } = look;
         self.done = number;
         match found {
             Some(Ok(users)) if users.owner() == owner => {
@@ -187,14 +185,13 @@ impl SharedLooks for Looks {
     }
 
     fn newest(&self, alloc: Global, count: u64) -> Option<KnownUsers> {
-        let (look, count_now) = (self.done, self.count);
         let mut users = None;
-        if count_now != count {
+        if self.count != count {
             users = Some(self.users.as_ref()?.copy(alloc).ok()?);
         }
         Some(KnownUsers {
-            look,
-            count: count_now,
+            look: self.done,
+            count: self.count,
             users,
         })
     }

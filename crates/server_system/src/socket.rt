@@ -1,12 +1,11 @@
 //! The socket that a server listens on.
 
-ghost use Rattle.std.specs.Prelude.{◌≡◌, IfOk, true};
+ghost use Rattle.std.specs.Prelude.{◌≡◌, IfOk, IfSome, true};
 ghost use Rattle.server_system.specs.Paths.{ListensAt, socket_path};
 
 use crate::fault::{SocketCause, SocketFault};
 use crate::folders::{OpenFolder, open_folder};
 use crate::host::Host;
-use crate::log::LastLoop;
 use mio::net::{UnixListener, UnixStream};
 use std::alloc::Global;
 use std::fs::{self, File, Files, OpenOptions, TryLockError};
@@ -16,9 +15,6 @@ use std::sync::{Mutex, Wait};
 
 // The longest path of a socket, in bytes.
 const LONGEST: usize = 107;
-
-// The mode that lets everybody connect.
-const OTHERS_WRITE: u32 = 0o002;
 
 /// The path of a server's socket. Only the server that holds the lock beside it makes, replaces and removes the socket.
 #[derive(Drop)]
@@ -44,11 +40,9 @@ fn is_there<R: Host>(rt: &R, path: &str) -> Result<bool, SocketCause>
 fn is_served<R: Host>(rt: &R, path: &str) -> io::Result<bool> {
     match UnixStream::connect(rt, path) {
         Ok(_) => Ok(true),
-        Err(error) => match error.kind() {
-            ErrorKind::WouldBlock => Ok(true),
-            ErrorKind::ConnectionRefused => Ok(false),
-            _ => Err(error),
-        },
+        Err(error) if error.kind() == ErrorKind::WouldBlock => Ok(true),
+        Err(error) if error.kind() == ErrorKind::ConnectionRefused => Ok(false),
+        Err(error) => Err(error),
     }
 }
 
@@ -151,23 +145,13 @@ impl SocketPath<'_> {
 
     /// Whether the socket's mode lets everybody on the machine connect.
     pub fn is_open<R: Host>(&self, rt: &R) -> bool {
-        fs::symlink_metadata(rt, self.path).is_ok_and(|found| found.mode() & OTHERS_WRITE != 0)
+        fs::symlink_metadata(rt, self.path).is_ok_and(|found| found.mode() & 0o002 != 0)
     }
 
-    /// Removes the socket after the last loop, as `end` does.
-    pub fn leave<F: Host>(&self, rt: &impl Wait, files: &F, _last: LastLoop) {
-        self.remove(rt, files);
-    }
-
-    /// Removes the socket, once, then releases the lock. A socket that can't be removed is no fault of the session.
-    pub fn end<F: Host>(self, rt: &impl Wait, files: &F) {
-        self.remove(rt, files);
-    }
-
-    fn remove<F: Host>(&self, rt: &impl Wait, files: &F) {
-        let lock = self.lock.lock(rt).take();
-        if lock.is_some() {
-            let _: io::Result<()> = fs::remove_file(files, self.path);
-        }
+    /// The path, with the lock that lets its holder remove the socket; None after that was taken.
+    pub(crate) fn take(&self, rt: &impl Wait) -> Option<(&str, File)>
+        ensures { IfSome result (λ held. held.0.now ≡ socket_path self.now) }
+    {
+        Some((self.path, self.lock.lock(rt).take()?))
     }
 }

@@ -1,13 +1,14 @@
 //! The users' file, and whether it has changed.
 
-ghost use Rattle.std.specs.Prelude.{◌≡◌, Err, IfErr, IfOk, IfSome, None, OnOk, Some, false, take, true};
+ghost use Rattle.std.specs.Prelude.{◌≡◌, Err, IfErr, IfOk, IfSome, None, OnOk, Some, false, take};
 ghost use Rattle.std.specs.Fs.{metadata_len, metadata_mode};
 ghost use Rattle.std.specs.Option.{option_copied};
-ghost use Rattle.server_system.specs.Folders.{IsHeldFile, access_of, may_pass};
-ghost use Rattle.server_system.specs.Looking.{AreOf, IsReadOf, IsWrong, LooksAt, MayBeTold, after_look};
+ghost use Rattle.std.specs.String.{string_bytes};
+ghost use Rattle.server_system.specs.Folders.{IsHeldFile, IsLookedFile, access_of};
+ghost use Rattle.server_system.specs.Looking.{AreOf, IsFoundAs, IsReadAs, IsReadOf, IsUnfound, IsUnreadOf, IsWrong};
+ghost use Rattle.server_system.specs.Looking.{LooksAt, MayBeTold, after_look};
 ghost use Rattle.server_system.specs.Paths.{users_path};
 ghost use Rattle.server_system.specs.declared.fault.UsersFileFault.TheVariants.{NoMemory};
-ghost use Rattle.server_system.specs.declared.users_file.Stamp.{Stamp as Found};
 
 use crate::fault::UsersFileFault;
 use crate::folders::{OpenFolder, may_pass, open_folder};
@@ -88,7 +89,7 @@ fn users_of(
     file: &[u8],
 ) -> Result<Users, UsersFileFault>
     ensures ok { IfOk result (AreOf account stamp.now file.now) }
-    ensures err { IfErr result (IsWrong account stamp.now file.now) }
+    ensures err { IfErr result (IsWrong (string_bytes path) account stamp.now file.now) }
 {
     match stamp.access().flaw(account) {
         Some(Flaw::Owner) => return Err(UsersFileFault::Foreign(path, account)),
@@ -148,8 +149,7 @@ impl<H: Host> UsersFile<H> {
     /// The first folder in which others could replace the file: of those that hold it, and of those that hold
     /// what it is a link to. One that holds it, or that, comes before those above.
     pub fn open_folder(&self) -> io::Result<Option<OpenFolder>>
-        ensures { IfOk result (λ found. may_pass found ≡ true
-            → IsHeldFile H.Host self.now.host (users_path self.now)) }
+        ensures { IsLookedFile H.Host self.now.host (users_path self.now) result }
     {
         let named = open_folder(&self.host, self.path.as_str())?;
         if !may_pass(&named) {
@@ -166,7 +166,8 @@ impl<H: Host> UsersFile<H> {
 
     // Looks at the folders of the file.
     fn look(&self) -> Result<(), UsersFileFault>
-        ensures { OnOk result (IsHeldFile H.Host self.now.host (users_path self.now)) }
+        ensures ok { OnOk result (IsHeldFile H.Host self.now.host (users_path self.now)) }
+        ensures err { IfErr result (IsUnfound H.Host self.now.host (users_path self.now)) }
     {
         let path = String::from_str(self.host.alloc(), self.path.as_str())?;
         match self.open_folder() {
@@ -180,6 +181,7 @@ impl<H: Host> UsersFile<H> {
     /// Reads the users and the stamp of a plain file of at most 1,048,576 bytes, which others can't write or replace.
     pub fn read(&self) -> Result<(Users, Stamp), UsersFileFault>
         ensures ok { IfOk result (λ read. IsReadOf H.Host self.now.host (users_path self.now) read.0 read.1) }
+        ensures err { IfErr result (IsUnreadOf H.Host self.now.host (users_path self.now)) }
     {
         self.look()?;
         let path = String::from_str(self.host.alloc(), self.path.as_str())?;
@@ -199,10 +201,9 @@ impl<H: Host> UsersFile<H> {
 }
 
 impl<H: Host> UsersSource for UsersFile<H> {
-    ghost finds = { λ file found. IfSome found (H.Host.finds file.host (users_path file)) };
+    ghost finds = { λ file found. IsFoundAs H.Host file.host (users_path file) found };
 
-    ghost reads = { λ file read. IfOk read (λ users.
-        (stamp : Found) × IsReadOf H.Host file.host (users_path file) users stamp) };
+    ghost reads = { λ file read. IsReadAs H.Host file.host (users_path file) read };
 
     fn path(&self) -> &str {
         self.path.as_str()
@@ -213,7 +214,8 @@ impl<H: Host> UsersSource for UsersFile<H> {
     }
 
     fn read(&self) -> Result<Users, UsersFileFault> {
-        UsersFile::read(self).map(|(users, _stamp)| users)
+        let (users, _stamp) = UsersFile::read(self)?;
+        Ok(users)
     }
 }
 
@@ -237,8 +239,7 @@ impl LastLook {
         }
     }
 
-    // The file can't be read, or others can replace it. The answer is whether that is news: it is told once,
-    // and the file is read again at the next look.
+    // The file can't be read, or others can replace it. Returns whether that is news; the next look reads it again.
     fn fails(&mut self, found: Option<Stamp>) -> bool
         ensures seen { self.new ≡ record { stamp = None; failed = Some found } }
         ensures told { result ≡ false → self.old.failed ≡ Some found }

@@ -27,8 +27,7 @@ const MOST: i32 = 1_048_576;
 fn set_unread<S: AsRawFd>(stream: &S, bytes: i32) {
     let mut value = [0u8; 16];
     value[..4].copy_from_slice(&bytes.to_ne_bytes());
-    let fd = stream.as_raw_fd();
-    let _ = unsafe { c::setsockopt(fd, c::SOL_SOCKET, c::SO_SNDBUF, &value, 4) };
+    let _ = unsafe { c::setsockopt(stream.as_raw_fd(), c::SOL_SOCKET, c::SO_SNDBUF, &value, 4) };
 }
 
 /// A stream that a loop waits for.
@@ -84,11 +83,10 @@ impl PolledStream for PeerSocket<'_> {
     ghost wakes = { λ socket room left. Unit {0} };
 
     fn wake_for(&mut self, room: bool) -> io::Result<()> {
-        let interest = if room {
-            Interest::READABLE | Interest::WRITABLE
-        } else {
-            Interest::READABLE
-        };
+        let mut interest = Interest::READABLE;
+        if room {
+            interest = interest | Interest::WRITABLE;
+        }
         self.registry
             .reregister(&mut self.stream, self.token, interest)
     }
