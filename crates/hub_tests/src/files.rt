@@ -45,7 +45,7 @@ fn record<R: Threads + Wait + Clock + Sync>(
             }
         }
         let written = recorder.write_all(rt, disk);
-        recorder.end(rt, disk, written, Cause::Quit)
+        recorder.end(rt, disk, written, Some(Cause::Quit)).is_ok()
     })
 }
 

@@ -28,11 +28,11 @@ fn stops(rt: &impl Wait, alloc: Global) -> Option<(Option<StopCause>, Option<Sto
     for place in 0..2_000 {
         let _ = recorder.put(rt, place, Some(&entry));
     }
-    let before = recorder.stopped();
+    let before = recorder.stop().map(|stopped| stopped.cause());
     for place in 2_000..2_060 {
         let _ = recorder.put(rt, place, Some(&entry));
     }
-    Some((before, recorder.stopped()))
+    Some((before, recorder.stop().map(|stopped| stopped.cause())))
 }
 
 #[test]
@@ -52,7 +52,7 @@ fn stopped<R: Wait + Clock>(rt: &R, alloc: Global, disk: &mut MemoryFile<'_, R>)
     recorder.leave(rt);
     let written = recorder.write_all(rt, disk);
     let is_two = written.entries() == 2;
-    Some(recorder.end(rt, disk, written, Cause::Memory) && is_two)
+    Some(recorder.end(rt, disk, written, Some(Cause::Memory)).is_ok() && is_two)
 }
 
 // Whether nothing is taken after a refusal: two lines and the last one are written.

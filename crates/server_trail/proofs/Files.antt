@@ -3,6 +3,7 @@ use Rattle.std.proofs.Common.{◌≡◌, ℕ, ◌+◌, ◌<◌, List, [], ◌∷
 use Rattle.std.proofs.Common.{Some, None, refl, sym, ◌∙◌, ap, subst, arith, append_assoc}
 use Rattle.std.specs.Prelude.{slice_get}
 use Rattle.std.specs.Io.KnownBytes.{Appends}
+use Rattle.std.proofs.KnownBytes.{Appends-trans}
 use Rattle.std.proofs.lemmas.List.{take_more}
 use Rattle.std.proofs.Math.Seq.{take-add}
 use Rattle.std.proofs.lemmas.Option.{slice_get_within, get_or_from_slice_get}
@@ -18,11 +19,7 @@ use Rattle.server_trail.specs.Files.{Cuts, AreLines, Reads, ReadsLines}
 -- and more after it
 pub both : (old mid new : Option (List ℕ)) (a b c : List ℕ) → Appends old mid a
     → Appends mid new b → a ++ b ≡ c → Appends old new c
-both None mid new a b c p q e = tt
-both (Some xs) None new a b c p q e = absurd p
-both (Some xs) (Some ys) None a b c p q e = absurd q
-both (Some xs) (Some ys) (Some zs) a b c p q e =
-    q ∙ (ap (λ l. l ++ b) p ∙ (append_assoc xs a b ∙ ap (λ l. xs ++ l) e))
+both old mid new a b c p q e = subst (Appends old new) e (Appends-trans old mid new a b p q)
 
 pub two_parts : (bytes : List ℕ) (n k : ℕ)
     → take n bytes ++ take k (drop n bytes) ≡ take (n + k) bytes

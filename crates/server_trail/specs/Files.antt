@@ -1,6 +1,8 @@
 -- A trail's file: the bytes that were written, and the trail that it has when it is read back.
 use Rattle.std.specs.Prelude.{◌≡◌, ℕ, ◌+◌, Bool, true, false, List, [], ◌∷◌, ◌++◌, length, take, Option, Some, None}
+use Rattle.std.specs.Prelude.{Result, Ok, Err, is_ok}
 use Rattle.std.specs.Io.KnownBytes.{Appends, Keeps}
+use Rattle.std.specs.declared.io.Error.{Error}
 use Rattle.acl.specs.declared.leaders.Edition.TheVariants as edition
 use Rattle.acl.specs.declared.user_id.UserId.{UserId}
 use Rattle.hub.specs.Trails.{Entry}
@@ -10,6 +12,8 @@ use Rattle.trail_lines.specs.declared.ending.Ended.{Ended}
 use Rattle.trail_lines.specs.declared.header.Header.{Header}
 use Rattle.trail_lines.specs.Heading.{end_text, header_text, read_end}
 use Rattle.server_trail.specs.declared.waiting.Written.{Written}
+use Rattle.server_trail.specs.declared.writing.NoEnd.{NoEnd}
+use Rattle.server_trail.specs.declared.writing.NoEnd.TheVariants as no
 
 -- ---- writing
 
@@ -30,16 +34,27 @@ abbrev pub end_line : ℕ → ℕ → Cause → List ℕ
 end_line entries ms cause =
     end_text (record { entries = entries; ms = ms; cause = cause }) ++ 0x0A ∷ []
 
--- if all lines before it were written, the last line was, with this cause
-pub record HasLastLine (written : Written) (cause : Cause) (old new : Option (List ℕ)) (is_all : Bool) : Type 0 where
-  pub torn : written.is_whole ≡ false → Keeps old new × (is_all ≡ false)
-  pub whole : written.is_whole ≡ true
-      → (ms : ℕ) × HasWritten old new (end_line written.entries ms cause) is_all
+-- all lines before it were written, and the last line as far as that, with this cause
+abbrev pub HasLastLine : Written → Cause → Option (List ℕ) → Option (List ℕ) → Bool → Type 0
+HasLastLine written cause old new is_all = (written.is_whole ≡ true)
+    × ((ms : ℕ) × HasWritten old new (end_line written.entries ms cause) is_all)
 
--- if no cause is known, there is none
-abbrev pub IsEnded : Written → Option Cause → Option (List ℕ) → Option (List ℕ) → Bool → Type 0
-IsEnded written None old new is_all = Keeps old new × (is_all ≡ false)
-IsEnded written (Some cause) old new is_all = HasLastLine written cause old new is_all
+-- what came of the last line; there is none if no cause is known
+abbrev pub EndsAs : Written → Option Cause → Option (List ℕ) → Option (List ℕ) → Result (Unit {0}) NoEnd → Type 0
+EndsAs written None old new came = Keeps old new × (came ≡ Err no.NoCause)
+EndsAs written (Some cause) old new (Ok done) = HasLastLine written cause old new true
+EndsAs written (Some cause) old new (Err no.Unsynced) = HasLastLine written cause old new true
+EndsAs written (Some cause) old new (Err (no.Torn gave_up)) = HasLastLine written cause old new false
+EndsAs written (Some cause) old new (Err (no.NoLine none)) = Keeps old new
+EndsAs written (Some cause) old new (Err no.NoCause) = ⊥
+
+-- the last that was done to a file is a sync, which succeeded if that is the answer
+module _ {F : Type 0} (syncs : F → Result (Unit {0}) Error → F → Type 0) where
+  pub record EndsSynced (is_synced : Bool) (new : F) : Type 0 where
+    pub old : F
+    pub came : Result (Unit {0}) Error
+    pub synced : syncs old came new
+    pub succeeds : is_synced ≡ true → is_ok came ≡ true
 
 -- ---- reading
 

@@ -1,18 +1,20 @@
-//! The first line of a trail's file, and the cause that its last line names.
+//! The first line of a trail's file, its last line, and the cause that this names. Only what stands here says that a
+//! file has its first line, and that it can't have its last.
 
-ghost use Rattle.std.specs.Prelude.{◌≡◌, ◌++◌, ◌∷◌, [], Some, None, OnOk, IfOk};
+ghost use Rattle.std.specs.Prelude.{◌≡◌, ◌++◌, ◌∷◌, [], true, Some, None, OnOk, IfOk};
 ghost use Rattle.std.specs.Io.KnownBytes.{Appends};
-ghost use Rattle.trail_lines.specs.Heading.{header_text};
-ghost use Rattle.server_trail.specs.Files.{Begins};
+ghost use Rattle.trail_lines.specs.Heading.{end_text, header_text};
+ghost use Rattle.server_trail.specs.Files.{Begins, end_line};
 ghost use Rattle.server_trail.specs.Stopping.{last_cause};
 
+use crate::waiting::Written;
 use acl::{Edition, UserId};
 use session::Bytes;
 use std::alloc::{AllocError, Global};
 use std::io;
 use std::time::Clock;
-use trail_disk::TrailFile;
-use trail_lines::{Cause, Header, print_header};
+use trail_disk::{MadeFile, TrailFile};
+use trail_lines::{Cause, Ended, Header, print_end, print_header};
 
 /// The time of day, in milliseconds since 1970.
 pub fn time<R: Clock>(rt: &R) -> Option<u64> {
@@ -47,6 +49,87 @@ pub fn begin<F: TrailFile>(alloc: Global, file: &mut F, header: &Header) -> io::
     line.push(b'\n')?;
     file.write_all(&line)?;
     file.sync()
+}
+
+/// A file that was made, and has its first line.
+#[derive(Drop)]
+pub struct BegunFile<'a> {
+    made: MadeFile<'a>,
+    // The time that the first line has.
+    ms: u64,
+}
+
+impl<'a> BegunFile<'a> {
+    /// Writes the first line of a file that was made, as `begin` does. If the disk refuses it, removes the file.
+    pub fn of<F: TrailFile>(
+        alloc: Global,
+        made: MadeFile<'a>,
+        file: &mut F,
+        header: &Header,
+    ) -> io::Result<BegunFile<'a>>
+        ensures begun { OnOk result (Appends (F.contents file.old) (F.contents file.new)
+            (header_text header.now ++ 0x0A ∷ [])) }
+        ensures is { IfOk result (λ begun. (begun.made ≡ made.entry) × (begun.ms ≡ header.now.ms)) }
+    {
+        let ms = header.ms;
+        match begin(alloc, file, header) {
+            Ok(()) => Ok(BegunFile { made, ms }),
+            Err(error) => {
+                made.unmake();
+                Err(error)
+            }
+        }
+    }
+
+    pub fn made(&self) -> &MadeFile<'a>
+        ensures { result.now ≡ self.now.made }
+    {
+        &self.made
+    }
+
+    pub fn ms(&self) -> u64
+        ensures { result ≡ self.now.ms }
+    {
+        self.ms
+    }
+}
+
+/// Shows that a file can't have its last line: one before it isn't whole, or memory was refused.
+#[derive(Clone, Copy, Debug)]
+pub struct NoLine(());
+
+// The line of an end, with its line feed.
+fn line_of(alloc: Global, ended: &Ended) -> Result<Vec<u8>, AllocError>
+    ensures { IfOk result (λ line. line.items ≡ end_text ended.now ++ 0x0A ∷ []) }
+{
+    let mut line = Vec::new(alloc);
+    print_end(ended, &mut line)?;
+    line.push(b'\n')?;
+    Ok(line)
+}
+
+/// The last line of a file of which this was written.
+pub(crate) fn last_line(
+    alloc: Global,
+    written: &Written,
+    ms: u64,
+    cause: Cause,
+) -> Result<Vec<u8>, NoLine>
+    ensures whole { IfOk result (λ line. written.now.is_whole ≡ true) }
+    ensures line { IfOk result (λ line. line.items ≡ end_line written.now.entries ms cause) }
+{
+    if !written.is_whole() {
+        return Err(NoLine(()));
+    }
+    let ended = Ended {
+        entries: written.entries(),
+        ms,
+        cause,
+    };
+    match line_of(alloc, &ended) {
+        Ok(line) => Ok(line),
+        Err(_) => Err(NoLine(())),
+    }
 }
 
 /// Why a trail's file can't go on.

@@ -1,12 +1,12 @@
 //! The file to which a server writes its session's trail.
 
 ghost use Rattle.std.specs.Prelude.{◌≡◌, IfOk};
-ghost use Rattle.server_trail.specs.Faults.{fault_of, read_as};
 ghost use Rattle.server_trail.specs.Journals.{HasEnded, journal_path};
 
-use crate::file::{StopCause, begin, header_of, last_cause};
+use crate::ending::{JournalEnd, Noted};
+use crate::file::{BegunFile, header_of, last_cause};
 use crate::reading::{ReadBack, read_back};
-use crate::recorder::Recorder;
+use crate::recorder::{Recorder, cause_of};
 use crate::waiting::Written;
 use acl::{Edition, UserId};
 use hub::EntryList;
@@ -18,7 +18,7 @@ use std::io::{self, BufReader, ErrorKind};
 use std::sync::{Condvar, Mutex, Wait};
 use std::time::{Clock, Duration};
 use thiserror::Error;
-use trail_disk::{Disk, DiskWatch, FileMaker, MadeFile, NeverReady, TrailFile, WatchedDisk};
+use trail_disk::{Disk, DiskWatch, FileMaker, NeverReady, TrailFile, WatchedDisk};
 use trail_lines::{Cause, Header};
 
 // The version that the file's first line names.
@@ -70,66 +70,14 @@ impl JournalFault {
     }
 }
 
-// The fault of a file, from why it stopped, whether its last line was written, and the errors of its last write
-// and of a sync.
-fn fault_of(
-    stopped: Option<StopCause>,
-    is_ended: bool,
-    refused: Option<io::Error>,
-    unsynced: Option<io::Error>,
-) -> Option<JournalFault>
-    ensures { result ≡ fault_of stopped is_ended refused unsynced }
-{
-    match stopped {
-        Some(StopCause::Memory) => return Some(JournalFault::Memory),
-        Some(StopCause::Disk) => match refused {
-            Some(error) => return Some(JournalFault::Refused(SystemError(error))),
-            None => return Some(JournalFault::TooSlow),
-        },
-        None => {}
-    }
-    if !is_ended {
-        if let Some(error) = refused {
-            return Some(JournalFault::Cut(SystemError(error)));
-        }
-    }
-    match unsynced {
-        Some(error) => Some(JournalFault::Unsynced(SystemError(error))),
-        None if is_ended => None,
-        None => Some(JournalFault::Unended),
-    }
-}
-
-// What came of reading a file back.
-fn read_as(back: io::Result<Option<ReadBack>>) -> Result<ReadBack, JournalFault>
-    ensures { result ≡ read_as back }
-{
-    match back {
-        Ok(Some(back)) => Ok(back),
-        Ok(None) => Err(JournalFault::Differs),
-        Err(error) => Err(JournalFault::NotRead(SystemError(error))),
-    }
-}
-
 /// A new file for the trail of a session.
 #[derive(Drop)]
 pub struct Journal<'a, F: TrailFile + Drop = File> {
     alloc: Global,
-    made: MadeFile<'a>,
-    // The time that the file's first line has.
-    ms: u64,
+    begun: BegunFile<'a>,
     file: Mutex<Disk<F>>,
     end: Mutex<JournalEnd>,
     ended: Condvar,
-}
-
-// Whether nothing is written to the file any more, and what came of it.
-#[derive(Drop)]
-struct JournalEnd {
-    is_over: bool,
-    // It was written to its end, and is to be read back.
-    is_ended: bool,
-    outcome: Result<ReadBack, JournalFault>,
 }
 
 impl<'a> Journal<'a> {
@@ -149,20 +97,15 @@ impl<'a> Journal<'a> {
             Ok(made) => made,
             Err(error) => return Err(JournalFault::of_making(error)),
         };
-        if let Err(error) = begin(alloc, &mut file, &header) {
-            made.unmake();
-            return Err(JournalFault::of_making(error));
-        }
+        let begun = match BegunFile::of(alloc, made, &mut file, &header) {
+            Ok(begun) => begun,
+            Err(error) => return Err(JournalFault::of_making(error)),
+        };
         Ok(Journal {
             alloc,
-            made,
-            ms: header.ms,
+            begun,
             file: Mutex::new(file),
-            end: Mutex::new(JournalEnd {
-                is_over: false,
-                is_ended: false,
-                outcome: Err(JournalFault::Unended),
-            }),
+            end: Mutex::new(JournalEnd::new()),
             ended: Condvar::new(),
         })
     }
@@ -171,12 +114,12 @@ impl<'a> Journal<'a> {
 impl<'a, F: TrailFile + Drop> Journal<'a, F> {
     /// The file's path.
     pub fn path(&self) -> &'a str {
-        self.made.path()
+        self.begun.made().path()
     }
 
     /// Removes the file of a server that was never ready.
     pub fn remove(&self, server: &impl NeverReady) {
-        self.made.remove(server);
+        self.begun.made().remove(server);
     }
 
     /// Writes the lines of entries as they come, until all loops have ended, and tells what becomes of
@@ -195,28 +138,25 @@ impl<'a, F: TrailFile + Drop> Journal<'a, F> {
         recorder.write_all(rt, &mut watched)
     }
 
-    /// Writes the last line. If no cause is known, the file has none.
+    /// Writes the last line, syncs the file, and notes its fault. If no cause is known, it has no last line.
     pub fn end<R: Clock + Wait>(
         &self,
         rt: &R,
         recorder: &Recorder,
         written: Written,
         cause: Option<Cause>,
-    )
-        ensures { HasEnded F.contents written cause }
+    ) -> Noted
+        ensures { HasEnded F.contents F.syncs written cause result }
     {
-        let stopped = recorder.stopped();
-        let mut disk = self.file.lock(rt);
-        let is_ended = recorder.end_for(rt, &mut *disk, written, last_cause(stopped, cause));
-        let (refused, unsynced) = (disk.refused(), disk.unsynced());
+        let stop = recorder.look();
+        let mut guard = self.file.lock(rt);
+        let disk = &mut *guard;
+        let ended = recorder.end(rt, disk, written, last_cause(cause_of(stop), cause));
         let mut end = self.end.lock(rt);
-        match fault_of(stopped, is_ended, refused, unsynced) {
-            Some(fault) => end.outcome = Err(fault),
-            None => end.is_ended = true,
-        }
-        end.is_over = true;
+        let noted = end.note(stop, ended, disk);
         drop(end);
         self.ended.notify_all();
+        noted
     }
 
     /// Waits at most this long until nothing is written to the file any more. Returns whether that is so.
@@ -224,8 +164,8 @@ impl<'a, F: TrailFile + Drop> Journal<'a, F> {
         let end = self.end.lock(rt);
         let (end, _) = self
             .ended
-            .wait_timeout_while(rt, end, longest, |end| !end.is_over);
-        end.is_over
+            .wait_timeout_while(rt, end, longest, |end| !end.is_over());
+        end.is_over()
     }
 
     // Reads the file back, which is to be the trail of a session of this edition and owner.
@@ -239,9 +179,9 @@ impl<'a, F: TrailFile + Drop> Journal<'a, F> {
             edition,
             owner,
             version: Bytes::of(self.alloc, VERSION)?,
-            ms: self.ms,
+            ms: self.begun.ms(),
         };
-        let mut reader = BufReader::new(self.alloc, self.made.open()?)?;
+        let mut reader = BufReader::new(self.alloc, self.begun.made().open()?)?;
         read_back(self.alloc, &mut reader, &header, entries)
     }
 
@@ -249,14 +189,13 @@ impl<'a, F: TrailFile + Drop> Journal<'a, F> {
     /// its edition, its owner and its entries.
     pub fn compare(&self, rt: &impl Wait, edition: Edition, owner: UserId, entries: &EntryList) {
         let mut end = self.end.lock(rt);
-        if end.is_ended {
-            end.outcome = read_as(self.read_back(edition, owner, entries));
+        if end.is_sound() {
+            end.put_back(self.read_back(edition, owner, entries));
         }
     }
 
     /// What shows that the file was read back, or its fault; after the first call, that it has no end.
     pub fn outcome(&self, rt: &impl Wait) -> Result<ReadBack, JournalFault> {
-        let mut end = self.end.lock(rt);
-        std::mem::replace(&mut end.outcome, Err(JournalFault::Unended))
+        self.end.lock(rt).take()
     }
 }

@@ -2,6 +2,7 @@
 
 ghost use Rattle.std.specs.Prelude.{◌≡◌, IfOk};
 ghost use Rattle.std.specs.Option.{option_copied};
+ghost use Rattle.server_trail.specs.Stopping.{stop_cause};
 ghost use Rattle.server_trail.specs.Waiting.{IsEntrys};
 
 use crate::file::{StopCause, time};
@@ -22,6 +23,20 @@ pub struct Recorder {
     // The stamp of lines, in milliseconds since 1970.
     pub(crate) ms: AtomicU64,
     stopped: OnceLock<Stopped>,
+}
+
+/// Shows that a file hadn't stopped.
+#[derive(Clone, Copy)]
+pub struct Open(());
+
+/// Why a file stopped, if it did.
+pub fn cause_of(stop: Result<Open, Stopped>) -> Option<StopCause>
+    ensures { result ≡ stop_cause stop }
+{
+    match stop {
+        Ok(_) => None,
+        Err(stopped) => Some(stopped.cause()),
+    }
 }
 
 impl Recorder {
@@ -53,9 +68,7 @@ impl Recorder {
     ) -> Result<PutLine<'e>, Stopped>
         ensures { IfOk result (IsEntrys place (option_copied entry.entry)) }
     {
-        if let Some(stopped) = self.stop() {
-            return Err(stopped);
-        }
+        self.look()?;
         let ms = self.ms.load(Ordering::SeqCst);
         let Some(line) = EntryLine::of(self.alloc, place, ms, entry) else {
             return Err(self.lose(rt));
@@ -72,9 +85,7 @@ impl Recorder {
         ensures { IfOk result (λ put. (put.place ≡ line.entry.place) × (put.source.now ≡ line.entry.source.now)) }
     {
         let mut waiting = self.waiting.lock(rt);
-        if let Some(stopped) = self.stop() {
-            return Err(stopped);
-        }
+        self.look()?;
         let put = waiting.take_in(line);
         if let Err(stopped) = &put {
             let _ = self.stopped.set(rt, *stopped);
@@ -85,7 +96,7 @@ impl Recorder {
     // There was no memory for a line: the file stops before the next one.
     fn lose(&self, rt: &impl Wait) -> Stopped {
         let waiting = self.waiting.lock(rt);
-        if let Some(stopped) = self.stop() {
+        if let Err(stopped) = self.look() {
             return stopped;
         }
         let stopped = waiting.lose();
@@ -98,14 +109,17 @@ impl Recorder {
         self.waiting.lock(rt).bytes()
     }
 
-    /// What shows that the file can't go on; None as long as it can.
-    pub fn stop(&self) -> Option<Stopped> {
-        self.stopped.get().copied()
+    /// What shows that the file hasn't stopped yet, or that it can't go on.
+    pub fn look(&self) -> Result<Open, Stopped> {
+        match self.stopped.get() {
+            Some(stopped) => Err(*stopped),
+            None => Ok(Open(())),
+        }
     }
 
-    /// Why the file can't go on; None as long as it can.
-    pub fn stopped(&self) -> Option<StopCause> {
-        self.stop().map(|stopped| stopped.cause())
+    /// What shows that the file can't go on; None as long as it can.
+    pub fn stop(&self) -> Option<Stopped> {
+        self.look().err()
     }
 
     /// A loop has ended, and puts nothing more down. What shows that it is counted so.

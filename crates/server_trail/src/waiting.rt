@@ -1,10 +1,9 @@
 //! Lines that wait for the writer of a trail's file. Only what stands here says that a line was put down, that
 //! the file can't go on, that text was written, and that a loop has ended.
 
-ghost use Rattle.std.specs.Prelude.{◌≡◌, ◌≤◌, ◌==◌, ◌+◌, ◌-◌, ◌<◌, ◌&&◌, ◌||◌, ◌++◌, ◌∷◌, []};
+ghost use Rattle.std.specs.Prelude.{◌≡◌, ◌==◌, ◌+◌, ◌-◌, ◌<◌, ◌&&◌, ◌||◌, ◌++◌, ◌∷◌, []};
 ghost use Rattle.std.specs.Prelude.{true, ℕ, List, Err, IfOk, IfSome, OnOk, OnErr, nat_le, nat_lt, vec_len};
-ghost use Rattle.std.specs.Prelude.{is_none, is_ok, is_some, length, take};
-ghost use Rattle.std.specs.Io.KnownBytes.{Appends};
+ghost use Rattle.std.specs.Prelude.{is_none, is_ok, is_some};
 ghost use Rattle.std.specs.List.{list_any};
 ghost use Rattle.std.specs.Option.{option_copied};
 ghost use Rattle.hub.specs.Legal.{asks_for_command};
@@ -17,14 +16,14 @@ ghost use Rattle.trail_lines.specs.Entries.{line_of};
 
 use crate::file::StopCause;
 use crate::merge::Merge;
+use crate::tries::GaveUp;
+use crate::writing::write_bytes;
 use hub::{TrailEntry, asks_for_command};
 use session::Verdict;
 use std::alloc::{AllocError, Global};
 use std::io::Write;
 use std::sync::{Mutex, Wait};
-use std::thread;
-use std::time::{Clock, Duration};
-use trail_disk::LAST_TRIES;
+use std::time::Clock;
 use trail_lines::print_line;
 
 /// A line is taken as long as at most this number of bytes wait.
@@ -68,7 +67,7 @@ pub struct ReadyText {
 }
 
 /// Shows that text wasn't written to its end. Whoever says how much was written takes it.
-pub struct Torn(());
+pub struct Torn(GaveUp);
 
 /// How much was written of a trail whose loops have ended.
 #[derive(Debug, Drop)]
@@ -87,17 +86,31 @@ pub struct WaitingLines {
     is_urgent: bool,
 }
 
-/// What is there for the writer.
+/// What is there for the writer. Only a look at the lines that wait gives it.
 #[derive(Clone, Copy)]
 pub struct Ready {
-    pub bytes: usize,
-    /// A line among them, or one that waits for an earlier line, tells of a change.
-    pub is_urgent: bool,
-    /// All loops have ended.
-    pub is_over: bool,
+    bytes: usize,
+    // A line among them, or one that waits for an earlier line, tells of a change.
+    is_urgent: bool,
+    // All loops have ended.
+    is_over: bool,
 }
 
 impl Ready {
+    /// How many bytes are ready.
+    pub fn bytes(self) -> usize
+        ensures { result ≡ self.bytes }
+    {
+        self.bytes
+    }
+
+    /// Whether all loops have ended.
+    pub fn is_over(self) -> bool
+        ensures { result ≡ self.is_over }
+    {
+        self.is_over
+    }
+
     /// Whether the writer waits for no more.
     pub fn is_due(self) -> bool
         ensures { result ≡ (self.is_over || nat_le 65536 self.bytes || self.is_urgent && nat_lt 0 self.bytes) }
@@ -325,7 +338,7 @@ impl WaitingLines {
             || (vec_len self.now.merge.ready + early_bytes self.now.merge == 0)))) }
     {
         let is_written = match torn {
-            Some(Torn(())) => false,
+            Some(Torn(_)) => false,
             None => true,
         };
         if is_written && (self.loops > 0 || self.merge.ready() > 0) {
@@ -336,45 +349,6 @@ impl WaitingLines {
             is_whole: is_written && (stopped.is_some() || self.merge.waiting() == 0),
         })
     }
-}
-
-// Writes once. The answer is how many of the bytes were taken; 0 if the file refused them.
-fn write_some<F: Write>(file: &mut F, bytes: &[u8]) -> usize
-    ensures bound { result ≤ length bytes.now }
-    ensures writes { Appends (F.contents file.old) (F.contents file.new) (take result bytes.now) }
-{
-    file.write(bytes).unwrap_or(0)
-}
-
-/// Writes bytes. A refused write is tried again each second; after all loops have ended, only for some
-/// seconds. The answer is whether all bytes were written.
-pub fn write_bytes<R: Clock + Wait, F: Write>(
-    rt: &R,
-    waiting: &Mutex<WaitingLines>,
-    file: &mut F,
-    bytes: &[u8],
-) -> bool
-    ensures { HasWritten (F.contents file.old) (F.contents file.new) bytes.now result }
-{
-    let mut sent = 0;
-    let mut tries = 0u32;
-    'writes: for _ in rt.forever() {
-        if sent == bytes.len() {
-            return true;
-        }
-        let count = write_some(file, &bytes[sent..]);
-        sent += count;
-        if count == 0 {
-            if tries >= LAST_TRIES {
-                return false;
-            }
-            if waiting.lock(rt).look().is_over {
-                tries += 1;
-            }
-            thread::sleep(rt, Duration::from_secs(1));
-        }
-    }
-    unreachable!()
 }
 
 impl ReadyText {
@@ -388,10 +362,9 @@ impl ReadyText {
         ensures { HasWritten (F.contents file.old) (F.contents file.new) self.bytes.items (is_ok result) }
     {
         let ReadyText { bytes } = self;
-        if write_bytes(rt, waiting, file, &bytes) {
-            Ok(())
-        } else {
-            Err(Torn(()))
+        match write_bytes(rt, waiting, file, &bytes) {
+            Ok(()) => Ok(()),
+            Err(gave_up) => Err(Torn(gave_up)),
         }
     }
 }

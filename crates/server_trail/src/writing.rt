@@ -1,31 +1,73 @@
 //! The thread that writes a trail's file.
 
-ghost use Rattle.std.specs.Prelude.{◌≡◌, ◌++◌, ◌∷◌, [], ℕ, None, true, false, IfOk};
+ghost use Rattle.std.specs.Prelude.{◌≡◌, Some, None, is_ok};
 ghost use Rattle.std.specs.Io.KnownBytes.{Keeps};
-ghost use Rattle.trail_lines.specs.Heading.{end_text};
-ghost use Rattle.trail_disk.specs.Disks.{HasSynced, SyncsOnce};
-ghost use Rattle.server_trail.specs.Files.{HasWritten, IsEnded, end_line};
+ghost use Rattle.trail_disk.specs.Disks.{SyncsOnce};
+ghost use Rattle.server_trail.specs.Files.{EndsAs, EndsSynced, HasWritten};
 
+use crate::file::{NoLine, last_line};
 use crate::recorder::Recorder;
-use crate::waiting::{Written, write_bytes};
-use std::alloc::{AllocError, Global};
-use std::sync::Wait;
+use crate::tries::{GaveUp, Tries, write_some};
+use crate::waiting::{WaitingLines, Written};
+use std::io::Write;
 use std::sync::atomic::Ordering;
+use std::sync::{Mutex, Wait};
+use std::thread;
 use std::time::{Clock, Duration};
 use trail_disk::{Syncing, TrailFile, sync_last};
-use trail_lines::{Cause, Ended, print_end};
+use trail_lines::Cause;
 
 // How many milliseconds the writer waits for more if few bytes are ready.
 const PAUSE: u64 = 100;
 
-// The last line, with its line feed.
-fn last_line(alloc: Global, ended: &Ended) -> Result<Vec<u8>, AllocError>
-    ensures { IfOk result (λ line. line.items ≡ end_text ended.now ++ 0x0A ∷ []) }
+/// Why a file isn't whole on the disk, with its last line.
+#[derive(Clone, Copy, Debug)]
+pub enum NoEnd {
+    /// Nobody knows a cause, so it has no last line.
+    NoCause,
+    NoLine(NoLine),
+    /// The disk refused the last line.
+    Torn(GaveUp),
+    /// The disk refused to sync it.
+    Unsynced,
+}
+
+/// Writes bytes. A refused write is tried again each second; after all loops have ended, only for some
+/// seconds. `Err` if not all bytes were written.
+pub fn write_bytes<R: Clock + Wait, F: Write>(
+    rt: &R,
+    waiting: &Mutex<WaitingLines>,
+    file: &mut F,
+    bytes: &[u8],
+) -> Result<(), GaveUp>
+    ensures { HasWritten (F.contents file.old) (F.contents file.new) bytes.now (is_ok result) }
 {
-    let mut line = Vec::new(alloc);
-    print_end(ended, &mut line)?;
-    line.push(b'\n')?;
-    Ok(line)
+    let mut sent = 0;
+    let mut tries = Tries::new();
+    'writes: for _ in rt.forever() {
+        if sent == bytes.len() {
+            return Ok(());
+        }
+        match write_some(file, &bytes[sent..]) {
+            Ok(count) => sent += count,
+            Err(refused) => {
+                let ready = waiting.lock(rt).look();
+                if let Some(gave_up) = tries.count(refused, ready) {
+                    return Err(gave_up);
+                }
+                thread::sleep(rt, Duration::from_secs(1));
+            }
+        }
+    }
+    unreachable!()
+}
+
+// Syncs a file at its end. The answer is whether its last sync succeeded.
+fn sync_end<R: Clock, F: TrailFile>(rt: &R, file: &mut F) -> bool
+    ensures bytes { Keeps (F.contents file.old) (F.contents file.new) }
+    ensures synced { EndsSynced F.syncs result file.new }
+{
+    sync_last(rt, file) || file.sync().is_ok()
 }
 
 impl Recorder {
@@ -39,13 +81,13 @@ impl Recorder {
             let seen = self.news.notifications();
             let ready = self.waiting.lock(rt).look();
             if !ready.is_due() {
-                let pause = match ready.bytes {
+                let pause = match ready.bytes() {
                     0 => syncing.pause(),
                     _ => Duration::from_millis(PAUSE),
                 };
                 self.news.sleep(rt, seen, pause);
             }
-            let torn = match ready.bytes {
+            let torn = match ready.bytes() {
                 0 => None,
                 _ => {
                     syncing.note_write();
@@ -62,54 +104,49 @@ impl Recorder {
         unreachable!()
     }
 
-    /// Writes the last line, if all lines before it were written, and syncs the file. The answer is
-    /// whether the whole file is on the disk, with its last line.
+    // Writes the last line, if all lines before it were written.
+    fn write_end<R: Clock + Wait, F: TrailFile>(
+        &self,
+        rt: &R,
+        file: &mut F,
+        written: &Written,
+        cause: Cause,
+    ) -> Result<(), NoEnd>
+        ensures { EndsAs written.now (Some cause) (F.contents file.old) (F.contents file.new) result }
+    {
+        self.set_time(rt);
+        let ms = self.ms.load(Ordering::SeqCst);
+        let line = match last_line(self.alloc, written, ms, cause) {
+            Ok(line) => line,
+            Err(none) => return Err(NoEnd::NoLine(none)),
+        };
+        match write_bytes(rt, &self.waiting, file, &line) {
+            Ok(()) => Ok(()),
+            Err(gave_up) => Err(NoEnd::Torn(gave_up)),
+        }
+    }
+
+    /// Ends a file for this cause: writes the last line, if all lines before it were written, and syncs the file.
+    /// If no cause is known, it has no last line. `Err` unless the whole file is on the disk, with its last line.
     pub fn end<R: Clock + Wait, F: TrailFile>(
         &self,
         rt: &R,
         file: &mut F,
         written: Written,
-        cause: Cause,
-    ) -> bool
-        ensures torn { written.is_whole ≡ false
-            → Keeps (F.contents file.old) (F.contents file.new) × (result ≡ false) }
-        ensures whole { written.is_whole ≡ true → (ms : ℕ) × HasWritten (F.contents file.old)
-            (F.contents file.new) (end_line written.entries ms cause) result }
-        ensures synced { result ≡ true → HasSynced F.syncs file.new }
-    {
-        self.set_time(rt);
-        let ended = Ended {
-            entries: written.entries(),
-            ms: self.ms.load(Ordering::SeqCst),
-            cause,
-        };
-        let Ok(line) = last_line(self.alloc, &ended) else {
-            return false;
-        };
-        if !written.is_whole() {
-            let _ = sync_last(rt, file);
-            return false;
-        }
-        write_bytes(rt, &self.waiting, file, &line) && sync_last(rt, file)
-    }
-
-    /// Ends a file for this cause. If none is known, it has no last line.
-    pub(crate) fn end_for<R: Clock + Wait, F: TrailFile>(
-        &self,
-        rt: &R,
-        file: &mut F,
-        written: Written,
         cause: Option<Cause>,
-    ) -> bool
-        ensures ended { IsEnded written cause (F.contents file.old) (F.contents file.new) result }
+    ) -> Result<(), NoEnd>
+        ensures ends { EndsAs written cause (F.contents file.old) (F.contents file.new) result }
+        ensures synced { EndsSynced F.syncs (is_ok result) file.new }
         ensures alone { cause ≡ None → SyncsOnce F.syncs file.old file.new }
     {
-        match cause {
-            Some(cause) => self.end(rt, file, written, cause),
-            None => {
-                let _ = file.sync();
-                false
-            }
+        let Some(cause) = cause else {
+            let _ = file.sync();
+            return Err(NoEnd::NoCause);
+        };
+        let ended = self.write_end(rt, file, &written, cause);
+        match (ended, sync_end(rt, file)) {
+            (Ok(()), false) => Err(NoEnd::Unsynced),
+            (ended, _) => ended,
         }
     }
 }

@@ -1,15 +1,17 @@
-use Rattle.std.proofs.Common.{Option, subst}
+use Rattle.std.proofs.Common.{Option, refl, ◌∙◌, ap, subst}
 use Rattle.trail_lines.specs.declared.ending.Cause.{Cause}
-use Rattle.server_trail.specs.Files.{IsEnded}
+use Rattle.server_trail.specs.Files.{EndsAs}
+use Rattle.server_trail.specs.Stopping.{last_cause}
 use Rattle.server_trail.proofs.journal.Journal.end.Goals as goal
 
 pub returns : goal.returns
 returns g c = record {
-  stop = c.stopped-stopped.result;
-  disk = c.deref_mut.result.now;
-  left = c.end_for-is_ended.new.file;
-  is_all = c.end_for-is_ended.result;
-  ended = subst (λ (x : Option Cause). IsEnded c.args.written x (g.F.Write.contents c.deref_mut.result.now.file)
-      (g.F.Write.contents c.end_for-is_ended.new.file.file) c.end_for-is_ended.result) c.last_cause.ensures
-      c.end_for-is_ended.ensures.ended;
+  disk = c.deref_mut-disk.result.now;
+  left = c.end-ended.new.file;
+  ended = rw c.note-noted.ensures.noted (subst (λ (x : Option Cause). EndsAs c.args.written x
+      (g.F.Write.contents c.deref_mut-disk.result.now.file) (g.F.Write.contents c.end-ended.new.file.file)
+      c.end-ended.result) (c.last_cause.ensures ∙ ap (λ s. last_cause s c.args.cause) c.cause_of.ensures)
+      c.end-ended.ensures.ends);
+  synced = rw c.note-noted.ensures.noted c.end-ended.ensures.synced;
+  is_sound = rw c.note-noted.ensures.noted refl;
 }
