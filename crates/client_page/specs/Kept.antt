@@ -1,12 +1,12 @@
 -- What a kept terminal has read, and what brings it back.
-use Rattle.std.specs.Prelude.{◌≡◌, ◌<◌, ℕ, Bool, true, false, List, take, Option, Some, None, IfSome}
+use Rattle.std.specs.Prelude.{◌≡◌, ◌<◌, ◌⊎◌, ℕ, Bool, true, false, List, take, length, Option, Some, None, IfSome}
 use Rattle.cells.specs.Page.{IsGridSize}
 use Rattle.client_words.specs.declared.arguments.Subcommand.TheVariants.{Window}
 use Rattle.client_words.specs.declared.arguments.Arguments.{Arguments}
 use Rattle.terminal_model.specs.Reading.{Terminal, ready, reads}
 use Rattle.terminal_model.specs.Screen.{starting}
 use Rattle.terminal_model.specs.Writing.{Size}
-use Rattle.emulator.specs.Standing.{Parts, StandsFor, TakesWriting}
+use Rattle.emulator.specs.Standing.{IsBetween, Parts, StandsFor, TakesWriting}
 use Rattle.rebuild.specs.Rebuilt.{BringsBack}
 
 -- an emulator has read these bytes in order, from whatever terminal it stood for before
@@ -30,11 +30,21 @@ abbrev pub Begins : Arguments → Option Parts → Type 0
 Begins w p = IfSome p
     (λ e. (w.subcommand ≡ Window) × (0 < w.again) × StandsFor e (ready (starting w.rows w.columns w.keep)))
 
--- a kept terminal has read the first bytes, from whatever terminal it stood for before
+-- no character, sequence or string of a terminal is incomplete
+abbrev pub IsWhole : Terminal → Type 0
+IsWhole t = (e : Parts) → StandsFor e t → IsBetween e.screen.state.coding e
+
+-- An emulator has read the bytes that end what was incomplete, or all of them if they don't, and no more.
+pub record ReadsToEnd (old : Parts) (bytes : List ℕ) (count : ℕ) (new : Parts) : Type 0 where
+  pub taken : TakesAll old (take count bytes) new
+  pub ended : (count ≡ length bytes) ⊎ IsBetween new.screen.state.coding new
+  pub first : (t : Terminal) → StandsFor old t → (n : ℕ) → n < count → IsWhole (reads t (take n bytes)).terminal → ⊥
+
+-- a kept terminal, too
 abbrev pub Settles : Option Parts → List ℕ → ℕ → Option Parts → Type 0
 Settles None bytes count new = (count ≡ 0) × (new ≡ None)
 Settles (Some e) bytes count None = ⊥
-Settles (Some e) bytes count (Some e') = TakesAll e (take count bytes) e'
+Settles (Some e) bytes count (Some e') = ReadsToEnd e bytes count e'
 
 -- The next page begins blank in the size that the kept terminal has, or no terminal is kept any more.
 abbrev pub Blanks : Option Parts → Option Parts → Type 0

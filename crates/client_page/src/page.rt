@@ -1,12 +1,12 @@
 //! The page of a window that stays, which the session's next server is told, and what the window's program prints while
 //! no server has it.
 
-ghost use Rattle.std.specs.Prelude.{◌≡◌, ◌≤◌, ◌++◌, false, [], length, IfOk, IfSome, OnOk, OnErr, Err, None, take};
+ghost use Rattle.std.specs.Prelude.{◌≡◌, ◌≤◌, ◌++◌, false, [], length, IfOk, IfSome, OnOk, OnErr, Err, None};
 ghost use Rattle.cells.specs.Page.{IsGridSize};
-ghost use Rattle.terminal_model.specs.Reading.{Terminal, ready, reads};
+ghost use Rattle.terminal_model.specs.Reading.{ready};
 ghost use Rattle.terminal_model.specs.Screen.{starting};
 ghost use Rattle.emulator.specs.Standing.{StandsFor};
-ghost use Rattle.client_page.specs.Kept.{TellsPage, Settles, TakesAll, ReadsAll, TakesSize, Begins, Blanks};
+ghost use Rattle.client_page.specs.Kept.{TellsPage, Settles, TakesAll, ReadsAll, ReadsToEnd, TakesSize, Begins, Blanks};
 ghost use Rattle.client_page.specs.Held.{Holds, HoldsLast, TellsAgain};
 
 use cells::GridFault;
@@ -52,8 +52,7 @@ fn begun(alloc: Global, arguments: &Arguments<'_>) -> Option<Emulator>
 // Reads until nothing is incomplete, or all bytes. Returns how many.
 fn read_to_end(emulator: &mut Emulator, bytes: &[u8]) -> usize
     ensures few { result ≤ length bytes.now }
-    ensures read { (t : Terminal) → StandsFor emulator.old t
-        → StandsFor emulator.new (reads t (take result bytes.now)).terminal }
+    ensures read { ReadsToEnd emulator.old bytes.now result emulator.new }
 {
     let mut read = 0;
     'bytes: while read < bytes.len() && !emulator.is_between() {

@@ -101,13 +101,15 @@ module _ (old third new : Peer) (now : ℕ) (same : third ≡ beside old now thi
           (ap (λ (p : Peer). p.frames.items) whole, ap (λ (p : Peer). p.bytes.items) whole),
           ap (λ (p : Peer). p.typing) whole,
           ap (λ (p : Peer). p.notice) whole,
+          (ap (λ (p : Peer). p.times.wants_fit) whole, ap (λ (p : Peer). p.times.fit_at) whole),
+          ap (λ (p : Peer). p.times.has_typed) whole,
         );
       };
     }
 
   -- the connection is open
   does_same : (does : NoticeTask) → Does does (beside old now third) now new → Does does old now new
-  does_same Nothing d = (d.0, record { fits = d.1.fits; waits = d.1.waits; counts = d.1.counts })
+  does_same Nothing d = (d.0, record { fits = d.1.fits; waits = d.1.waits; counts = d.1.counts; rests = d.1.rests })
   does_same Show d = d
   does_same TakeAway d = d
 

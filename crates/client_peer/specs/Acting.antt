@@ -7,7 +7,7 @@ use Rattle.client_notice.specs.declared.notice.NoticeTask.{NoticeTask}
 use Rattle.client_notice.specs.declared.notice.NoticeTask.TheVariants as deed
 use Rattle.client_notice.specs.Notices.{turned}
 use Rattle.client_typing.specs.Fitting.{fit_keys}
-use Rattle.client_typing.specs.Following.{Follows, Rests}
+use Rattle.client_typing.specs.Following.{Follows, Rests, StaysBeside}
 use Rattle.client_peer.specs.declared.looking.PeerTask.{PeerTask}
 use Rattle.client_peer.specs.declared.looking.PeerTask.TheVariants as task
 use Rattle.client_peer.specs.declared.peer.Peer.{Peer}
@@ -35,21 +35,27 @@ fitting old new = record old {
   times = record old.times { wants_fit = new.times.wants_fit; fit_at = new.times.fit_at };
 }
 
+-- The window in focus waits for its region's size as before.
+abbrev pub IsUnfitted : Peer → Peer → Type 0
+IsUnfitted old new = (new.times.wants_fit ≡ old.times.wants_fit) × (new.times.fit_at ≡ old.times.fit_at)
+
 -- The window in focus is given its region's size, once, as soon as the session waits for no key. Else no key is sent.
 pub record Fits (old : Peer) (now : ℕ) (new : Peer) : Type 0 where
   pub fits : IsToFit old now → (new.frames.items ≡ old.frames.items ++ frame Keys fit_keys)
-      × Follows old.typing.keys fit_keys new.typing.keys × (new.times.wants_fit ≡ false) × (new.times.fit_at ≡ None)
+      × Follows old.typing.keys fit_keys new.typing.keys × StaysBeside old.typing new.typing
+      × (new.times.wants_fit ≡ false) × (new.times.fit_at ≡ None)
   pub waits : (IsToFit old now → ⊥) → (new.frames.items ≡ old.frames.items) × (new.typing ≡ old.typing)
       × (new.times.wants_fit ≡ old.times.wants_fit)
   pub counts : MayFit old → (IsToFit old now → ⊥) → new.times.fit_at ≡ Some (fit_time old now)
+  pub rests : (MayFit old → ⊥) → new.times.fit_at ≡ old.times.fit_at
 
 -- what the text on the last line asks for
 abbrev pub Does : NoticeTask → Peer → ℕ → Peer → Type 0
 Does deed.Nothing old now new = (new.bytes.items ≡ old.bytes.items) × Fits old now new
 Does deed.Show old now new =
-    ShowsNotice old new × (new.frames.items ≡ old.frames.items) × (new.typing ≡ old.typing)
+    ShowsNotice old new × (new.frames.items ≡ old.frames.items) × (new.typing ≡ old.typing) × IsUnfitted old new
 Does deed.TakeAway old now new =
-    (new.bytes.items ≡ old.bytes.items) × (new.typing ≡ old.typing)
+    (new.bytes.items ≡ old.bytes.items) × (new.typing ≡ old.typing) × IsUnfitted old new
     × (new.frames.items ≡ old.frames.items ++ spelling (Resize old.rows old.columns))
 
 -- The text is shown or taken away when it is its turn, and if it isn't, the window gets its size when it is to.
@@ -68,7 +74,8 @@ IsOpen next p =
 pub record ActsIf (old : Peer) (now : ℕ) (next : PeerTask) (new : Peer) : Type 0 where
   pub acts : IsOpen next new → Acts old now new
   pub rests : (IsOpen next new → ⊥)
-      → IsUnmoved old new × (new.typing ≡ old.typing) × (new.notice ≡ old.notice)
+      → IsUnmoved old new × (new.typing ≡ old.typing) × (new.notice ≡ old.notice) × IsUnfitted old new
+      × (new.times.has_typed ≡ old.times.has_typed)
 
 -- the user leaves now
 abbrev pub IsLeaving : Peer → ℕ → Type 0

@@ -2,6 +2,7 @@
 use Rattle.std.specs.Prelude.{◌≡◌, false, [], None}
 use Rattle.client_words.specs.declared.arguments.Arguments.{Arguments}
 use Rattle.client_page.specs.Kept.{Begins}
+use Rattle.client_typing.specs.Assisting.{at, beginning}
 use Rattle.client_typing.specs.Following.{IsUnread, LeavesBy}
 use Rattle.draw_check.specs.Places.{place_after}
 use Rattle.client_peer.specs.declared.looking.Timers.{Timers}
@@ -26,7 +27,8 @@ times_of a = record {
 pub record IsBegun (a : Arguments) (p : Peer) : Type 0 where
   pub subcommand : p.subcommand ≡ a.subcommand
   pub size : (p.rows ≡ a.rows) × (p.columns ≡ a.columns) × (p.fits ≡ a.fit)
-  pub typing : IsUnread p.typing × LeavesBy a.leave p.typing.leave × (p.typing.assists ≡ a.assist)
+  pub typing : IsUnread p.typing × (at p.typing ≡ beginning) × LeavesBy a.leave p.typing.leave
+      × (p.typing.assists ≡ a.assist)
   pub page : Begins a p.page.emulator × (p.page.held.items ≡ []) × (p.page.is_hidden ≡ false)
   pub out : (p.is_welcome ≡ false) × (p.was_welcome ≡ false) × (p.is_reopening ≡ false) × (p.session.items ≡ [])
   pub frames : (p.frames.items ≡ []) × (p.sent ≡ 0) × (p.is_sending ≡ false) × (p.is_stuck ≡ false)

@@ -98,7 +98,8 @@ LetsIn subcommand false old new = IsLetIn old new
 -- the kept page has this size, or isn't kept any more
 abbrev pub IsSized : KeptPage → ℕ → ℕ → KeptPage → Type 0
 IsSized old rows columns new =
-    (TakesSize old.emulator rows columns new.emulator ⊎ (new.emulator ≡ None)) × (new.is_hidden ≡ old.is_hidden)
+    (TakesSize old.emulator rows columns new.emulator ⊎ (new.emulator ≡ None))
+    × (new ≡ record old { emulator = new.emulator })
 
 -- a window with another size
 abbrev pub sized : Peer → ℕ → ℕ → Peer → Peer

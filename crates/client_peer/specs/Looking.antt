@@ -153,7 +153,7 @@ DoesNext p now task.Wait =
     × (IsSome p.end → p.subcommand ≡ Window → ⊥)
 DoesNext p now task.WaitShortly = IsIdle p × (IsDone p now → ⊥)
 DoesNext p now task.Begin = (p.end ≡ None) × (p.times.left_at ≡ None) × (p.times.has_begun ≡ true) × MayBegin p now
-DoesNext p now task.Reopen = (p.end ≡ None) × (p.is_reopening ≡ true)
-DoesNext p now task.Send = MaySend p
-DoesNext p now task.Ask = IsSome p.end × (p.is_final ≡ false)
+DoesNext p now task.Reopen = (p.end ≡ None) × (p.times.left_at ≡ None) × (p.is_reopening ≡ true)
+DoesNext p now task.Send = MaySend p × (p.end ≡ None) × (IsDone p now → ⊥)
+DoesNext p now task.Ask = IsSome p.end × (p.times.left_at ≡ None) × (p.is_final ≡ false)
 DoesNext p now task.End = IsDone p now

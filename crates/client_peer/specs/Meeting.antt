@@ -3,6 +3,7 @@ use Rattle.std.specs.Prelude.{◌≡◌, ◌≢◌, ◌↔◌, ◌+◌, ◌%◌,
 use Rattle.client_words.specs.declared.fault.PeerFault.TheVariants.{Ended, OtherSession}
 use Rattle.std.specs.Option.{option_or}
 use Rattle.client_words.specs.declared.arguments.Subcommand.TheVariants.{Window}
+use Rattle.client_typing.specs.Assisting.{at, beginning}
 use Rattle.client_typing.specs.Following.{IsUnread, IsSet}
 use Rattle.client_peer.specs.declared.meeting.Meeting.{Meeting}
 use Rattle.client_peer.specs.declared.meeting.Meeting.TheVariants.{Same, Another, Older, Unnamed}
@@ -58,7 +59,7 @@ pub record Learns (old : Peer) (m : SessionMark) (is_here : Bool) (new : Peer) :
 pub record IsFresh (old new : Peer) : Type 0 where
   pub frames : new.frames.items ≡ []
   pub connection : new.connection ≡ (old.connection + 1) % 4294967296
-  pub typing : IsUnread new.typing × IsSet old.typing new.typing
+  pub typing : IsUnread new.typing × (at new.typing ≡ beginning) × IsSet old.typing new.typing
   pub input : new.early.items ≡ []
   pub rest : new ≡ record old {
     bytes = new.bytes;

@@ -1,6 +1,5 @@
 -- What a peer has for its server, and what is on its way there.
 use Rattle.std.specs.Prelude.{◌≡◌, ◌≢◌, ℕ, ◌<◌, Bool, true, false, not, None, List, [], ◌++◌, ◌⊎◌, length, drop}
-use Rattle.attach_proto.specs.declared.kind.Kind.{Kind}
 use Rattle.attach_proto.specs.declared.kind.Kind.TheVariants.{Output}
 use Rattle.client_page.specs.Held.{Holds}
 use Rattle.client_page.specs.Kept.{ReadsAll}
@@ -24,13 +23,6 @@ IsMore old new = (more : List ℕ) × (new ≡ old ++ more)
 pub record Puts (old new : Peer) (bytes : List ℕ) : Type 0 where
   pub added : new.frames.items ≡ old.frames.items ++ bytes
   pub rest : new ≡ record old { frames = new.frames }
-
--- whole frames with the first of these bytes were added, before memory was refused
-pub record SendsFirst (old new : List ℕ) (kind : Kind) (bytes : List ℕ) : Type 0 where
-  pub first : List ℕ
-  pub later : List ℕ
-  pub whole : first ++ later ≡ bytes
-  pub sends : Sends old new kind first
 
 -- the server has let the peer in and takes frames, no thread sends any, and some wait
 abbrev pub MaySend : Peer → Type 0

@@ -1,6 +1,6 @@
 -- What of the input is sent.
-use Rattle.std.specs.Prelude.{◌≡◌, ◌≢◌, ◌==◌, ℕ, ◌-◌, Bool, true, false, not, ◌&&◌, ◌||◌, List, [], ◌++◌, None, IsSome}
-use Rattle.std.specs.Prelude.{Contains}
+use Rattle.std.specs.Prelude.{◌≡◌, ◌≢◌, ◌==◌, ℕ, ◌+◌, ◌-◌, ◌%◌, Bool, true, false, not, ◌&&◌, ◌||◌, List, [], ◌++◌, None}
+use Rattle.std.specs.Prelude.{Contains, IsSome}
 use Rattle.attach_proto.specs.declared.kind.Kind.TheVariants.{Keys}
 use Rattle.attach_proto.specs.declared.message.Message.TheVariants.{Resize}
 use Rattle.attach_proto.specs.Spelling.{spelling}
@@ -9,6 +9,7 @@ use Rattle.client_notice.specs.declared.notice.NoticeStage.TheVariants as stage
 use Rattle.client_notice.specs.Notices.{IsNew, scrolled}
 use Rattle.client_typing.specs.Assisting.{Makes, at}
 use Rattle.client_typing.specs.Following.{LetsThrough, Follows}
+use Rattle.client_typing.specs.declared.typing.Typing.{Typing}
 use Rattle.client_peer.specs.declared.peer.Peer.{Peer}
 use Rattle.client_peer.specs.Reopening.{Sends}
 use Rattle.client_peer.specs.Sending.{Prints}
@@ -19,6 +20,10 @@ pub record IsSeated (p : Peer) : Type 0 where
   pub client : p.subcommand ≡ Window → ⊥
   pub here : p.loss ≡ None
   pub shown : p.is_helping ≡ false
+
+-- no key was read along with the session, and none was the client's own
+abbrev pub IsUntyped : Typing → Typing → Type 0
+IsUntyped old new = (new.keys ≡ old.keys) × (new.back ≡ old.back) × (new.asks_help ≡ old.asks_help)
 
 -- If the view was moved, the last line tells how far back it is. If it came to its end, the page is asked for, and the
 -- text is put away.
@@ -49,13 +54,15 @@ pub record Presses (old new : Peer) (typed : List ℕ) : Type 0 where
       → Follows old.typing.keys typed new.typing.keys
   pub assisted : IsSeated old → old.typing.assists ≡ true → SendsAssisted old new typed
   pub plain : old.typing.assists ≡ false → old.is_helping ≡ false → IsUncovered old new × (new.notice ≡ old.notice)
-  pub lost : IsSome old.loss → (new.frames ≡ old.frames) × IsUncovered old new × (new.notice ≡ old.notice)
+  pub lost : IsSome old.loss
+      → (new.frames ≡ old.frames) × IsUncovered old new × (new.notice ≡ old.notice) × IsUntyped old.typing new.typing
   pub ends : IsSome old.loss → Contains typed 3 → (new.is_final ≡ true) × (new.end ≡ old.loss)
   pub lasts : ((IsSome old.loss × Contains typed 3) → ⊥) → (new.is_final ≡ old.is_final) × (new.end ≡ old.end)
   pub helped : old.loss ≡ None → old.is_helping ≡ true
       → (new.is_helping ≡ false) × (new.is_covered ≡ old.is_cut)
       × (new.frames.items ≡ old.frames.items ++ spelling (Resize old.rows old.columns))
       × (new.bytes.items ≡ old.bytes.items) × (new.draws ≡ old.draws) × (new.notice ≡ old.notice)
+      × IsUntyped old.typing new.typing
 
 -- a peer with what typing may have changed of it
 abbrev pub typed_in : Peer → Peer → Peer
@@ -84,6 +91,7 @@ assisted_in old new = pressed_in old (record new { is_final = old.is_final; end 
 pub record TypesIn (old new : Peer) (input : List ℕ) : Type 0 where
   pub typed : List ℕ
   pub through : LetsThrough old.typing.leave input typed new.typing.leave
+  pub counts : (new.typing.reads ≡ (old.typing.reads + 1) % 4294967296) × (new.typing.assists ≡ old.typing.assists)
   pub prints : old.subcommand ≡ Window → Prints (record old { typing = new.typing }) new typed
   pub none : (old.subcommand ≡ Window → ⊥) → typed ≡ [] → new ≡ record old { typing = new.typing }
   pub presses : (old.subcommand ≡ Window → ⊥) → (typed ≡ [] → ⊥)

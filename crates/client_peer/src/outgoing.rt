@@ -6,7 +6,7 @@ ghost use Rattle.attach_proto.specs.Spelling.{frame, spelling};
 ghost use Rattle.attach_proto.specs.declared.kind.Kind.TheVariants.{Keys, Detach};
 ghost use Rattle.client_peer.specs.Failing.{FailsTyping};
 ghost use Rattle.client_peer.specs.Reopening.{Sends};
-ghost use Rattle.client_peer.specs.Sending.{Puts, SendsFirst, MaySend, HandsOut, HasBack};
+ghost use Rattle.client_peer.specs.Sending.{Puts, MaySend, HandsOut, HasBack};
 ghost use Rattle.client_peer.specs.Sending.{HasServer, IsFull, Prints, unsent, left};
 
 use crate::peer::Peer;
@@ -29,8 +29,7 @@ pub struct Batch {
 
 // Appends bytes as frames of a kind.
 pub(crate) fn put_frames(kind: Kind, bytes: &[u8], frames: &mut Vec<u8>) -> Result<(), AllocError>
-    ensures ok { OnOk result (Sends frames.old.items frames.new.items kind bytes.now) }
-    ensures err { OnErr result (SendsFirst frames.old.items frames.new.items kind bytes.now) }
+    ensures { OnOk result (Sends frames.old.items frames.new.items kind bytes.now) }
 {
     let mut rest = bytes;
     'pieces: while !rest.is_empty() {
@@ -56,7 +55,6 @@ impl Peer {
     /// Puts down what was typed.
     pub(crate) fn put_keys(&mut self, keys: &[u8]) -> Result<(), AllocError>
         ensures sends { OnOk result (Sends self.old.frames.items self.new.frames.items Keys keys.now) }
-        ensures first { OnErr result (SendsFirst self.old.frames.items self.new.frames.items Keys keys.now) }
         ensures same { self.new ≡ record self.old { frames = self.new.frames } }
     {
         put_frames(Kind::Keys, keys, &mut self.frames)

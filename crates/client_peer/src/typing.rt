@@ -8,6 +8,7 @@ ghost use Rattle.client_peer.specs.Ending.{without_input};
 ghost use Rattle.client_peer.specs.Failing.{FailsTyping};
 ghost use Rattle.client_peer.specs.Typing.{TypesIn, Presses, SendsAssisted, TellsScrolled, typed_in};
 ghost use Rattle.client_peer.specs.Typing.{assisted_in, pressed_in};
+ghost use Rattle.client_typing.specs.Following.{IsSet};
 
 use crate::peer::Peer;
 use client_notice::NoticeStage;
@@ -69,7 +70,7 @@ impl Peer {
     fn press(&mut self, keys: &[u8]) -> Result<(), PeerFault>
         ensures presses { OnOk result (Presses self.old self.new keys.now) }
         ensures fault { IfErr result (FailsTyping self.old self.new) }
-        ensures leave { self.new.typing.leave ≡ self.old.typing.leave }
+        ensures set { IsSet self.old.typing self.new.typing }
         ensures same { self.new ≡ pressed_in self.old self.new }
     {
         if self.is_lost() {
@@ -98,7 +99,7 @@ impl Peer {
 
     // Takes keys of a client that has its own.
     fn assist(&mut self, keys: &[u8]) -> Result<(), PeerFault>
-        ensures leave { self.new.typing.leave ≡ self.old.typing.leave }
+        ensures set { IsSet self.old.typing self.new.typing }
         ensures sends { OnOk result (SendsAssisted self.old self.new keys.now) }
         ensures fault { IfErr result (FailsTyping self.old self.new) }
         ensures same { self.new ≡ assisted_in self.old self.new }

@@ -43,14 +43,15 @@ Follows old keys new = (before : List ℕ) → StandsFor old before → StandsFo
 abbrev pub IsUnread : Typing → Type 0
 IsUnread t = StandsFor t.keys []
 
--- the byte that leaves, and whether the client has keys of its own
+-- the byte that leaves, whether the client has keys of its own, and how often something was typed
 abbrev pub IsSet : Typing → Typing → Type 0
-IsSet old new = (new.leave ≡ old.leave) × (new.assists ≡ old.assists)
+IsSet old new = (new.leave ≡ old.leave) × (new.assists ≡ old.assists) × (new.reads ≡ old.reads)
 
 -- but for the keys that it has read
 abbrev pub StaysBeside : Typing → Typing → Type 0
 StaysBeside old new =
-    (new.leave ≡ old.leave) × (new.assists ≡ old.assists) × (new.back ≡ old.back) × (new.asks_help ≡ old.asks_help)
+    (new.leave ≡ old.leave) × (new.assists ≡ old.assists) × (new.reads ≡ old.reads)
+    × (new.back ≡ old.back) × (new.asks_help ≡ old.asks_help)
 
 -- the session waits for no key: no prompt is open, and the command key wasn't typed last
 abbrev pub Rests : Typing → Type 0

@@ -1,9 +1,6 @@
-use Rattle.std.proofs.Common.{ℕ, List, ◌++◌, ap, ◌∙◌, sym, subst, arith}
+use Rattle.std.proofs.Common.{◌++◌, ap, ◌∙◌, arith}
 use Rattle.std.proofs.lemmas.List.{append_assoc}
 use Rattle.client_peer.proofs.Sending.{sends-more, cut-whole}
-use Rattle.client_peer.proofs.Passing.{on_err_given}
-use Rattle.client_peer.specs.Reopening.{Sends}
-use Rattle.client_peer.specs.Sending.{SendsFirst}
 use Rattle.client_peer.proofs.outgoing.put_frames.Goals as goal
 
 pub pieces-preserved : goal.pieces-preserved
@@ -23,18 +20,3 @@ pieces-preserved c =
           (cut-whole c.min.result c.pieces.rest.now piece later c.split_at.ensures.front c.split_at.ensures.back)
           ∙ c.pieces.invariant.whole;
     }
-
-pub returns-in_err-put_frame-clause-err : goal.returns-in_err-put_frame-clause-err
-returns-in_err-put_frame-clause-err c =
-    let old : List ℕ = c.args.frames.now.items in
-    let new : List ℕ = c.put_frame.new.frames.items in
-    let front : List ℕ = c.pieces.invariant.front in
-    on_err_given {P = SendsFirst old new c.args.kind c.args.bytes.now} c.from_residual.result
-    (record {
-      first = front;
-      later = c.pieces.rest.now;
-      whole = c.pieces.invariant.whole;
-      sends =
-          subst (λ (x : List ℕ). Sends old x c.args.kind front) (sym c.in_err-put_frame.ensures.err)
-          c.pieces.invariant.sends;
-    })

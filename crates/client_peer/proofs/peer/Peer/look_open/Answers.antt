@@ -1,7 +1,15 @@
-use Rattle.std.proofs.Common.{◌≡◌, ◌∙◌, ap, false, None}
+use Rattle.std.proofs.Common.{◌≡◌, ◌∙◌, refl, ap, false, None}
 use Rattle.client_peer.specs.declared.peer.Peer.{Peer}
 use Rattle.client_peer.proofs.Waiting.{false_true, is_idle, not_done, not_none}
 use Rattle.client_peer.proofs.peer.Peer.look_open.Goals as goal
+
+pub returns-then-can_send-clause-next : goal.returns-then-can_send-clause-next
+returns-then-can_send-clause-next c =
+    let end : c.act.new.self.end ≡ None = ap (λ (p : Peer). p.end) c.act.ensures.same ∙ c.requires.0 in (
+      c.if-can_send.ensures.0 refl,
+      end,
+      not_done c.act.new.self c.args.now end (ap (λ (p : Peer). p.times.left_at) c.act.ensures.same ∙ c.requires.1),
+    )
 
 pub returns-then-waits_for_time-clause-next : goal.returns-then-waits_for_time-clause-next
 returns-then-waits_for_time-clause-next c =

@@ -1,6 +1,7 @@
-use Rattle.std.proofs.Common.{rules, true, ℕ, List, Option, sym, ap, subst}
+use Rattle.std.proofs.Common.{rules, true, ◌∙◌, ℕ, List, Option, sym, ap, subst}
 use Rattle.client_words.specs.declared.leaving.LeaveReader.{LeaveReader}
 use Rattle.client_typing.specs.Following.{LetsThrough}
+use Rattle.client_typing.specs.declared.typing.Typing.{Typing}
 use Rattle.client_peer.specs.declared.peer.Peer.{Peer}
 use Rattle.client_peer.specs.Typing.{Presses}
 use Rattle.client_peer.proofs.Assisting.{presses_read}
@@ -16,7 +17,11 @@ returns-clause-types c = λ more.
       typed = c.read.new.out.items;
       through =
           subst (λ (l : Option LeaveReader). LetsThrough old.typing.leave c.args.piece.bytes.now c.read.new.out.items l)
-          (sym c.press.ensures.leave) (c.in_ok-read.ensures.through c.new-bytes.ensures.items);
+          (sym c.press.ensures.set.0) (c.in_ok-read.ensures.through c.new-bytes.ensures.items);
+      counts = (
+        c.press.ensures.set.2 ∙ ap (λ (t : Typing). t.reads) c.read.ensures.same,
+        c.press.ensures.set.1 ∙ ap (λ (t : Typing). t.assists) c.read.ensures.same,
+      );
       prints = λ window. search rules;
       none = λ client none. search rules;
       presses = λ client some. (

@@ -9,7 +9,7 @@ keys-init c = record {
   sent = [];
   added = sym (append-nil c.args.out.now.items);
   makes = λ more last m. m;
-  same = (refl, refl);
+  same = (refl, refl, refl);
 }
 
 pub keys-preserved : goal.keys-preserved
@@ -25,7 +25,11 @@ keys-preserved c =
           subst (λ (l : List ℕ). Makes c.args.page (at c.args.self.now) c.args.keys.now l last)
           (sym (append_assoc front first.sent more))
           (c.keys.invariant.makes (first.sent ++ more) last (next first.makes m));
-      same = (c.take.ensures.same.0 ∙ c.keys.invariant.same.0, c.take.ensures.same.1 ∙ c.keys.invariant.same.1);
+      same = (
+        c.take.ensures.same.0 ∙ c.keys.invariant.same.0,
+        c.take.ensures.same.1 ∙ c.keys.invariant.same.1,
+        c.take.ensures.same.2 ∙ c.keys.invariant.same.2,
+      );
     }
 
 pub returns-clause-assists : goal.returns-clause-assists
