@@ -1,15 +1,15 @@
 -- Looks at the rows of a page, one after another.
-use Rattle.std.proofs.Common.{◌≡◌, ◌⊎◌, ℕ, suc, ◌+◌, ◌<◌, ◌≤◌, Bool, true, false, ◌||◌, List, [], ◌∷◌, length, take}
-use Rattle.std.proofs.Common.{map, refl, sym, ap, ◌∙◌, ◌++◌, set, arith, inl, inr, ⊎_elim, below_more}
+use Rattle.std.proofs.Common.{◌≡◌, ℕ, suc, ◌+◌, ◌<◌, ◌≤◌, Bool, true, false, ◌||◌, List, [], ◌∷◌, length, take}
+use Rattle.std.proofs.Common.{map, refl, sym, ap, ◌∙◌, ◌++◌, set, arith, inl, inr, ⊎_elim, below_more, subst}
 use Rattle.std.proofs.lemmas.List.{get_or-take, take_all, length-take, length_push, get_or_push, get_or_append_left}
-use Rattle.std.proofs.lemmas.List.{length-set, get_or-set_same, get_or-set_other}
-use Rattle.std.proofs.lemmas.Bool.{or_parts, true≢false, cases_lt}
+use Rattle.std.proofs.lemmas.List.{length-set, get_or-set_same, get_or-set_other, length-map, get_or-map}
+use Rattle.std.proofs.lemmas.Bool.{or_parts, true≢false}
 use Rattle.cells.specs.declared.cell.Cell.{Cell}
 use Rattle.cells.specs.Line.{unprotected}
 use Rattle.cells.specs.Page.{line_at}
 use Rattle.web_page.specs.Runs.{runs}
 use Rattle.web_page.specs.Laying.{Shown}
-use Rattle.web_page.specs.Showing.{Kept, Sheet, kept_at, IsShown, LooksAt, HasLooked}
+use Rattle.web_page.specs.Showing.{Kept, Sheet, kept_at, IsShown, IsStamped, LooksAt, HasLooked}
 
 pub cells_are : (rows : List Kept) (page : List (List Cell)) → length rows ≡ length page
     → ((n : ℕ) → n < length page → (kept_at rows n).cells ≡ line_at page n) → map (λ (r : Kept). r.cells) rows ≡ page
@@ -22,50 +22,53 @@ cells_are (r ∷ rs) (p ∷ ps) l h =
 
 -- no row was looked at yet: rows past the page are gone
 pub first : (page : List (List Cell)) (stamp : ℕ) (old : List Kept) (is_new : Bool)
-    → (is_new ≡ false → length old ≤ length page)
+    → (is_new ≡ false → length old ≤ length page) → (length old ≤ length page → is_new ≡ false)
     → HasLooked 0 page stamp old (take (length page) old) is_new
-first page stamp old is_new h =
+first page stamp old is_new h k =
     let len = length-take (length page) old in
     record {
-      enough = omega arith;
+      inside = omega arith;
+      sized = omega arith;
       cells = λ n l. absurd (omega arith);
       stamps = λ n l. absurd (omega arith);
       rest = λ n k l. get_or-take (length page) old n (record { cells = []; stamp = 0 }) (omega arith);
-      short = omega arith;
-      more = λ l. omega arith;
       same = λ e. take_all (length page) old (h e);
+      idle = λ e. k (omega (arith, ap length e, length-map old (λ (r : Kept). r.cells)));
     }
-
--- the rows are as many as before, or one more
-longer_or_not : (i m n : ℕ) → i ≤ m → (m ≡ i → n ≡ suc i) → (i < m → n ≡ m)
-    → ((n ≡ m) × (i < m)) ⊎ ((m ≡ i) × (n ≡ suc i))
-longer_or_not i m n e l a =
-    ⊎_elim (λ k. inl (a k, k)) (λ k. let same : m ≡ i = omega arith in inr (same, l same)) (cases_lt i m)
 
 pub one_more : (i : ℕ) (page : List (List Cell)) (cells : List Cell) (stamp : ℕ) (old mid new : List Kept)
     (a b : Bool) → i < length page → cells ≡ line_at page i → HasLooked i page stamp old mid a
     → LooksAt i cells stamp mid new b → HasLooked (i + 1) page stamp old new (a || b)
 one_more i page cells stamp old mid new a b inside line h k =
-    let d = longer_or_not i (length mid) (length new) h.enough k.longer k.as_long in
-    let enough = h.enough in
-    let short = h.short in
-    let more = h.more in
+    let was = h.sized in
+    let is = k.sized in
     record {
-      enough = ⊎_elim (λ p. omega (arith, p.0, p.1)) (λ p. omega (arith, p.0, p.1)) d;
+      inside = omega arith;
+      sized = omega arith;
       cells = below_more _ _ (λ n l. ap (λ (r : Kept). r.cells) (k.others n (omega arith) (omega arith)) ∙ h.cells n l)
           (k.taken ∙ line);
       stamps = below_more _ _
-          (λ n l. let e = k.others n (omega arith) (omega arith) in
-          ⊎_elim (λ s. inl (ap (λ (r : Kept). r.stamp) e ∙ s)) (λ p. inr (p.0, e ∙ p.1)) (h.stamps n l))
-          (⊎_elim (λ s. inl s) (λ p. let m = more p.0 in inr (omega (arith, p.0, m), p.1 ∙ h.rest i (omega arith) p.0))
-          k.stamped);
+          (λ n l. subst (λ (r : Kept). IsStamped stamp n old r) (sym (k.others n (omega arith) (omega arith)))
+          (h.stamps n l))
+          (⊎_elim
+          (λ p. inl (omega (arith, p.0), p.1 ∙ h.rest i (omega arith) p.0))
+          (λ s. inr (
+            s.0,
+            λ l e. let m : i < length mid = omega arith in
+                s.1 m (ap (λ (r : Kept). r.cells) (h.rest i (omega arith) m) ∙ e),
+          )) k.stamped);
       rest = λ n l m.
-          let before : n < length mid = ⊎_elim (λ p. omega (arith, p.0, p.1))
-          (λ p. absurd (omega (arith, p.0, p.1))) d in
+          let before : n < length mid = omega arith in
           k.others n before (omega arith) ∙ h.rest n (omega arith) before;
-      short = ⊎_elim (λ p. omega (arith, p.0, p.1)) (λ p. omega (arith, p.0, p.1)) d;
-      more = λ l. ⊎_elim (λ p. let m = more p.1 in omega (arith, p.0, m)) (λ p. absurd (omega (arith, p.0, p.1))) d;
       same = λ e. let p = or_parts a b e in k.same p.1 ∙ h.same p.0;
+      idle = λ e.
+          let none : a ≡ false = h.idle e in
+          let l : i < length mid = omega (arith, ap length e, length-map old (λ (r : Kept). r.cells)) in
+          let alike : (kept_at mid i).cells ≡ cells = ap (λ (r : Kept). r.cells) (h.rest i (omega arith) l)
+          ∙ (sym (get_or-map (λ (r : Kept). r.cells) old i (record { cells = []; stamp = 0 }) [] (omega arith))
+          ∙ (ap (λ p. line_at p i) e ∙ sym line)) in
+          let still : b ≡ false = k.idle l alike in
+          rw (none, still) refl;
     }
 
 -- browsers are as far as before a look that found changes
@@ -75,14 +78,14 @@ pub browsers : (old new : Sheet) (page : List (List Cell)) (is_new : Bool) (sinc
     → IsShown since old b → IsShown since new b
 browsers old new page is_new since b e h k =
     let past = k.past in
-    let short = h.short in
+    let sized = h.sized in
     record {
       past = omega arith;
       whole = λ l. absurd (omega arith);
       rows = λ n l s. ⊎_elim
-          (λ m. absurd (omega arith))
           (λ p. let t = rw p.1 at s in let w = k.rows n p.0 t in
           (w.0, w.1 ∙ ap (λ (r : Kept). runs r.cells) (sym p.1)))
+          (λ m. absurd (omega (arith, m.0)))
           (h.stamps n (omega arith));
     }
 
@@ -100,38 +103,39 @@ pushed rows new cells copy stamp number n e w =
     record {
       others = λ m l k. ap (λ l. kept_at l m) w
           ∙ get_or_append_left rows (one_row copy stamp ∷ []) (record { cells = []; stamp = 0 }) m l;
-      longer = λ l. omega arith;
-      as_long = λ l. absurd (omega arith);
+      sized = omega arith;
       taken = ap (λ (r : Kept). r.cells) last ∙ e;
-      stamped = inl (ap (λ (r : Kept). r.stamp) last);
+      stamped = inr (ap (λ (r : Kept). r.stamp) last, λ l. absurd (omega arith));
       same = λ f. absurd (true≢false f);
+      idle = λ l. absurd (omega arith);
     }
 
 pub stays : (rows : List Kept) (cells : List Cell) (stamp number : ℕ) → number < length rows
     → (kept_at rows number).cells ≡ cells → LooksAt number cells stamp rows rows false
 stays rows cells stamp number l e = record {
   others = λ m k f. refl;
-  longer = λ k. absurd (omega arith);
-  as_long = λ k. refl;
+  sized = omega arith;
   taken = e;
-  stamped = inr (l, refl);
+  stamped = inl (l, refl);
   same = λ f. refl;
+  idle = λ k f. refl;
 }
 
 pub replaced : (rows new : List Kept) (cells copy : List Cell) (stamp number : ℕ) → number < length rows
-    → copy ≡ cells → new ≡ set rows number (one_row copy stamp) → LooksAt number cells stamp rows new true
-replaced rows new cells copy stamp number l e w =
+    → ((kept_at rows number).cells ≡ cells → ⊥) → copy ≡ cells → new ≡ set rows number (one_row copy stamp)
+    → LooksAt number cells stamp rows new true
+replaced rows new cells copy stamp number l f e w =
     let len : length new ≡ length rows = ap length w ∙ length-set rows number (one_row copy stamp) in
     let here : kept_at new number ≡ one_row copy stamp = ap (λ l. kept_at l number) w
     ∙ get_or-set_same rows number (one_row copy stamp) (record { cells = []; stamp = 0 }) l in
     record {
-      others = λ m k f. ap (λ l. kept_at l m) w
-          ∙ get_or-set_other rows number m (one_row copy stamp) (record { cells = []; stamp = 0 }) f;
-      longer = λ k. absurd (omega arith);
-      as_long = λ k. len;
+      others = λ m k g. ap (λ l. kept_at l m) w
+          ∙ get_or-set_other rows number m (one_row copy stamp) (record { cells = []; stamp = 0 }) g;
+      sized = omega arith;
       taken = ap (λ (r : Kept). r.cells) here ∙ e;
-      stamped = inl (ap (λ (r : Kept). r.stamp) here);
-      same = λ f. absurd (true≢false f);
+      stamped = inr (ap (λ (r : Kept). r.stamp) here, λ m k. f (k ∙ (ap (λ (r : Kept). r.cells) here ∙ e)));
+      same = λ k. absurd (true≢false k);
+      idle = λ m k. absurd (f k);
     }
 
 -- cells that look alike, and are both protected or both not

@@ -1,6 +1,6 @@
 -- Looks at a whole sheet, and the updates after them.
 use Rattle.std.proofs.Common.{◌≡◌, ◌⊎◌, ℕ, zero, suc, ◌+◌, ◌<◌, ◌≤◌, Bool, false, List, [], ◌∷◌, length}
-use Rattle.std.proofs.Common.{map, get_or, refl, sym, ap, ◌∙◌, arith, ⊎_elim, subst}
+use Rattle.std.proofs.Common.{map, get_or, refl, sym, ap, ◌∙◌, arith, inl, ⊎_elim, subst}
 use Rattle.std.proofs.lemmas.List.{length-map}
 use Rattle.terminal_model.specs.Screen.{Page}
 use Rattle.terminal_model.specs.Reading.{Terminal}
@@ -17,20 +17,26 @@ use Rattle.web_page.proofs.Looking.{cells_are, browsers}
 
 -- a look that finds nothing to look at
 pub still : (s : Sheet) → 0 < s.moment → IsLooked s.terminal s.head s.rows → Looks s s
-still s l k = record { terminal = refl; looked = k; later = l; browsers = λ since b h. h }
+still s l k = record {
+  terminal = refl;
+  looked = k;
+  later = l;
+  browsers = λ since b h. h;
+  stamps = λ n m. inl (m, refl);
+  idle = λ h. refl;
+}
 
 rows_are : (page : Page) (stamp : ℕ) (old new : List Kept) (is_new : Bool)
     → HasLooked (length page) page stamp old new is_new → map (λ (r : Kept). r.cells) new ≡ page
 rows_are page stamp old new is_new h =
-    let enough = h.enough in
-    let short = h.short in
+    let sized = h.sized in
     cells_are new page (omega arith) h.cells
 
 pub changed : (old new : Sheet) (is_new : Bool)
     → HasLooked (length old.terminal.screen.page) old.terminal.screen.page old.moment old.rows new.rows is_new
     → new.terminal ≡ old.terminal → new.head ≡ head_of old.terminal.screen → new.moment ≡ old.moment + 1
-    → Looks old new
-changed old new is_new h t e m = record {
+    → (is_new ≡ false → new.head ≡ old.head → ⊥) → Looks old new
+changed old new is_new h t e m f = record {
   terminal = t;
   looked = record {
     same_head = e ∙ ap (λ (p : Parts). head_of p.screen) (sym t);
@@ -39,6 +45,8 @@ changed old new is_new h t e m = record {
   };
   later = omega arith;
   browsers = λ since b k. browsers old new old.terminal.screen.page is_new since b m h k;
+  stamps = λ n l. let sized = h.sized in h.stamps n (omega arith);
+  idle = λ k. absurd (f (h.idle k.same_page) (e ∙ sym k.same_head));
 }
 
 abbrev settled : Sheet → Head → List Kept → ℕ → Sheet
@@ -54,28 +62,6 @@ same_sheet : (old : Sheet) (head : Head) (rows : List Kept) (count : ℕ) → he
 same_sheet old head rows count h r z =
     let m : old.moment + count ≡ old.moment = omega arith in rw (h, r, m) refl
 
--- a look after which the moment is later by the count of changes
-pub looks : (old : Sheet) (head : Head) (rows : List Kept) (count : ℕ) (is_new : Bool)
-    → HasLooked (length old.terminal.screen.page) old.terminal.screen.page old.moment old.rows rows is_new
-    → head ≡ head_of old.terminal.screen → 0 < old.moment
-    → (count ≡ 1) ⊎ ((count ≡ 0) × (is_new ≡ false) × (head ≡ old.head))
-    → Looks old (settled old head rows count)
-looks old head rows count is_new h e m c =
-    ⊎_elim
-    (λ one. changed old (settled old head rows count) is_new h refl e (ap (λ n. old.moment + n) one))
-    (λ none.
-    let same : settled old head rows count ≡ old = same_sheet old head rows count none.2 (h.same none.1) none.0 in
-    let looked : IsLooked old.terminal head rows = record {
-      same_head = e;
-      same_page = rows_are old.terminal.screen.page old.moment old.rows rows is_new h;
-    } in
-    record {
-      terminal = refl;
-      looked = looked;
-      later = omega arith;
-      browsers = λ since b k. subst (λ (s : Sheet). IsShown since s b) (sym same) k;
-    }) c
-
 -- the look's sheet is looked at
 pub looked_at : (old : Sheet) (head : Head) (rows : List Kept) (count : ℕ) (is_new : Bool)
     → HasLooked (length old.terminal.screen.page) old.terminal.screen.page old.moment old.rows rows is_new
@@ -84,6 +70,21 @@ looked_at old head rows count is_new h e = record {
   same_head = e;
   same_page = rows_are old.terminal.screen.page old.moment old.rows rows is_new h;
 }
+
+-- a look after which the moment is later by the count of changes
+pub looks : (old : Sheet) (head : Head) (rows : List Kept) (count : ℕ) (is_new : Bool)
+    → HasLooked (length old.terminal.screen.page) old.terminal.screen.page old.moment old.rows rows is_new
+    → head ≡ head_of old.terminal.screen → 0 < old.moment
+    → ((count ≡ 1) × (is_new ≡ false → head ≡ old.head → ⊥)) ⊎ ((count ≡ 0) × (is_new ≡ false) × (head ≡ old.head))
+    → Looks old (settled old head rows count)
+looks old head rows count is_new h e m c =
+    ⊎_elim
+    (λ one. changed old (settled old head rows count) is_new h refl e (ap (λ n. old.moment + n) one.0) one.1)
+    (λ none.
+    let same : settled old head rows count ≡ old = same_sheet old head rows count none.2 (h.same none.1) none.0 in
+    let looked : IsLooked old.terminal old.head old.rows =
+    subst (λ (s : Sheet). IsLooked s.terminal s.head s.rows) same (looked_at old head rows count is_new h e) in
+    subst (Looks old) (sym same) (still old m looked)) c
 
 -- ---- updates
 

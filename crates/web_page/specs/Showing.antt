@@ -1,5 +1,5 @@
 -- A sheet, and how far the browsers are that were sent updates of it.
-use Rattle.std.specs.Prelude.{◌≡◌, ◌⊎◌, ℕ, ◌<◌, ◌≤◌, suc, nat_lt, cond, List, [], ◌∷◌, length, map}
+use Rattle.std.specs.Prelude.{◌≡◌, ◌≢◌, ◌⊎◌, ℕ, ◌<◌, ◌≤◌, suc, nat_lt, cond, List, [], ◌∷◌, length, map, max, min}
 use Rattle.std.specs.Prelude.{slice_index_or, Bool, false}
 use Rattle.cells.specs.declared.cell.Cell.{Cell}
 use Rattle.cells.specs.Page.{line_at}
@@ -59,33 +59,40 @@ pub record IsLooked (terminal : Parts) (head : Head) (rows : List Kept) : Type 0
   pub same_head : head ≡ head_of terminal.screen
   pub same_page : map (λ r. r.cells) rows ≡ terminal.screen.page
 
+-- row n after a look: it is the one that was there, or has other cells and this moment
+abbrev pub IsStamped : ℕ → ℕ → List Kept → Kept → Type 0
+IsStamped stamp n old r =
+    ((n < length old) × (r ≡ kept_at old n))
+    ⊎ ((r.stamp ≡ stamp) × (n < length old → (kept_at old n).cells ≢ r.cells))
+
 -- a look at the row of this number: the others stay
 pub record LooksAt (number : ℕ) (cells : List Cell) (stamp : ℕ) (old new : List Kept) (is_new : Bool)
     : Type 0 where
   pub others : (n : ℕ) → n < length old → (n ≡ number → ⊥) → kept_at new n ≡ kept_at old n
-  pub longer : length old ≡ number → length new ≡ suc number
-  pub as_long : number < length old → length new ≡ length old
+  pub sized : length new ≡ max (length old) (suc number)
   pub taken : (kept_at new number).cells ≡ cells
-  pub stamped : ((kept_at new number).stamp ≡ stamp)
-      ⊎ ((number < length old) × (kept_at new number ≡ kept_at old number))
+  pub stamped : IsStamped stamp number old (kept_at new number)
   pub same : is_new ≡ false → new ≡ old
+  pub idle : number < length old → (kept_at old number).cells ≡ cells → is_new ≡ false
 
 -- a look at the first rows of a page, from old to new
 pub record HasLooked (count : ℕ) (page : List (List Cell)) (stamp : ℕ) (old new : List Kept)
     (is_new : Bool)
     : Type 0 where
-  pub enough : count ≤ length new
+  pub inside : count ≤ length page
+  pub sized : length new ≡ max count (min (length old) (length page))
   pub cells : (n : ℕ) → n < count → (kept_at new n).cells ≡ line_at page n
-  pub stamps : (n : ℕ) → n < count → ((kept_at new n).stamp ≡ stamp)
-      ⊎ ((n < length old) × (kept_at new n ≡ kept_at old n))
+  pub stamps : (n : ℕ) → n < count → IsStamped stamp n old (kept_at new n)
   pub rest : (n : ℕ) → count ≤ n → n < length new → kept_at new n ≡ kept_at old n
-  pub short : length new ≤ length page
-  pub more : count < length new → length new ≤ length old
   pub same : is_new ≡ false → new ≡ old
+  pub idle : map (λ r. r.cells) old ≡ page → is_new ≡ false
 
--- after a look: browsers are as far as they were
+-- After a look: browsers are as far as they were.  Only rows whose cells are others change, and if the page is
+-- as it was last looked at, nothing does.
 pub record Looks (old new : Sheet) : Type 0 where
   pub terminal : new.terminal ≡ old.terminal
   pub looked : IsLooked new.terminal new.head new.rows
   pub later : 0 < new.moment
   pub browsers : AreAsFar old new
+  pub stamps : (n : ℕ) → n < length new.rows → IsStamped old.moment n old.rows (kept_at new.rows n)
+  pub idle : IsLooked old.terminal old.head old.rows → new ≡ old

@@ -8,7 +8,7 @@ ghost use Rattle.terminal_model.specs.Reading.{Terminal, reads};
 ghost use Rattle.emulator.specs.Standing.{StandsFor};
 ghost use Rattle.web_page.specs.Updates.{Update, spelled};
 ghost use Rattle.web_page.specs.Laying.{Shown, laid, page_of};
-ghost use Rattle.web_page.specs.Showing.{IsShown, AreAsFar, newer};
+ghost use Rattle.web_page.specs.Showing.{IsShown, Looks, newer};
 ghost use Rattle.web_page.specs.Failing.{FailsAt, IsNext};
 ghost use Rattle.web_page.specs.Vacant.{IsVacant};
 ghost use Rattle.web_page.specs.Hearing.{IsBlank, IsResized, drawn, all_drawn, Hears, KeepsSent};
@@ -157,7 +157,8 @@ impl WebDisplay {
           head = self.new.sheet.head;
           rows = newer since 0 self.new.sheet.rows;
         }))) }
-        ensures browsers { OnOk result (AreAsFar self.old.sheet self.new.sheet) }
+        // A page that is as it was last looked at is nothing new.
+        ensures looks { OnOk result (Looks self.old.sheet self.new.sheet) }
         ensures fault { IfErr result (FailsAt self.old.sheet.moment) }
         ensures moment { IsNext self.old.sheet.moment self.new.sheet.moment }
         // One that was sent all changes is sent nothing.

@@ -1,6 +1,6 @@
 //! The rows of a page as they were when it was last looked at.
 
-ghost use Rattle.std.specs.Prelude.{◌≡◌, ◌++◌, ◌∷◌, ◌≤◌, List, suc, true, length, OnOk, OnErr, IfOk};
+ghost use Rattle.std.specs.Prelude.{◌≡◌, ◌++◌, ◌∷◌, ◌≤◌, ◌↔◌, List, suc, length, IsTrue, OnOk, OnErr, IfOk};
 ghost use Rattle.std.specs.List.{flat_map};
 ghost use Rattle.std.specs.String.{string_bytes};
 ghost use Rattle.web_page.specs.Runs.{runs};
@@ -27,10 +27,10 @@ impl Model for StampedRow {
     ghost view = { λ r. record { cells = r.cells.items; stamp = r.stamp } };
 }
 
-/// Whether two cells are equal, unless the answer is false.
+/// Whether two cells are equal.
 #[tactic(auto, using(crate::proofs::Looking::same_from))]
 fn is_same(a: &Cell, b: &Cell) -> bool
-    ensures { result ≡ true → a.now ≡ b.now }
+    ensures { IsTrue result ↔ (a.now ≡ b.now) }
 {
     if !a.is_like(b) {
         return false;
@@ -42,9 +42,9 @@ fn is_same(a: &Cell, b: &Cell) -> bool
     }
 }
 
-/// Whether two rows are equal, unless the answer is false.
+/// Whether two rows are equal.
 fn are_same(a: &[Cell], b: &[Cell]) -> bool
-    ensures { result ≡ true → a.now ≡ b.now }
+    ensures { IsTrue result ↔ (a.now ≡ b.now) }
 {
     if a.len() != b.len() {
         return false;
@@ -58,11 +58,11 @@ fn are_same(a: &[Cell], b: &[Cell]) -> bool
 }
 
 impl StampedRow {
-    ghost use Rattle.std.specs.Prelude.{◌≡◌, true};
+    ghost use Rattle.std.specs.Prelude.{◌≡◌, ◌↔◌, IsTrue};
 
-    // Whether it has these cells, unless the answer is false.
+    // Whether it has these cells.
     fn has(&self, cells: &[Cell]) -> bool
-        ensures { result ≡ true → self.now.cells ≡ cells.now }
+        ensures { IsTrue result ↔ (self.now.cells ≡ cells.now) }
     {
         are_same(&self.cells, cells)
     }

@@ -1,6 +1,6 @@
 //! The page of a terminal, for browsers that were sent more or less of it.
 
-ghost use Rattle.std.specs.Prelude.{◌≡◌, ◌⊎◌, ◌<◌, ◌≤◌, ℕ, OnOk, OnErr, ◌↔◌};
+ghost use Rattle.std.specs.Prelude.{◌≡◌, ◌≢◌, ◌⊎◌, ◌<◌, ◌≤◌, ℕ, OnOk, OnErr, ◌↔◌};
 ghost use Rattle.std.specs.Prelude.{IsTrue, IfOk, IfErr, IfSome, MatchOption, length, Err, false};
 ghost use Rattle.std.specs.List.{list_all};
 ghost use Rattle.std.specs.String.{string_bytes};
@@ -187,15 +187,15 @@ fn look_at_rows(
     let mut is_new = rows.len() > count;
     rows.truncate(count);
     for number in 0..count {
-        let is_other = look_at(alloc, rows, number, page.line(number), moment)?;
-        is_new = is_new || is_other;
+        is_new |= look_at(alloc, rows, number, page.line(number), moment)?;
     }
     Ok(is_new)
 }
 
 /// How many changes there are: one if a row or the head is new, and else none.
 fn count_of(is_new: bool, head: Head, old: Head) -> u64
-    ensures some { (result ≡ 1) ⊎ ((result ≡ 0) × (is_new ≡ false) × (head ≡ old)) }
+    ensures some { ((result ≡ 1) × (is_new ≡ false → head ≢ old))
+        ⊎ ((result ≡ 0) × (is_new ≡ false) × (head ≡ old)) }
     ensures few { result ≤ 1 }
 {
     if is_new || head != old { 1 } else { 0 }
@@ -314,7 +314,8 @@ impl Sheet {
         ensures then { (t : Terminal) → StandsFor self.old.terminal t
             → OnOk result (StandsFor self.new.terminal t
             × IsShown self.new.moment self.new (page_of t.screen)) }
-        ensures browsers { OnOk result (AreAsFar self.old self.new) }
+        // A page that is as it was last looked at is nothing new.
+        ensures looks { OnOk result (Looks self.old self.new) }
         // It fails for memory, or after 2^64 - 2 updates.
         ensures fault { IfErr result (FailsAt self.old.moment) }
         ensures moment { IsNext self.old.moment self.new.moment }

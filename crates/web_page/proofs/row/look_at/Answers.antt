@@ -11,4 +11,4 @@ returns-then-has-clause-ok c =
     sym (c.index.ensures ∙ get_or_default c.args.rows.now.items c.args.number c.index.result.now
     (record { cells = []; stamp = 0 }) inside) in
     stays c.args.rows.now.items c.args.cells.now c.args.stamp c.args.number inside
-    (ap (λ (r : Kept). r.cells) here ∙ c.has.ensures c.if-has.true)
+    (ap (λ (r : Kept). r.cells) here ∙ c.has.ensures.0 c.if-has.true)
