@@ -14,14 +14,15 @@ abbrev pub IsAsNew : Option (ℤ × ℤ) → Option (ℤ × ℤ) → Type 0
 IsAsNew (Some it) (Some other) = IsNoEarlier it other
 IsAsNew it other = ⊥
 
--- What files say: whether one is there, this was read of one, nothing was, and one was written at this time, if there
--- is one. What was done with connections: one was made to a socket, one took these bytes, the sending side of one was
--- ended, and whether the other end of one is still there.
+-- What files say: whether one is there, this was read of one, nothing was, one was written at this time, if there is
+-- one, and whether the mode of one has some of these bits. What was done with connections: one was made to a socket, one
+-- took these bytes, the sending side of one was ended, and whether the other end of one is still there.
 pub record Disk : Type 1 where
   pub stands : List ℕ → Bool → Type 0
   pub has : List ℕ → List ℕ → Type 0
   pub lacks : List ℕ → Type 0
   pub is_of : List ℕ → Option (ℤ × ℤ) → Type 0
+  pub has_mode : List ℕ → ℕ → Bool → Type 0
   pub reached : List ℕ → UnixStream → Type 0
   pub took : UnixStream → List ℕ → Type 0
   pub ended : UnixStream → Type 0
@@ -33,6 +34,7 @@ anything = record {
   has = λ path bytes. Unit {0};
   lacks = λ path. Unit {0};
   is_of = λ path time. Unit {0};
+  has_mode = λ path mode has. Unit {0};
   reached = λ path stream. Unit {0};
   took = λ stream bytes. Unit {0};
   ended = λ stream. Unit {0};

@@ -94,8 +94,7 @@ fn print<O: Write, E: Write>(asked: &[u8], status: u8, output: &mut O, errors: &
     1
 }
 
-/// Runs `mux`. The first word is the program's name. Returns the exit status: 0, 1 for a fault, 2 for
-/// invalid arguments.
+/// Runs `mux`. The first word is the program's name. The exit status is 0, 1 for a fault, or 2 for invalid arguments.
 pub fn client<R: PeerHost + Threads + Wait + Files<File = File>, I: Source, O: Sink, E: Write>(
     rt: &R,
     words: &[String],

@@ -48,6 +48,14 @@ pub trait Connects {
     /// When a file was written.
     fn written(&self, path: &str) -> Option<(i64, i64)>
         ensures { (disk self.now).is_of path.now result };
+
+    /// Whether a file's mode has one of these bits. A terminal or a pipe isn't a file here.
+    fn has_mode(&self, path: &str, mode: u32) -> bool
+        ensures { (disk self.now).has_mode path.now mode result };
+
+    /// Reads a file to its end.
+    fn read_file(&self, path: &str) -> io::Result<Vec<u8>>
+        ensures { IfOk result (λ bytes. (disk self.now).has path.now bytes.items) };
 }
 
 impl Connects for HostRuntime {
@@ -86,6 +94,17 @@ impl Connects for HostRuntime {
     fn written(&self, path: &str) -> Option<(i64, i64)> {
         let found = fs::metadata(self, path).ok()?;
         Some((found.mtime(), found.mtime_nsec()))
+    }
+
+    fn has_mode(&self, path: &str, mode: u32) -> bool {
+        match fs::metadata(self, path) {
+            Ok(found) => found.is_file() && found.mode() & mode != 0,
+            Err(_) => false,
+        }
+    }
+
+    fn read_file(&self, path: &str) -> io::Result<Vec<u8>> {
+        fs::read(self, path)
     }
 }
 

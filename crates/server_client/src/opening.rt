@@ -1,17 +1,17 @@
 //! The connection with its first frame, and the files that the arguments name.
 
 ghost use Rattle.std.specs.Prelude.{◌≡◌, true, IfOk, OnOk};
-ghost use Rattle.server_client.specs.Opening.{Begins, BeginsWith, IsAtSession, IsOpened, LeadsAtOnce, LeadsBack};
+ghost use Rattle.attach_proto.specs.Texts.{token_of};
+ghost use Rattle.server_client.specs.Opening.{Begins, BeginsWith, IsAtSession, IsOpened, IsTokenOf, LeadsAtOnce};
+ghost use Rattle.server_client.specs.Opening.{LeadsBack, line_of};
 
 use crate::PeerHost;
-use crate::beside::mark_of;
+use crate::beside::{Connects, mark_of};
 use attach_proto::Token;
 use client_words::{Arguments, PeerFault, RefusedPart, Subcommand};
-use std::alloc::Global;
 use std::fs::{File, OpenOptions};
 use std::io::{ErrorKind, Write};
 use std::os::fd::AsRawFd;
-use std::os::unix::fs::MetadataExt;
 use std::os::unix::net::UnixStream;
 use std::time::Duration;
 use std::{fs, io, thread};
@@ -19,8 +19,7 @@ use std::{fs, io, thread};
 // How long a socket that has a limit may take nothing, in milliseconds, before a frame waits.
 const PATIENCE: u64 = 20;
 
-// How long a client that comes back lets windows go first, in milliseconds: one that comes before them
-// shows none.
+// How long a client that comes back lets windows go first, in milliseconds: one that comes before them shows none.
 const GRACE: u64 = 300;
 
 // Modes of a file: those of its group and of all others.
@@ -28,24 +27,9 @@ const OTHERS_READ: u32 = 0o044;
 
 const OTHERS_WRITE: u32 = 0o022;
 
-// A fault of the arguments, whatever the token is.
-fn judge_arguments(alloc: Global, arguments: &Arguments<'_>) -> Result<(), PeerFault> {
-    let zeros = Token::read(&[b'0'; 64]).ok_or(PeerFault::NoToken)?;
-    arguments.first_frame(alloc, zeros)?;
-    Ok(())
-}
-
-// Whether a file's mode has one of these bits. A terminal or a pipe isn't a file here.
-fn is_open<R: fs::Files<File = File>>(rt: &R, path: &str, mode: u32) -> bool {
-    match fs::metadata(rt, path) {
-        Ok(found) => found.is_file() && found.mode() & mode != 0,
-        Err(_) => false,
-    }
-}
-
 /// Warns on standard error of a token's file that others may read.
-pub fn warn_of_token<R: fs::Files<File = File>, E: Write>(rt: &R, path: &str, errors: &mut E) {
-    if is_open(rt, path, OTHERS_READ) {
+pub fn warn_of_token<R: Connects, E: Write>(rt: &R, path: &str, errors: &mut E) {
+    if rt.has_mode(path, OTHERS_READ) {
         let _ = writeln!(
             errors,
             "mux: others may read the token's file: chmod go-r {path}"
@@ -53,27 +37,30 @@ pub fn warn_of_token<R: fs::Files<File = File>, E: Write>(rt: &R, path: &str, er
     }
 }
 
-fn token_of(file: &[u8]) -> Result<Token, PeerFault> {
-    let digits = file.strip_suffix(b"\n".as_slice()).unwrap_or(file);
-    Token::read(digits).ok_or(PeerFault::NoToken)
+// The token that a file has: its digits, and maybe a line feed.
+fn token_of(file: &[u8]) -> Option<Token>
+    ensures { result ≡ token_of (line_of file.now) }
+{
+    match file {
+        [digits @ .., b'\n'] => Token::read(digits),
+        _ => Token::read(file),
+    }
 }
 
 // Reads the token of a file; a file that others may write is refused.
-fn read_token<R: fs::Files<File = File> + AllocGlobal>(
-    rt: &R,
-    path: &str,
-) -> Result<Token, PeerFault> {
-    if is_open(rt, path, OTHERS_WRITE) {
+fn read_token<R: Connects>(rt: &R, path: &str) -> Result<Token, PeerFault>
+    ensures { IfOk result (IsTokenOf (R.disk rt.now) path.now) }
+{
+    if rt.has_mode(path, OTHERS_WRITE) {
         return Err(PeerFault::Writable);
     }
-    match fs::read(rt, path) {
-        Ok(file) => token_of(&file),
+    match rt.read_file(path) {
+        Ok(file) => token_of(file.as_slice()).ok_or(PeerFault::NoToken),
         Err(error) => Err(PeerFault::Refused(RefusedPart::Token, error)),
     }
 }
 
-// Opens a FIFO for reading and writing: that waits for no writer, and the last writer's end isn't the
-// end of the file.
+// Opens a FIFO for reading and writing: that waits for no writer, and the last writer's end isn't the end of the file.
 fn open_sizes<R: fs::Files<File = File>>(
     rt: &R,
     subcommand: Subcommand,
@@ -179,25 +166,21 @@ impl Door {
 }
 
 // The first frame, with the token of the file that the arguments name.
-fn frame_for<R: fs::Files<File = File> + AllocGlobal>(
-    rt: &R,
-    arguments: &Arguments<'_>,
-) -> Result<Vec<u8>, PeerFault>
-    ensures { IfOk result (λ frame. BeginsWith arguments.now frame.items) }
+fn frame_for<R: PeerHost>(rt: &R, arguments: &Arguments<'_>) -> Result<Vec<u8>, PeerFault>
+    ensures { IfOk result (λ frame. BeginsWith (R.disk rt.now) arguments.now frame.items) }
 {
     if arguments.subcommand.is_ping() {
         return Ok(Vec::new(rt.alloc()));
     }
-    judge_arguments(rt.alloc(), arguments)?;
+    // A fault of the arguments comes before one of the file, whatever its token is.
+    let zeros = Token::read(&[b'0'; 64]).ok_or(PeerFault::NoToken)?;
+    arguments.first_frame(rt.alloc(), zeros)?;
     let token = read_token(rt, arguments.token)?;
     Ok(arguments.first_frame(rt.alloc(), token)?)
 }
 
-fn door_for<R: fs::Files<File = File> + AllocGlobal>(
-    rt: &R,
-    arguments: &Arguments<'_>,
-) -> Result<Door, PeerFault>
-    ensures { IfOk result (LeadsAtOnce arguments.now) }
+fn door_for<R: PeerHost>(rt: &R, arguments: &Arguments<'_>) -> Result<Door, PeerFault>
+    ensures { IfOk result (LeadsAtOnce (R.disk rt.now) arguments.now) }
 {
     Ok(Door {
         frame: frame_for(rt, arguments)?,
@@ -209,13 +192,14 @@ fn door_for<R: fs::Files<File = File> + AllocGlobal>(
 }
 
 /// A door to come back to this session by, with the token as it is now, and this size.
-pub fn another_door<R: fs::Files<File = File> + AllocGlobal>(
+pub fn another_door<R: PeerHost>(
     rt: &R,
     arguments: &Arguments<'_>,
     size: (u16, u16),
     session: Vec<u8>,
 ) -> Result<Door, PeerFault>
-    ensures { IfOk result (LeadsBack (record arguments.now { rows = size.0; columns = size.1 }) session.items) }
+    ensures { IfOk result
+        (LeadsBack (R.disk rt.now) (record arguments.now { rows = size.0; columns = size.1 }) session.items) }
 {
     let mut arguments = *arguments;
     (arguments.rows, arguments.columns) = size;
@@ -241,15 +225,14 @@ fn fill_closed<R: fs::Files<File = File>>(rt: &R, kept: &mut Vec<File>) -> io::R
     Ok(())
 }
 
-/// Reads and opens the files that the arguments name. A fault of the arguments comes before one of
-/// files. The files that replace closed standard streams are put into `kept`, and stay open as long
-/// as that list.
-pub fn prepare<R: fs::Files<File = File> + AllocGlobal>(
+/// Reads and opens the files that the arguments name. A fault of the arguments comes before one of files. The files
+/// that replace closed standard streams are put into `kept`, and stay open as long as that list.
+pub fn prepare<R: PeerHost + fs::Files<File = File>>(
     rt: &R,
     arguments: &Arguments<'_>,
     kept: &mut Vec<File>,
 ) -> Result<(Door, SizesFiles), PeerFault>
-    ensures { IfOk result (λ made. LeadsAtOnce arguments.now made.0) }
+    ensures { IfOk result (λ made. LeadsAtOnce (R.disk rt.now) arguments.now made.0) }
 {
     fill_closed(rt, kept)?;
     let door = door_for(rt, arguments)?;

@@ -98,8 +98,7 @@ impl SharedPeer {
     }
 }
 
-/// Starts a thread for a peer. Nobody joins it: it may wait for its source for ever, and the program
-/// ends without it.
+/// Starts a thread for a peer. Nobody joins it: it may wait for its source for ever, and the program ends without it.
 pub fn start_thread<R, F>(
     rt: &R,
     shared: &Arc<SharedPeer, Global>,

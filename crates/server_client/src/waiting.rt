@@ -18,13 +18,11 @@ use crate::{PeerHost, Source};
 use client_peer::{Meeting, Peer, PeerTask, SessionMark};
 use client_words::{Arguments, PeerFault};
 use std::alloc::{AllocError, Global};
-use std::fs::{File, Files};
 use std::sync::{Arc, Wait};
 use std::thread::{self, Threads};
 use std::time::{Duration, Instant};
 
-// How long to wait before the next look at the time, and before the next try to connect, in
-// milliseconds.
+// How long to wait before the next look at the time, and before the next try to connect, in milliseconds.
 const SHORTLY: u64 = 10;
 
 const PAUSE: u64 = 50;
@@ -230,7 +228,7 @@ fn learn<R: PeerHost + Wait>(
 }
 
 // Comes back to a server of the same session.
-fn come_back<R: PeerHost + Threads + Wait + Files<File = File>>(
+fn come_back<R: PeerHost + Threads + Wait>(
     rt: &R,
     shared: &Arc<SharedPeer, Global>,
     arguments: &Arguments<'_>,
@@ -277,7 +275,7 @@ fn returns<R: PeerHost>(
 }
 
 // Asks whether the peer comes back after its connection has ended, and lets it.
-fn ask<R: PeerHost + Threads + Wait + Files<File = File>>(
+fn ask<R: PeerHost + Threads + Wait>(
     rt: &R,
     shared: &Arc<SharedPeer, Global>,
     arguments: &Arguments<'_>,
@@ -301,7 +299,7 @@ fn ask<R: PeerHost + Threads + Wait + Files<File = File>>(
 }
 
 /// Waits for the peer's end.
-pub fn wait<R: PeerHost + Threads + Wait + Files<File = File>, I: Source>(
+pub fn wait<R: PeerHost + Threads + Wait, I: Source>(
     rt: &R,
     shared: &Arc<SharedPeer, Global>,
     arguments: &Arguments<'_>,

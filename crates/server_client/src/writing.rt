@@ -94,8 +94,7 @@ fn begin<R: Wait>(rt: &R, shared: &SharedPeer) -> Option<(Batch, Arc<UnixStream,
     Some((seat.peer.begin_sending()?, stream))
 }
 
-/// Sends the frames that wait, unless another thread does. Some may be left if the socket has a time
-/// limit.
+/// Sends the frames that wait, unless another thread does. Some may be left if the socket has a time limit.
 pub fn send<R: Wait>(rt: &R, shared: &SharedPeer) {
     for _ in rt.forever() {
         let Some((mut batch, stream)) = begin(rt, shared) else {
