@@ -3,8 +3,10 @@
 
 mod ending;
 mod fault;
+mod ready;
 mod saying;
 
 pub use ending::{LastLine, Unready, cause_of, fill_closed, outcome_of, served};
 pub use fault::{RefusedCommand, ServeFault, SetupCause};
-pub use saying::{DiskLog, ReadySaid, Unsaid};
+pub use ready::ReadySaid;
+pub use saying::{DiskLog, Unsaid};

@@ -1,8 +1,6 @@
 //! What a server says while it serves: that it is ready, and what becomes of its trail's file.
 
-ghost use Rattle.std.specs.Prelude.{◌≡◌, OnOk, codes};
-ghost use Rattle.std.specs.Io.KnownBytes.{Appends};
-
+use crate::ready::ReadySaid;
 use program_words::SystemError;
 use server_system::Log;
 use server_trail::{DiskNews, DiskWatch, MOST, NeverReady, Recorder};
@@ -10,10 +8,6 @@ use std::fmt::{self, Display, Formatter};
 use std::io::{self, Write};
 use std::sync::Wait;
 use std::time::Clock;
-
-/// Shows that a server has said that it is ready.
-#[derive(Clone, Copy)]
-pub struct ReadySaid(());
 
 /// Where a server says that it is ready, which it hasn't said yet.
 #[derive(Drop)]
@@ -30,18 +24,11 @@ impl<'a, O: Write> Unsaid<'a, O> {
     /// Says it. If that fails, it isn't said.
     pub fn say(self) -> Result<ReadySaid, (io::Error, Unsaid<'a, O>)> {
         let Unsaid(output) = self;
-        match write_line(output) {
-            Ok(()) => Ok(ReadySaid(())),
+        match ReadySaid::write(output) {
+            Ok(said) => Ok(said),
             Err(error) => Err((error, Unsaid(output))),
         }
     }
-}
-
-fn write_line<O: Write>(output: &mut O) -> io::Result<()>
-    ensures { OnOk result (Appends (O.contents output.old) (O.contents output.new) (codes "muxd: ready\n")) }
-{
-    output.write_all(b"muxd: ready\n")?;
-    output.flush()
 }
 
 // What becomes of the trail's file at this path, and how many bytes wait for it.
