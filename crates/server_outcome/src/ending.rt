@@ -1,6 +1,7 @@
-//! How a server ends.
+//! Whether a server got ready, and how it ends. Only the line makes what shows that it has said that it is ready.
 
-ghost use Rattle.std.specs.Prelude.{◌≡◌, IfOk, Ok, true};
+ghost use Rattle.std.specs.Prelude.{◌≡◌, IfOk, Ok, OnOk, codes, true};
+ghost use Rattle.std.specs.Io.KnownBytes.{Appends};
 ghost use Rattle.server_outcome.specs.Ending.{cause_of, outcome_of, served, why_unready};
 
 use crate::fault::ServeFault;
@@ -12,6 +13,21 @@ use std::fs::{File, OpenOptions};
 use std::io::{self, ErrorKind, Write};
 use std::os::fd::AsRawFd;
 use std::rt::Stderr;
+
+/// Shows that a server has said that it is ready.
+#[derive(Clone, Copy)]
+pub struct ReadySaid(());
+
+impl ReadySaid {
+    /// Writes that the server is ready.
+    pub(crate) fn write<O: Write>(output: &mut O) -> io::Result<ReadySaid>
+        ensures { OnOk result (Appends (O.contents output.old) (O.contents output.new) (codes "muxd: ready\n")) }
+    {
+        output.write_all(b"muxd: ready\n")?;
+        output.flush()?;
+        Ok(ReadySaid(()))
+    }
+}
 
 /// Why a loop can't be started.
 #[derive(Clone, Copy, Debug, PartialEq, Eq)]

@@ -3,10 +3,8 @@
 
 mod ending;
 mod fault;
-mod ready;
 mod saying;
 
-pub use ending::{LastLine, Unready, cause_of, fill_closed, outcome_of, served};
+pub use ending::{LastLine, ReadySaid, Unready, cause_of, fill_closed, outcome_of, served};
 pub use fault::{RefusedCommand, ServeFault, SetupCause};
-pub use ready::ReadySaid;
 pub use saying::{DiskLog, Unsaid};

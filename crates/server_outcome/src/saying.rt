@@ -1,6 +1,6 @@
 //! What a server says while it serves: that it is ready, and what becomes of its trail's file.
 
-use crate::ready::ReadySaid;
+use crate::ending::ReadySaid;
 use program_words::SystemError;
 use server_system::Log;
 use server_trail::{DiskNews, DiskWatch, MOST, NeverReady, Recorder};
