@@ -1,4 +1,5 @@
-use Rattle.server_loop.proofs.Vocabulary.{◌≡◌, ◌==◌, ◌&&◌, true, false, ap, refl, rules, Connections, state_of}
+use Rattle.std.specs.Prelude.{◌==◌, ◌&&◌}
+use Rattle.server_loop.proofs.Vocabulary.{◌≡◌, true, false, ap, refl, rules, Connections, state_of}
 use Rattle.server_loop.specs.Submitting.{peer_at}
 use Rattle.server_steps.specs.Asking.{is_window_at}
 use Rattle.server_loop.proofs.Telling.{if_false, if_true}
@@ -19,5 +20,6 @@ returns g c =
       state_of c.obey_first-progress.new.self,
       c.obey_first-progress.ensures,
       c.go_on.ensures.goes,
-      ap (λ (s : Connections g.row.S.Denot). record (state_of c.obey_first-progress.new.self) { connections = s }) c.go_on.ensures.held,
+      ap (λ (s : Connections g.row.S.Denot). record (state_of c.obey_first-progress.new.self) { connections = s })
+          c.go_on.ensures.held,
     )
