@@ -1,6 +1,6 @@
 -- What the arguments ask for.
-use Rattle.std.specs.Prelude.{◌≡◌, ◌⊎◌, ℕ, true, false, ◌==◌, cond, List, [], ◌∷◌, ◌++◌, codes, length, take, map}
-use Rattle.std.specs.Prelude.{Option, Some, None, IsSome, option_map, unwrap_or, ◌-◌, slice_index, Result, Ok, Err}
+use Rattle.std.specs.Prelude.{◌≡◌, ◌≢◌, ◌⊎◌, ℕ, Bool, true, false, ◌==◌, cond, List, [], ◌∷◌, ◌++◌, codes, length, take}
+use Rattle.std.specs.Prelude.{Option, Some, None, IsSome, option_map, unwrap_or, ◌-◌, slice_index, Result, Ok, Err, map}
 use Rattle.std.specs.Char.{encode_utf8, is_control}
 use Rattle.std.specs.List.{AllByRecursion, flat_map}
 use Rattle.std.specs.Str.{chars}
@@ -117,11 +117,16 @@ module _ (reads : List ℕ → Result (List ℕ) Error → Type 0) (lies : Resul
   CantServe o fault =
       CantRead fault ⊎ CantWatch reads (text_of o.watch) (text_of o.watch_token) (text_of o.window) fault
 
--- something else than a socket has its path
-abbrev pub HasNoSocket : List ℕ → WebFault → Type 0
-HasNoSocket socket why.NoMemory = Unit {0}
-HasNoSocket socket (why.NoSocket path) = string_bytes path ≡ socket
-HasNoSocket socket _ = ⊥
+module _ (is_other : List ℕ → Result Bool Error → Type 0) (socket : List ℕ) where
+  -- it was looked at, and nothing else than a socket is known to have its path
+  abbrev pub MayBeSocket : Type 0
+  MayBeSocket = (found : Result Bool Error) × is_other socket found × (found ≢ Ok true)
+
+  -- something else than a socket has its path
+  abbrev pub HasNoSocket : WebFault → Type 0
+  HasNoSocket why.NoMemory = Unit {0}
+  HasNoSocket (why.NoSocket path) = (string_bytes path ≡ socket) × is_other socket (Ok true)
+  HasNoSocket _ = ⊥
 
 -- ---- the status to exit with
 

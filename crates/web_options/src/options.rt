@@ -5,15 +5,14 @@ ghost use Rattle.std.specs.List.{flat_map};
 ghost use Rattle.std.specs.Str.{chars};
 ghost use Rattle.std.specs.String.{string_bytes};
 ghost use Rattle.clap.specs.Words.{found_of};
-ghost use Rattle.web_options.specs.Asking.{HasNoSocket, IsAskedFor, quoted, select_keys, text_of};
+ghost use Rattle.web_options.specs.Asking.{HasNoSocket, IsAskedFor, MayBeSocket, quoted, select_keys, text_of};
 ghost use Rattle.web_options.specs.Listening.{CantListen, ListensAt};
 
 use crate::fault::WebFault;
 use crate::listening::{Listen, listen_at};
+use crate::page::ReadsFiles;
 use clap::ArgMatches;
 use std::alloc::{AllocError, Global};
-use std::fs;
-use std::fs::{File, Files};
 use std::io::ErrorKind;
 
 /// What the arguments ask for.
@@ -110,29 +109,30 @@ impl<'a> WebOptions<'a> {
 }
 
 /// Warns of a socket and of a folder that aren't there yet, and refuses what can't be a socket.
-pub fn look_for_paths<R: Files<File = File> + AllocGlobal + Eprint>(
+pub fn look_for_paths<R: ReadsFiles + AllocGlobal + Eprint>(
     rt: &R,
     options: WebOptions<'_>,
 ) -> Result<(), WebFault>
-    ensures { IfErr result (HasNoSocket options.entry.socket.now) }
+    ensures ok { OnOk result (MayBeSocket (R.is_other rt.now) options.entry.socket.now) }
+    ensures fault { IfErr result (HasNoSocket (R.is_other rt.now) options.entry.socket.now) }
 {
     let path = options.socket;
-    match fs::metadata(rt, path) {
-        Ok(found) if found.is_file() || found.is_dir() => {
-            return Err(WebFault::NoSocket(String::from_str(rt.alloc(), path)?));
+    match rt.is_other(path) {
+        Ok(true) => return Err(WebFault::NoSocket(String::from_str(rt.alloc(), path)?)),
+        Ok(false) => {}
+        Err(error) => {
+            if error.kind() == ErrorKind::NotFound {
+                let _ = eprintln!(rt;
+                    "mux-web: no server yet: {path}: start muxd with this --socket"
+                );
+            }
         }
-        Err(error) if error.kind() == ErrorKind::NotFound => {
-            let _ = eprintln!(rt; "mux-web: no server yet: {path}: start muxd with this --socket");
-        }
-        _ => {}
     }
-    match options.links {
-        Some(folder) if !fs::exists(rt, folder).unwrap_or(true) => {
-            let _ = eprintln!(rt;
-                "mux-web: no folder of links yet: {folder}: mux-user link makes it"
-            );
-        }
-        _ => {}
+    if let Some(folder) = options.links
+        && let Err(error) = rt.is_other(folder)
+        && error.kind() == ErrorKind::NotFound
+    {
+        let _ = eprintln!(rt; "mux-web: no folder of links yet: {folder}: mux-user link makes it");
     }
     Ok(())
 }

@@ -16,12 +16,15 @@ use web_requests::Site;
 
 /// What reads files. Each relation is shown by a call of its function alone.
 pub trait ReadsFiles {
-    ghost use Rattle.std.specs.Prelude.{ℕ, List, Result, Ok, Err, IfOk, IfErr};
+    ghost use Rattle.std.specs.Prelude.{ℕ, List, Bool, Result, Ok, Err, IfOk, IfErr};
     ghost use Rattle.std.specs.String.{string_bytes};
     ghost use Rattle.std.specs.declared.io.Error.{Error};
 
     // A path, and what was read there, or why nothing was.
     ghost reads: { Self → List ℕ → Result (List ℕ) Error → Type 0 };
+
+    // A path, and whether something else than a socket has it, or why that isn't known.
+    ghost is_other: { Self → List ℕ → Result Bool Error → Type 0 };
 
     // The folder of the page beside the program's, or why it isn't known.
     ghost lies: { Self → Result (List ℕ) Error → Type 0 };
@@ -30,6 +33,10 @@ pub trait ReadsFiles {
     fn read_file(&self, path: &str) -> io::Result<Vec<u8>>
         ensures ok { IfOk result (λ content. reads self.now path.now (Ok content.items)) }
         ensures err { IfErr result (λ error. reads self.now path.now (Err error)) };
+
+    /// Whether something else than a socket has this path.
+    fn is_other(&self, path: &str) -> io::Result<bool>
+        ensures { is_other self.now path.now result };
 
     /// The folder of the page beside that of the program: PREFIX/share/mux/web beside PREFIX/bin/mux-web.
     fn folder_beside(&self) -> io::Result<String>
@@ -48,10 +55,17 @@ fn before_slash(path: &str) -> &str {
 impl<R: Files<File = File> + AllocGlobal> ReadsFiles for R {
     ghost reads = { λ host path content. Unit {0} };
 
+    ghost is_other = { λ host path other. Unit {0} };
+
     ghost lies = { λ host folder. Unit {0} };
 
     fn read_file(&self, path: &str) -> io::Result<Vec<u8>> {
         fs::read(self, path)
+    }
+
+    fn is_other(&self, path: &str) -> io::Result<bool> {
+        let found = fs::metadata(self, path)?;
+        Ok(found.is_file() || found.is_dir())
     }
 
     fn folder_beside(&self) -> io::Result<String> {
