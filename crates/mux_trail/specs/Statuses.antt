@@ -11,6 +11,8 @@ use Rattle.trail_files.specs.Showing.{ShowsFrom}
 use Rattle.trail_files.specs.declared.fault.TrailFault.{TrailFault}
 use Rattle.trail_files.specs.declared.fault.TrailFault.TheVariants as fault
 use Rattle.trail_files.specs.declared.heading.Heading.{Heading}
+use Rattle.mux_trail.specs.declared.words.Verb.{Verb}
+use Rattle.mux_trail.specs.declared.words.Verb.TheVariants as verb
 
 -- ---- of faults, and of words that ask nothing
 
@@ -51,3 +53,9 @@ IsChecked status owner old = Begins owner old (IsJudged status)
 -- `show`: the lines behind the first one were shown up to the last one, or up to the one of this number, which is none
 abbrev pub IsShown : Option ℕ → Option (List ℕ) → Type 0
 IsShown stray old = Begins None old (λ edition owner rest. IfSome rest (ShowsFrom 2 stray))
+
+-- what the status says of the file whose bytes these are, by what the program did with it
+abbrev pub TellsBy : Verb → ℕ → Option UserId → Option (List ℕ) → Type 0
+TellsBy verb.Check status owner old = IsChecked status owner old
+TellsBy verb.Show status owner old = (status ≡ 0) × IsShown None old
+TellsBy other status owner old = Unit {0}

@@ -1,9 +1,10 @@
 //! What the program does with its words.
 
 ghost use Rattle.std.specs.Prelude.{◌≡◌, IfOk, IfSome, None};
+ghost use Rattle.std.specs.Io.Buffered.{reader_remaining};
 ghost use Rattle.clap.specs.Words.{kind_of};
 ghost use Rattle.trail_files.specs.Showing.{ShowsFrom};
-ghost use Rattle.mux_trail.specs.Statuses.{IsChecked, IsHelped, IsShown, fault_status};
+ghost use Rattle.mux_trail.specs.Statuses.{IsChecked, IsHelped, IsShown, TellsBy, fault_status};
 
 use crate::ask::ask;
 use crate::diary::tell_log;
@@ -76,14 +77,23 @@ fn show<R: BufRead, W: Write>(
     }
 }
 
+/// A file from its first byte on, read with a buffer.
+fn buffered<F: Read + Drop>(alloc: Global, file: F) -> io::Result<BufReader<F>>
+    ensures { IfOk result (λ reader. reader_remaining F.remaining reader ≡ F.remaining file) }
+{
+    BufReader::new(alloc, file)
+}
+
 /// Judges, shows or logs a file, or answers by it.
 fn read_file<F: Read + Drop, W: Write>(
     alloc: Global,
     asked: TrailArgs<'_>,
     file: F,
     output: &mut W,
-) -> Result<u8, TrailFault> {
-    let mut reader = BufReader::new(alloc, file)?;
+) -> Result<u8, TrailFault>
+    ensures { IfOk result (λ status. TellsBy asked.way status asked.owner (F.remaining file)) }
+{
+    let mut reader = buffered(alloc, file)?;
     match asked.way {
         Verb::Check => check(alloc, asked.owner, &mut reader, output),
         Verb::Log => tell_log(alloc, asked, &mut reader, output),
@@ -103,7 +113,7 @@ fn placed<'a, R: Files + AllocGlobal>(
         return Ok(asked);
     };
     let file = fs::open(rt, asked.path).map_err(TrailFault::NotOpened)?;
-    let mut reader = BufReader::new(rt.alloc(), file)?;
+    let mut reader = buffered(rt.alloc(), file)?;
     let place = place_at(rt.alloc(), ms, &mut reader)?;
     Ok(TrailArgs {
         place: Some(place),
