@@ -1,7 +1,6 @@
 //! What each loop has around it.
 
-ghost use Rattle.std.specs.Prelude.{◌≡◌, IfSome, None, Some, slice_get};
-ghost use Rattle.std.specs.Arc.{arc_value};
+ghost use Rattle.std.specs.Prelude.{◌≡◌, IfSome, None};
 ghost use Rattle.server.specs.Events.{Shows, came_by, polled, token_of};
 
 use crate::acceptor::{Acceptor, NONE};
@@ -43,7 +42,6 @@ struct Inlet<'a, L = Looks, E = OnceLock<ServerEnd>> {
     // The connection that was handed to the loop last.
     handed: Option<HandedStream>,
     calls: HandCalls,
-    ghost own: { slice_get (arc_value shared.now.loop_handles).items me ≡ Some loop_handle.now },
 }
 
 // What came by an event.
