@@ -91,7 +91,7 @@ fn read_file<F: Read + Drop, W: Write>(
     file: F,
     output: &mut W,
 ) -> Result<u8, TrailFault>
-    ensures { IfOk result (λ status. TellsBy asked.way status asked.owner (F.remaining file)) }
+    ensures { IfOk result (λ status. TellsBy asked.entry.way status asked.entry.owner (F.remaining file)) }
 {
     let mut reader = buffered(alloc, file)?;
     match asked.way {
