@@ -7,7 +7,7 @@ use Rattle.client_typing.specs.Assisting.{Assists, Makes, at}
 use Rattle.client_typing.specs.declared.typing.Typing.{Typing}
 use Rattle.client_peer.specs.declared.looking.Timers.{Timers}
 use Rattle.client_peer.specs.declared.peer.Peer.{Peer}
-use Rattle.client_peer.specs.Reopening.{Sends}
+use Rattle.client_typing.specs.Framing.{Sends}
 use Rattle.client_peer.specs.Showing.{IsUncovered, ShowsHelp, helping}
 use Rattle.client_peer.specs.Typing.{SendsAssisted, TellsScrolled, Presses}
 use Rattle.client_peer.proofs.Passing.{passes_keeps, passes_then}

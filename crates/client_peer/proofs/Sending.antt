@@ -1,37 +1,23 @@
--- Bytes in frames, one piece after another.
-use Rattle.std.proofs.Common.{◌≡◌, ℕ, ◌≤◌, List, [], ◌∷◌, ◌++◌, length, take, drop, sym, ap, ◌∙◌}
-use Rattle.std.proofs.lemmas.List.{append-nil, append_assoc, take-append-drop}
-use Rattle.std.specs.List.{AllByRecursion, flat_map}
-use Rattle.std.proofs.lemmas.Grind.{flat_map-append}
-use Rattle.attach_proto.specs.declared.kind.Kind.{Kind}
-use Rattle.attach_proto.specs.Spelling.{frame}
-use Rattle.client_peer.specs.Reopening.{Sends}
+-- What a connection takes, write after write.
+use Rattle.std.proofs.Common.{◌≡◌, ◌+◌, ◌∙◌, ℕ, List, ◌++◌, take, drop, Option, sym, ap, append_assoc}
+use Rattle.std.proofs.KnownBytes.{Appends-trans}
+use Rattle.std.proofs.lemmas.List.{drop-drop, take-append-drop}
+use Rattle.client_peer.specs.declared.outgoing.Batch.{Batch}
+use Rattle.client_peer.specs.Sending.{SendsSome}
 
-all-more : (pieces : List (List ℕ)) (piece : List ℕ) → AllByRecursion (λ p. length p ≤ 8192) pieces
-    → length piece ≤ 8192 → AllByRecursion (λ p. length p ≤ 8192) (pieces ++ piece ∷ [])
-all-more [] piece a h = (h, tt)
-all-more (p ∷ ps) piece a h = (a.0, all-more ps piece a.1 h)
+pub sends_then : (a b c : Option (List ℕ)) (old middle new : Batch) → SendsSome a old b middle
+    → SendsSome b middle c new → SendsSome a old c new
+sends_then a b c old middle new p q = record {
+  taken = p.taken ++ q.taken;
+  whole =
+      p.whole ∙ ap (λ (l : List ℕ). p.taken ++ l) q.whole
+      ∙ sym (append_assoc p.taken q.taken (drop new.sent new.frames.items));
+  appends = Appends-trans a b c p.taken q.taken p.appends q.appends;
+  rest = q.rest ∙ ap (λ (t : Batch). record t { sent = new.sent; is_shut = new.is_shut }) p.rest;
+}
 
--- one more piece
-pub sends-more : (old before new : List ℕ) (kind : Kind) (front piece : List ℕ) → Sends old before kind front
-    → length piece ≤ 8192 → new ≡ before ++ frame kind piece → Sends old new kind (front ++ piece)
-sends-more old before new kind front piece s few e =
-    let id : List ℕ → List ℕ = λ p. p in
-    record {
-      pieces = s.pieces ++ piece ∷ [];
-      whole =
-          flat_map-append id s.pieces (piece ∷ []) ∙ ap (λ x. x ++ (piece ++ [])) s.whole
-          ∙ ap (λ x. front ++ x) (append-nil piece);
-      fit = all-more s.pieces piece s.fit few;
-      added =
-          e ∙ ap (λ x. x ++ frame kind piece) s.added
-          ∙ append_assoc old (flat_map (frame kind) s.pieces) (frame kind piece)
-          ∙ ap (λ x. old ++ x)
-          (sym
-          (flat_map-append (frame kind) s.pieces (piece ∷ [])
-          ∙ ap (λ x. flat_map (frame kind) s.pieces ++ x) (append-nil (frame kind piece))));
-    }
-
--- two parts of a list are the list
-pub cut-whole : (n : ℕ) (xs front back : List ℕ) → front ≡ take n xs → back ≡ drop n xs → front ++ back ≡ xs
-cut-whole n xs front back f b = rw (f, b) (take-append-drop n xs)
+-- the first bytes of what is left after some
+pub cut_after : (sent n : ℕ) (l rest : List ℕ) → rest ≡ drop sent l → drop sent l ≡ take n rest ++ drop (sent + n) l
+cut_after sent n l rest e =
+    sym (take-append-drop n (drop sent l)) ∙ ap (λ (x : List ℕ). take n x ++ drop n (drop sent l)) (sym e)
+    ∙ ap (λ (x : List ℕ). take n rest ++ x) (drop-drop n sent l)

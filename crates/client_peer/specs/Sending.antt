@@ -1,11 +1,12 @@
 -- What a peer has for its server, and what is on its way there.
-use Rattle.std.specs.Prelude.{◌≡◌, ◌≢◌, ℕ, ◌<◌, Bool, true, false, not, None, List, [], ◌++◌, ◌⊎◌, length, drop}
+use Rattle.std.specs.Prelude.{◌≡◌, ◌≢◌, ℕ, ◌<◌, true, false, Option, None, List, [], ◌++◌, ◌⊎◌, length, drop}
+use Rattle.std.specs.Io.KnownBytes.{Appends}
 use Rattle.attach_proto.specs.declared.kind.Kind.TheVariants.{Output}
 use Rattle.client_page.specs.Held.{Holds}
 use Rattle.client_page.specs.Kept.{ReadsAll}
 use Rattle.client_peer.specs.declared.outgoing.Batch.{Batch}
 use Rattle.client_peer.specs.declared.peer.Peer.{Peer}
-use Rattle.client_peer.specs.Reopening.{Sends}
+use Rattle.client_typing.specs.Framing.{Sends}
 
 -- the bytes that wait and weren't sent
 abbrev pub unsent : Peer → List ℕ
@@ -33,14 +34,15 @@ MaySend p =
 pub record HandsOut (old : Peer) (batch : Batch) (new : Peer) : Type 0 where
   pub all : left batch ≡ unsent old
   pub connection : batch.connection ≡ old.connection
+  pub takes : batch.is_shut ≡ false
   pub none : new.frames.items ≡ []
   pub rest : new ≡ record old { frames = new.frames; sent = 0; is_sending = true }
 
 -- What wasn't sent comes first again, before what was put down meanwhile, of which nothing was sent. Of another
 -- connection's frames nothing comes back.
-pub record HasBack (old : Peer) (batch : Batch) (is_open : Bool) (new : Peer) : Type 0 where
+pub record HasBack (old : Peer) (batch : Batch) (new : Peer) : Type 0 where
   pub back : batch.connection ≡ old.connection → old.sent ≡ 0 → unsent new ≡ left batch ++ unsent old
-  pub shut : batch.connection ≡ old.connection → new.is_shut ≡ not is_open
+  pub shut : batch.connection ≡ old.connection → new.is_shut ≡ batch.is_shut
   pub stuck : batch.connection ≡ old.connection → new.is_stuck ≡ false → left batch ≡ []
   pub other : (batch.connection ≡ old.connection → ⊥) → new ≡ record old { is_sending = false }
   pub rest : new ≡ record old {
@@ -50,6 +52,13 @@ pub record HasBack (old : Peer) (batch : Batch) (is_open : Bool) (new : Peer) : 
     is_shut = new.is_shut;
     is_stuck = new.is_stuck;
   }
+
+-- The connection has taken the first of the bytes that weren't sent, in order and each once. The others are left.
+pub record SendsSome (had : Option (List ℕ)) (old : Batch) (has : Option (List ℕ)) (new : Batch) : Type 0 where
+  pub taken : List ℕ
+  pub whole : left old ≡ taken ++ left new
+  pub appends : Appends had has taken
+  pub rest : new ≡ record old { sent = new.sent; is_shut = new.is_shut }
 
 -- a server has the window
 abbrev pub HasServer : Peer → Type 0

@@ -11,7 +11,7 @@ use Rattle.client_typing.specs.Assisting.{Makes, at}
 use Rattle.client_typing.specs.Following.{LetsThrough, Follows}
 use Rattle.client_typing.specs.declared.typing.Typing.{Typing}
 use Rattle.client_peer.specs.declared.peer.Peer.{Peer}
-use Rattle.client_peer.specs.Reopening.{Sends}
+use Rattle.client_typing.specs.Framing.{Sends}
 use Rattle.client_peer.specs.Sending.{Prints}
 use Rattle.client_peer.specs.Showing.{IsUncovered, ShowsHelp}
 

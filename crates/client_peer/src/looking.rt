@@ -9,10 +9,10 @@ ghost use Rattle.client_peer.specs.Looking.{BeginsInTime, DoesNext, EndsInTime, 
 ghost use Rattle.client_peer.specs.Looking.{IsToLeave, LeavesInTime, MayLeave, acting, leaving, paired_after, unbegun};
 ghost use Rattle.client_peer.specs.Returning.{AtLoss};
 
-use crate::outgoing::put_frame;
 use crate::peer::Peer;
 use attach_proto::Kind;
 use client_notice::{NoticeStage, NoticeTask};
+use client_typing::put_frame;
 use client_words::{Arguments, InputStage, PeerFault};
 use std::alloc::AllocError;
 

@@ -1,18 +1,19 @@
 //! Frames for the server, in their order and whole.
 
-ghost use Rattle.std.specs.Prelude.{◌≡◌, ◌≤◌, ◌<◌, ◌-◌, ◌++◌, ◌↔◌, length, drop, [], IsTrue};
+ghost use Rattle.std.specs.Prelude.{◌≡◌, ◌≤◌, ◌<◌, ◌++◌, ◌↔◌, length, drop, [], IsTrue};
 ghost use Rattle.std.specs.Prelude.{OnOk, OnErr, IfErr, IfSome, IsNone, IsSome};
 ghost use Rattle.attach_proto.specs.Spelling.{frame, spelling};
-ghost use Rattle.attach_proto.specs.declared.kind.Kind.TheVariants.{Keys, Detach};
+ghost use Rattle.attach_proto.specs.declared.kind.Kind.TheVariants.{Detach, Keys};
 ghost use Rattle.client_peer.specs.Failing.{FailsTyping};
-ghost use Rattle.client_peer.specs.Reopening.{Sends};
-ghost use Rattle.client_peer.specs.Sending.{Puts, MaySend, HandsOut, HasBack};
-ghost use Rattle.client_peer.specs.Sending.{HasServer, IsFull, Prints, unsent, left};
+ghost use Rattle.client_typing.specs.Framing.{Sends};
+ghost use Rattle.client_peer.specs.Sending.{HandsOut, HasBack, HasServer, IsFull, MaySend, Prints, Puts, SendsSome, unsent};
 
 use crate::peer::Peer;
-use attach_proto::{Kind, LONGEST, Message, head_of, write_message};
+use attach_proto::{Kind, Message, head_of, write_message};
+use client_typing::put_frames;
 use client_words::PeerFault;
 use std::alloc::AllocError;
+use std::io::{ErrorKind, Write};
 use std::mem;
 
 /// While more bytes than this wait for the server, the input isn't read.
@@ -20,35 +21,43 @@ const MOST_AHEAD: usize = 16_777_216;
 
 /// Frames on their way to the server. They can't be let go: what wasn't sent of them comes back.
 pub struct Batch {
-    pub frames: Vec<u8>,
-    /// How many of their bytes were sent.
-    pub sent: usize,
-    /// The connection that they are for.
+    frames: Vec<u8>,
+    // How many of their bytes were sent.
+    sent: usize,
+    // The connection that they are for.
     connection: u32,
+    // The connection takes no more.
+    is_shut: bool,
 }
 
-// Appends bytes as frames of a kind.
-pub(crate) fn put_frames(kind: Kind, bytes: &[u8], frames: &mut Vec<u8>) -> Result<(), AllocError>
-    ensures { OnOk result (Sends frames.old.items frames.new.items kind bytes.now) }
-{
-    let mut rest = bytes;
-    'pieces: while !rest.is_empty() {
-        let (piece, later) = rest.split_at(rest.len().min(LONGEST));
-        put_frame(kind, piece, frames)?;
-        rest = later;
+impl Batch {
+    // Makes one write of what wasn't sent. Returns whether the connection may take more at once.
+    fn write_once<S: Write>(&mut self, stream: &mut S) -> bool
+        requires { self.old.sent ≤ length self.old.frames.items }
+        ensures { SendsSome (S.contents stream.old) self.old (S.contents stream.new) self.new }
+    {
+        match stream.write(&self.frames[self.sent..]) {
+            Ok(0) => self.is_shut = true,
+            Ok(count) => self.sent += count,
+            Err(error) => match error.kind() {
+                ErrorKind::WouldBlock => return false,
+                ErrorKind::Interrupted => {}
+                _ => self.is_shut = true,
+            },
+        }
+        !self.is_shut
     }
-    Ok(())
-}
 
-pub(crate) fn put_frame(kind: Kind, piece: &[u8], frames: &mut Vec<u8>) -> Result<(), AllocError>
-    requires { length piece.now ≤ 8192 }
-    ensures ok { OnOk result (frames.new.items ≡ frames.old.items ++ frame kind piece.now) }
-    ensures err { OnErr result (frames.new.items ≡ frames.old.items) }
-{
-    let head = head_of(kind, piece);
-    frames.reserve(head.len().saturating_add(piece.len()))?;
-    frames.extend_from_slice(&head)?;
-    frames.extend_from_slice(piece)
+    /// Sends all bytes, or fewer if the socket has a time limit and takes nothing for that time, or takes no more.
+    pub fn send<S: Write>(&mut self, stream: &mut S)
+        ensures { SendsSome (S.contents stream.old) self.old (S.contents stream.new) self.new }
+    {
+        'writes: for _ in 0..=self.frames.len() {
+            if self.sent >= self.frames.len() || !self.write_once(stream) {
+                return;
+            }
+        }
+    }
 }
 
 impl Peer {
@@ -89,11 +98,8 @@ impl Peer {
         ensures same { self.new ≡ record self.old { frames = self.new.frames } }
     {
         let (rows, columns) = (self.rows, self.columns);
-        write_message(
-            self.alloc,
-            &Message::Resize { rows, columns },
-            &mut self.frames,
-        )?;
+        let message = Message::Resize { rows, columns };
+        write_message(self.alloc, &message, &mut self.frames)?;
         Ok(())
     }
 
@@ -133,24 +139,26 @@ impl Peer {
             frames: mem::replace(&mut self.frames, Vec::new(self.alloc)),
             sent: mem::replace(&mut self.sent, 0),
             connection: self.connection,
+            is_shut: false,
         })
     }
 
-    /// Takes back what wasn't sent. If not `is_open`, the connection takes no more: what it has still to say tells why.
-    pub fn end_sending(&mut self, batch: Batch, is_open: bool) -> Result<(), AllocError>
-        ensures back { OnOk result (HasBack self.old batch is_open self.new) }
+    /// Takes back what wasn't sent. If the connection takes no more, what it has still to say tells why.
+    pub fn end_sending(&mut self, batch: Batch) -> Result<(), AllocError>
+        ensures back { OnOk result (HasBack self.old batch self.new) }
         ensures ends { OnErr result (IsSome self.new.end) }
     {
         let Batch {
             frames,
             sent,
             connection,
+            is_shut,
         } = batch;
         self.is_sending = false;
         if self.connection != connection {
             return Ok(());
         }
-        self.is_shut = !is_open;
+        self.is_shut = is_shut;
         self.is_stuck = sent < frames.len();
         if self.is_stuck {
             return self.put_back(frames, sent);

@@ -14,10 +14,10 @@ ghost use Rattle.client_peer.specs.Showing.{Keeps, Adds, PassesOn, StopsAt};
 ghost use Rattle.client_peer.specs.declared.meeting.Meeting.TheVariants.{Same};
 
 use crate::meeting::{Meeting, SessionMark};
-use crate::outgoing::put_frames;
 use crate::peer::Peer;
 use crate::typing::ReadPiece;
 use attach_proto::{Kind, LONGEST, Message, ProtoFault, Reader, Told, Why};
+use client_typing::put_frames;
 use client_words::{PeerFault, Subcommand, put_visible};
 use std::alloc::AllocError;
 

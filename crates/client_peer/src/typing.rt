@@ -32,9 +32,8 @@ impl<'b> ReadPiece<'b> {
         ensures err { OnErr result (Consumes (S.remaining stream.old) (S.remaining stream.new) []) }
     {
         let count = stream.read(buffer)?;
-        Ok(ReadPiece {
-            bytes: &buffer[..count],
-        })
+        let bytes = &buffer[..count];
+        Ok(ReadPiece { bytes })
     }
 }
 
@@ -56,13 +55,10 @@ impl Peer {
         self.typing.read(input, &mut bytes)?;
         if self.subcommand.is_window() {
             self.print(&bytes)?;
-            return Ok(true);
+        } else if !bytes.is_empty() {
+            self.times.has_typed = true;
+            self.press(&bytes)?;
         }
-        if bytes.is_empty() {
-            return Ok(true);
-        }
-        self.times.has_typed = true;
-        self.press(&bytes)?;
         Ok(true)
     }
 
@@ -83,8 +79,7 @@ impl Peer {
         if self.is_helping {
             self.is_helping = false;
             self.is_covered = self.is_cut;
-            self.redraw()?;
-            return Ok(());
+            return self.redraw();
         }
         if !self.typing.assists {
             if self.fits {
@@ -93,8 +88,7 @@ impl Peer {
             self.put_keys(keys)?;
             return Ok(());
         }
-        self.assist(keys)?;
-        Ok(())
+        self.assist(keys)
     }
 
     // Takes keys of a client that has its own.

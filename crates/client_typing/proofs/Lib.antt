@@ -1,3 +1,4 @@
 pub mod Assisted
 pub mod Fitting
+pub mod Framing
 pub mod Typed

@@ -1,4 +1,5 @@
 pub mod Assisting
 pub mod Fitting
 pub mod Following
+pub mod Framing
 pub mod Own

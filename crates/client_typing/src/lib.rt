@@ -2,6 +2,7 @@
 //! commands come between two keys.
 #![tactic(auto)]
 
+mod frames;
 mod typing;
 
 ghost use Rattle.std.specs.Prelude.{◌≡◌, ◌<◌, ◌++◌, ◌∷◌, [], ℕ, List, codes};
@@ -10,6 +11,7 @@ ghost use Rattle.client_typing.specs.Assisting.{HasSent, Makes, Standing};
 ghost use Rattle.client_typing.specs.Fitting.{fit_keys, given_keys, IsLine};
 ghost use Rattle.client_typing.specs.Own.{view_command};
 
+pub use frames::{put_frame, put_frames};
 pub use typing::Typing;
 
 /// Where the session waits for no key, the keys that give a command are one line of the prompt, and what the

@@ -2,4 +2,3 @@ pub mod Comebacks
 pub mod Lines
 pub mod Marks
 pub mod Opening
-pub mod Sending

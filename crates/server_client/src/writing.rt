@@ -1,8 +1,7 @@
 //! Writes to standard output and the sizes' file, and sends frames to the server.
 
-ghost use Rattle.std.specs.Prelude.{◌≤◌, length, OnOk};
+ghost use Rattle.std.specs.Prelude.{OnOk};
 ghost use Rattle.std.specs.Io.KnownBytes.{Appends};
-ghost use Rattle.server_client.specs.Sending.{SendsSome};
 
 use crate::shared::SharedPeer;
 use crate::{PeerHost, Sink};
@@ -11,7 +10,7 @@ use client_words::{PeerFault, RefusedPart};
 use std::alloc::Global;
 use std::fs::File;
 use std::io;
-use std::io::{ErrorKind, Write};
+use std::io::Write;
 use std::os::unix::net::UnixStream;
 use std::sync::{Arc, Wait};
 
@@ -57,36 +56,6 @@ pub fn write_out<R: PeerHost + Wait, O: Sink>(
     }
 }
 
-// Makes one write of what wasn't sent.
-fn send_once<S: Write>(stream: &mut S, batch: &mut Batch) -> io::Result<usize>
-    requires { batch.old.sent ≤ length batch.old.frames.items }
-    ensures sends { SendsSome (S.contents stream.old) batch.old (S.contents stream.new) batch.new }
-{
-    let count = stream.write(&batch.frames[batch.sent..])?;
-    batch.sent += count;
-    Ok(count)
-}
-
-// Sends all bytes, or fewer if the socket has a time limit and takes nothing for that time. Returns
-// whether the socket is open.
-fn send_some<S: Write>(stream: &mut S, batch: &mut Batch) -> bool
-    ensures { SendsSome (S.contents stream.old) batch.old (S.contents stream.new) batch.new }
-{
-    'writes: for _ in 0..=batch.frames.len() {
-        if batch.sent >= batch.frames.len() {
-            break;
-        }
-        match send_once(stream, batch) {
-            Ok(0) => return false,
-            Ok(_) => {}
-            Err(error) if error.kind() == ErrorKind::WouldBlock => break,
-            Err(error) if error.kind() == ErrorKind::Interrupted => {}
-            Err(_) => return false,
-        }
-    }
-    true
-}
-
 // Takes the frames that wait, with their connection.
 fn begin<R: Wait>(rt: &R, shared: &SharedPeer) -> Option<(Batch, Arc<UnixStream, Global>)> {
     let mut seat = shared.seat.lock(rt);
@@ -101,9 +70,9 @@ pub fn send<R: Wait>(rt: &R, shared: &SharedPeer) {
             break;
         };
         let mut socket: &UnixStream = &stream;
-        let is_open = send_some(&mut socket, &mut batch);
+        batch.send(&mut socket);
         let mut seat = shared.seat.lock(rt);
-        let kept = seat.peer.end_sending(batch, is_open);
+        let kept = seat.peer.end_sending(batch);
         let goes_on = kept.is_ok() && !seat.peer.is_stuck;
         drop(seat);
         shared.work.notify_all();

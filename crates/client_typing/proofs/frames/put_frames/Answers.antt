@@ -1,7 +1,7 @@
 use Rattle.std.proofs.Common.{◌++◌, ap, ◌∙◌, arith}
 use Rattle.std.proofs.lemmas.List.{append_assoc}
-use Rattle.client_peer.proofs.Sending.{sends-more, cut-whole}
-use Rattle.client_peer.proofs.outgoing.put_frames.Goals as goal
+use Rattle.client_typing.proofs.Framing.{sends-more, cut-whole}
+use Rattle.client_typing.proofs.frames.put_frames.Goals as goal
 
 pub pieces-preserved : goal.pieces-preserved
 pieces-preserved c =

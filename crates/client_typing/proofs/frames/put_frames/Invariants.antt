@@ -1,6 +1,6 @@
 use Rattle.std.proofs.Common.{◌≡◌, ℕ, List, ◌++◌, length}
-use Rattle.client_peer.specs.Reopening.{Sends}
-use Rattle.client_peer.proofs.outgoing.put_frames.Given as goal
+use Rattle.client_typing.specs.Framing.{Sends}
+use Rattle.client_typing.proofs.frames.put_frames.Given as goal
 
 abbrev pub invariant-pieces : goal.invariant-pieces
 invariant-pieces l = record {
