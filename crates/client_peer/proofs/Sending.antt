@@ -1,9 +1,10 @@
 -- What a connection takes, write after write.
-use Rattle.std.proofs.Common.{◌≡◌, ◌+◌, ◌∙◌, ℕ, List, ◌++◌, take, drop, Option, sym, ap, append_assoc}
+use Rattle.std.proofs.Common.{◌≡◌, ◌+◌, ◌∙◌, ℕ, Bool, List, [], ◌++◌, take, drop, Option, sym, ap, append_assoc}
+use Rattle.std.specs.Io.KnownBytes.{Appends}
 use Rattle.std.proofs.KnownBytes.{Appends-trans}
 use Rattle.std.proofs.lemmas.List.{drop-drop, take-append-drop}
 use Rattle.client_peer.specs.declared.outgoing.Batch.{Batch}
-use Rattle.client_peer.specs.Sending.{SendsSome}
+use Rattle.client_peer.specs.Sending.{SendsSome, left}
 
 pub sends_then : (a b c : Option (List ℕ)) (old middle new : Batch) → SendsSome a old b middle
     → SendsSome b middle c new → SendsSome a old c new
@@ -16,8 +17,29 @@ sends_then a b c old middle new p q = record {
   rest = q.rest ∙ ap (λ (t : Batch). record t { sent = new.sent; is_shut = new.is_shut }) p.rest;
 }
 
--- the first bytes of what is left after some
-pub cut_after : (sent n : ℕ) (l rest : List ℕ) → rest ≡ drop sent l → drop sent l ≡ take n rest ++ drop (sent + n) l
-cut_after sent n l rest e =
-    sym (take-append-drop n (drop sent l)) ∙ ap (λ (x : List ℕ). take n x ++ drop n (drop sent l)) (sym e)
-    ∙ ap (λ (x : List ℕ). take n rest ++ x) (drop-drop n sent l)
+-- a write that took nothing
+pub sends_none : (a b : Option (List ℕ)) (old new : Batch) (shut : Bool) → Appends a b []
+    → new ≡ record old { is_shut = shut } → SendsSome a old b new
+sends_none a b old new shut is e = record {
+  taken = [];
+  whole = sym (ap (λ (t : Batch). left t) e);
+  appends = is;
+  rest =
+      e ∙ ap (λ (n : ℕ). record old { sent = n; is_shut = shut }) (sym (ap (λ (t : Batch). t.sent) e))
+      ∙ ap (λ (s : Bool). record old { sent = new.sent; is_shut = s }) (sym (ap (λ (t : Batch). t.is_shut) e));
+}
+
+-- a write that took the first bytes of what was left
+pub sends_first : (a b : Option (List ℕ)) (old new : Batch) (n : ℕ) (offered : List ℕ) → offered ≡ left old
+    → Appends a b (take n offered) → new ≡ record old { sent = old.sent + n } → SendsSome a old b new
+sends_first a b old new n offered same is e = record {
+  taken = take n offered;
+  whole =
+      sym (take-append-drop n (left old)) ∙ ap (λ (x : List ℕ). take n x ++ drop n (left old)) (sym same)
+      ∙ ap (λ (x : List ℕ). take n offered ++ x) (drop-drop n old.sent old.frames.items)
+      ∙ ap (λ (t : Batch). take n offered ++ left t) (sym e);
+  appends = is;
+  rest =
+      e ∙ ap (λ (k : ℕ). record old { sent = k }) (sym (ap (λ (t : Batch). t.sent) e))
+      ∙ ap (λ (s : Bool). record old { sent = new.sent; is_shut = s }) (sym (ap (λ (t : Batch). t.is_shut) e));
+}

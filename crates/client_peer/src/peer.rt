@@ -201,9 +201,7 @@ impl Peer {
         ensures ends { self.new ≡ record self.old { end = option_or self.old.end (Some end) } }
         ensures some { IsSome self.new.end }
     {
-        if self.end.is_none() {
-            self.end = Some(end);
-        }
+        self.end = self.end.or(Some(end));
     }
 
     /// How the peer ended. A fault of its input or output replaces a good end.

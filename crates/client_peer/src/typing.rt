@@ -14,8 +14,7 @@ use crate::peer::Peer;
 use client_notice::NoticeStage;
 use client_words::PeerFault;
 use std::alloc::AllocError;
-use std::io;
-use std::io::Read;
+use std::io::{self, Read};
 
 const ETX: u8 = 0x03;
 
@@ -55,10 +54,13 @@ impl Peer {
         self.typing.read(input, &mut bytes)?;
         if self.subcommand.is_window() {
             self.print(&bytes)?;
-        } else if !bytes.is_empty() {
-            self.times.has_typed = true;
-            self.press(&bytes)?;
+            return Ok(true);
         }
+        if bytes.is_empty() {
+            return Ok(true);
+        }
+        self.times.has_typed = true;
+        self.press(&bytes)?;
         Ok(true)
     }
 
