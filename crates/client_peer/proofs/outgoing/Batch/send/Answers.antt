@@ -17,7 +17,7 @@ returns-else-not-write_once g c =
 
 pub returns-then-self-len : goal.returns-then-self-len
 returns-then-self-len g c = elim c.then-self-len.branch [
-  then-self-len-via-then-self-len w ↦ rw (w.self-is, w.stream-is) c.writes.invariant
+  | then-self-len-via-then-self-len w ↦ rw (w.self-is, w.stream-is) c.writes.invariant
   | then-self-len-via-else-self-len+then-not-write_once w ↦ rw (w.self-is, w.stream-is)
       (sends_then (g.S.Write.contents c.args.stream.now) (g.S.Write.contents c.writes.stream)
       (g.S.Write.contents w.write_once.new.stream) c.args.self.now c.writes.self w.write_once.new.self

@@ -20,7 +20,7 @@ returns g c =
     ∙ ap (λ (l : List ℕ). drop old.sent l) c.deref.ensures.value in
     let none : Keeps had has → Appends had has [] = λ k. Appends-kept had had has [] (Appends-nil had) k in
     elim c.match-write.branch [
-      in-Ok-eq0 w ↦ sends_none had has old new true
+      | in-Ok-eq0 w ↦ sends_none had has old new true
           (subst (λ n. Appends had has (take n offered)) w.in-Ok-eq0.field-0-test w.in-Ok-eq0.ensures.bytes) w.self-is
       | in-Ok w ↦ sends_first had has old new w.in-Ok.count offered same w.in-Ok.ensures.bytes w.self-is
       | in-Err+in-Interrupted w ↦ sends_none had has old new old.is_shut (none w.in-Err.ensures.bytes) w.self-is
