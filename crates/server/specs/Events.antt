@@ -1,6 +1,6 @@
 -- What came to a loop by an event of its poll.
 use Rattle.std.specs.Prelude.{◌≡◌, ℕ, ◌+◌, ◌-◌, ◌%◌, ◌^◌, ◌==◌, ◌||◌, if◌then◌else◌, false, min, slice_get}
-use Rattle.std.specs.Prelude.{Option, Some, None, option_map}
+use Rattle.std.specs.Prelude.{Option, Some, None, is_some, option_map}
 use Rattle.mio.specs.Events.{items}
 use Rattle.mio.specs.declared.token.Token.{Token}
 use Rattle.server_seat.specs.declared.seat.ServerEnd.{ServerEnd}
@@ -12,7 +12,7 @@ use Rattle.server_system.specs.declared.looks.KnownUsers.{KnownUsers}
 use Rattle.server.specs.declared.acceptor.Acceptor.{Acceptor}
 use Rattle.server.specs.declared.loop_handle.HandCalls.{HandCalls}
 use Rattle.server.specs.declared.loop_handle.HandedStream.{HandedStream}
-use Rattle.server.specs.declared.turns.Inlet.{Inlet}
+use Rattle.server.specs.declared.inlet.Inlet.{Inlet}
 use Rattle.mio.specs.Event.{event_token, is_error, is_read_closed, is_readable, is_writable}
 use Rattle.mio.specs.declared.event.event.Event.{Event}
 use Rattle.server_turns.specs.declared.around.Came.{Came}
@@ -62,7 +62,8 @@ module _ {L E : Type 0} where
         × (left ≡ record inlet { seen = next inlet.seen })
     Shows inlet (calls.Wait longest waited) left = left ≡ polled inlet left
     Shows inlet (calls.Pause waited) left = left ≡ polled inlet left
-    Shows inlet (calls.Accept result) left = left ≡ record inlet { acceptor = left.acceptor }
+    Shows inlet (calls.Accept result) left =
+        (left ≡ record inlet { acceptor = left.acceptor }) × (is_some left.acceptor ≡ is_some inlet.acceptor)
     Shows inlet (calls.Hand None) left = left ≡ record inlet { calls = once_more inlet.calls }
     Shows inlet (calls.Hand (Some is_extra)) left = (handed : HandedStream) × (handed.is_extra ≡ is_extra)
         × (left ≡ record inlet { handed = Some handed; calls = once_more inlet.calls })

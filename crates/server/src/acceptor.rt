@@ -57,8 +57,7 @@ impl Acceptor {
         }
     }
 
-    /// Takes in connections that wait, 16 at most. If the system refuses a descriptor, a kept one is
-    /// used; if none is left, it tries again later.
+    /// Takes in connections that wait, 16 at most. Without a descriptor a kept one is used, or it tries again later.
     pub fn accept(&mut self, rt: &impl Wait, loops: &[LoopHandle]) -> io::Result<()> {
         self.backlog = NONE;
         self.keep_spares();

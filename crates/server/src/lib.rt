@@ -2,6 +2,7 @@
 #![tactic(auto)]
 
 mod acceptor;
+mod inlet;
 mod latch;
 mod loop_handle;
 mod loops;

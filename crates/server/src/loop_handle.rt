@@ -94,8 +94,7 @@ impl LoopHandle {
         Ok(())
     }
 
-    /// The loop is about to sleep, and is woken by news from now on. Returns whether it may sleep: no
-    /// news came before.
+    /// The loop is about to sleep, and is woken by news from now on. It may sleep if no news came before.
     pub fn may_sleep(&self) -> bool {
         self.is_asleep.store(true, Ordering::SeqCst);
         !self.has_news.load(Ordering::SeqCst)
@@ -168,10 +167,22 @@ pub struct Shared<L = Looks, E = OnceLock<ServerEnd>> {
     pub tells: bool,
 }
 
+/// A loop's number. `places` alone gives it, so no loop can take another one's.
+#[derive(Drop)]
+pub struct LoopNumber(usize);
+
+impl LoopNumber {
+    pub fn get(&self) -> usize
+        ensures { result ≡ self.now.0 }
+    {
+        self.0
+    }
+}
+
 /// What a loop begins with.
 #[derive(Drop)]
 pub struct LoopStart {
-    pub me: usize,
+    pub me: LoopNumber,
     pub poll: Poll,
     /// The registry of the poll, whose descriptor is there before anybody connects.
     pub registry: Registry,
@@ -202,7 +213,7 @@ fn place(
         None => None,
     };
     let start = LoopStart {
-        me,
+        me: LoopNumber(me),
         poll,
         registry,
         acceptor,
@@ -272,8 +283,7 @@ fn watch<R: Clock + Wait>(
     }
 }
 
-/// Starts the thread that looks at the users' file. Nobody waits for its end, as the file's disk may
-/// hang.
+/// Starts the thread that looks at the users' file. Nobody waits for its end, as the file's disk may hang.
 pub fn start_watching<R: Threads + Clock + Wait + Copy + Send + 'static>(
     rt: &R,
     shared: &Shared,

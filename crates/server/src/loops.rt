@@ -8,10 +8,10 @@ ghost use Rattle.server_system.specs.Paths.{socket_path, watched_path};
 ghost use Rattle.server_trail.specs.Journals.{journal_path};
 ghost use Rattle.server.specs.Starting.{loops_of, text_of};
 
+use crate::inlet::run_loop;
 use crate::latch::ReadyLine;
 use crate::loop_handle::{EndCause, LoopStart, Shared};
 use crate::starting::{Options, start_fault};
-use crate::turns::run_loop;
 use server_loop::{Gate, ServerEnd};
 use server_outcome::{DiskLog, LastLine, ServeFault, Unready, cause_of, outcome_of, served};
 use server_session::{

@@ -222,8 +222,7 @@ where
     status
 }
 
-/// `muxd` with a gate that each call of a loop passes, and with its errors written to `errors`. The
-/// answer is the status to exit with, as for `serve`.
+/// As `serve`, with a gate that each call of a loop passes, and with its errors written to `errors`.
 pub fn serve_through<R, G, O, E>(
     rt: &R,
     handles: Handles<G>,
