@@ -15,7 +15,7 @@ use Rattle.server_loop.specs.Handing.{HandsOut}
 use Rattle.server_loop.specs.Leaving.{IfBool}
 use Rattle.server_loop.specs.Submitting.{Answer, State, Submits, peer_at, with_peer}
 use Rattle.server_loop.specs.Walking.{VisitsAll}
-use Rattle.server_loop.specs.Writing.{Writes}
+use Rattle.server_loop.specs.Writing.{DropsLost, Writes}
 use Rattle.server_loop.specs.declared.own.Drawn.{Drawn}
 
 -- one more was made
@@ -70,10 +70,11 @@ module _ {S J : Type 0} where
       (new ≡ old)
 
 module _ {S J : Type 0} (calls : Calls J) (streams : Streams S) where
-  -- what came of steps went to its connections, and was written
+  -- what came of steps went to its connections, and was written, but for what was typed by those who lost their right
   abbrev pub HandsOn : State S J → State S J → Type 0
   HandsOn old new = IfBool old.is_behind
-      ((mid : State S J) × HandsOut calls old mid × VisitsAll (Writes calls streams) mid new)
+      ((mid : State S J) × HandsOut calls old mid × (kept : State S J) × DropsLost calls mid kept
+      × VisitsAll (Writes calls streams) kept new)
       (new ≡ old)
 
   -- Of the clients from a key on, those were drawn that want it, 16 at most, and were sent that. If some are left, it

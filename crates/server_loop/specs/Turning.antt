@@ -26,7 +26,7 @@ use Rattle.server_loop.specs.Handing.{HandsOut}
 use Rattle.server_loop.specs.Leaving.{IfBool, Loses, TriesLeaving}
 use Rattle.server_loop.specs.Submitting.{CountsOff, State, peer_at, with_peer}
 use Rattle.server_loop.specs.Walking.{VisitsAll}
-use Rattle.server_loop.specs.Writing.{DropsAt, DropsLaggard, Writes}
+use Rattle.server_loop.specs.Writing.{DropsLaggard, DropsLost, Writes}
 
 module _ {S J : Type 0} where
   -- a connection that was waited for as long as it may be was told to go, or closed if it was told so before
@@ -71,12 +71,6 @@ module _ {S J : Type 0} (calls : Calls J) where
     pub parts : PartsWith key told mid
     pub settled : IsSettled key mid.connections new.connections
     pub same : new ≡ record mid { connections = new.connections }
-
-  -- what was typed by those who may have lost their right was looked at
-  abbrev pub DropsLost : State S J → State S J → Type 0
-  DropsLost old new = IfBool old.may_have_lost
-      (VisitsAll (DropsAt calls) (record old { may_have_lost = false }) new)
-      (new ≡ old)
 
 module _ {S J : Type 0} (calls : Calls J) (streams : Streams S) where
   -- it was told to go, if it wasn't before, and given up; what is closed went

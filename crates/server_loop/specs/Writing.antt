@@ -1,5 +1,5 @@
 -- What is written to connections, and what of that which waits for them goes unwritten.
-use Rattle.std.specs.Prelude.{◌≡◌, ◌⊎◌, ℕ, zero, suc, Bool, Option, Some, None, IsSomeAnd}
+use Rattle.std.specs.Prelude.{◌≡◌, ◌⊎◌, ℕ, zero, suc, Bool, false, Option, Some, None, IsSomeAnd}
 use Rattle.acl.specs.declared.user_id.UserId.{UserId}
 use Rattle.attach_proto.specs.declared.why.Why.TheVariants as why
 use Rattle.server_connections.specs.declared.connections.Connections.{Connections}
@@ -12,6 +12,7 @@ use Rattle.server_steps.specs.Sending.{IsLaggard, WritesAt, cut, frames_at, with
 use Rattle.server_seat.specs.declared.seat.SessionSeat.{Ghosts as Calls}
 use Rattle.server_loop.specs.Leaving.{Expels, IfBool, TellsLeaving}
 use Rattle.server_loop.specs.Submitting.{State, peer_at, with_peer}
+use Rattle.server_loop.specs.Walking.{VisitsAll}
 
 module _ {S J : Type 0} (calls : Calls J) where
   -- The session was asked whether a user may type into a window. If they may not, what they typed, and of which nothing
@@ -40,6 +41,12 @@ module _ {S J : Type 0} (calls : Calls J) where
   abbrev pub DropsAt : ℕ → State S J → State S J → Type 0
   DropsAt key old new = DropsTyped (role_at (peer_at key old)) key old new
 
+  -- what was typed by those who may have lost their right was looked at
+  abbrev pub DropsLost : State S J → State S J → Type 0
+  DropsLost old new = IfBool old.may_have_lost
+      (VisitsAll (DropsAt calls) (record old { may_have_lost = false }) new)
+      (new ≡ old)
+
 module _ {S J : Type 0} (calls : Calls J) (streams : Streams S) where
   -- what waits for a connection was written as far as it takes it; if it was closed, the session was told that it left
   pub record Writes (key : ℕ) (old new : State S J) : Type 0 where
@@ -49,8 +56,10 @@ module _ {S J : Type 0} (calls : Calls J) (streams : Streams S) where
     pub told : IfBool closed ((told : Bool) × TellsLeaving calls key (record old { connections = mid }) told new)
         (new ≡ record old { connections = mid })
 
-  -- one for which too much waits was told so, written to and is closed once it takes no more
+  -- One for which too much waits was told so, written to and is closed once it takes no more. What was typed by those
+  -- who may not type there wasn't written.
   pub record DropsLaggard (key : ℕ) (old new : State S J) : Type 0 where
     pub outcome : ((¬ (IsSomeAnd (peer_at key old) IsLaggard)) × (new ≡ old))
         ⊎ (IsSomeAnd (peer_at key old) IsLaggard × ((told : State S J)
-        × Expels calls why.TooFarBehind key old told × Writes key (with_peer cut key told) new))
+        × Expels calls why.TooFarBehind key old told
+        × (kept : State S J) × DropsAt calls key (with_peer cut key told) kept × Writes key kept new))

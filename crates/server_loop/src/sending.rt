@@ -7,9 +7,8 @@ ghost use Rattle.server_steps.specs.Meaning.{role_at};
 ghost use Rattle.server_loop.specs.Drawing.{Draws, DrawsAll, DrawsFrom, DrawsNext, DrawsRound, HandsOn, TellsAll};
 ghost use Rattle.server_loop.specs.Handing.{Ends, Hands, HandsAll, HandsFor, HandsOut, SendsTo};
 ghost use Rattle.server_loop.specs.Submitting.{state_of};
-ghost use Rattle.server_loop.specs.Turning.{DropsLost};
 ghost use Rattle.server_loop.specs.Walking.{VisitsAll};
-ghost use Rattle.server_loop.specs.Writing.{DropsLaggard, DropsOf, DropsTyped, Writes};
+ghost use Rattle.server_loop.specs.Writing.{DropsLaggard, DropsLost, DropsOf, DropsTyped, Writes};
 
 use crate::own::Loop;
 use acl::UserId;
@@ -223,7 +222,7 @@ impl<S: PeerStream + Drop, G: Gate + Drop, J: SessionSeat + Drop> Loop<S, G, J> 
         self.connections.tell();
     }
 
-    // What came of steps is handed out and written.
+    // What came of steps is handed out and written, but for what was typed by those who lost their right meanwhile.
     fn hand_on(&mut self, rt: &impl Wait)
         ensures { HandsOn J.SessionSeat S.PeerStream (state_of self.old) (state_of self.new) }
     {
@@ -231,6 +230,7 @@ impl<S: PeerStream + Drop, G: Gate + Drop, J: SessionSeat + Drop> Loop<S, G, J> 
             return;
         }
         self.hand_out(rt);
+        self.drop_all_typed(rt);
         self.write_all(rt);
     }
 
@@ -263,6 +263,7 @@ impl<S: PeerStream + Drop, G: Gate + Drop, J: SessionSeat + Drop> Loop<S, G, J> 
         }
         self.expel(rt, key, Why::TooFarBehind);
         cut_off(&mut self.connections, key);
+        self.drop_typed(rt, key);
         self.write_to(rt, key);
     }
 
