@@ -1,6 +1,7 @@
 -- Where a server's files and its socket are.
 use Rattle.std.specs.Prelude.{ℕ, ◌<◌, ◌≤◌, ◌++◌, List, codes, length}
 use Rattle.std.specs.String.{string_bytes}
+use Rattle.acl.specs.declared.user_id.UserId.{UserId}
 use Rattle.mio.specs.declared.net.uds.listener.UnixListener.{UnixListener}
 use Rattle.server_system.specs.Folders.{IsHeld}
 use Rattle.server_system.specs.declared.host.Host.{Ghosts}
@@ -18,6 +19,10 @@ users_path file = string_bytes file.path
 -- of the file at which looks are taken
 abbrev pub watched_path : {H : Type 0} → WatchedUsers (UsersFile H) Looks → List ℕ
 watched_path watched = users_path watched.file
+
+-- whose first line it must have
+abbrev pub watched_owner : {F : Type 0} → WatchedUsers F Looks → UserId
+watched_owner watched = watched.owner
 
 -- A new socket was made at a path, and this listens on it: others can't replace it, and the lock beside it is held. A
 -- path has from 1 to 107 bytes.
