@@ -9,12 +9,16 @@ use Rattle.std.specs.declared.io.Error.{Error}
 use Rattle.std.specs.declared.vec.Vec.{Vec}
 use Rattle.clap.specs.Words.{first_value, one_text}
 use Rattle.clap.specs.declared.parser.matches.Found.{Found}
+use Rattle.acl.specs.Names.{name_of}
+use Rattle.acl.specs.declared.user_id.UserId.{UserId}
+use Rattle.program_words.specs.SetupLines.{commands_in, first_fault}
 use Rattle.program_words.specs.declared.setup.SetupFault.TheVariants.{NoMemory, NotText, TooLong}
 use Rattle.server_session.specs.SettingUp.{agrees, setup_of, users_of}
 use Rattle.server_session.specs.declared.loop_body.LoopsFault.{LoopsFault}
 use Rattle.server_session.specs.declared.loop_body.LoopsFault.TheVariants as loops
 use Rattle.server_outcome.specs.Faults.{IsOfSetup}
 use Rattle.server_system.specs.Looking.{IsReadOf}
+use Rattle.server_users.specs.Entries.{Entry, names}
 use Rattle.server_system.specs.Paths.{ListensAt, socket_path}
 use Rattle.server_system.specs.declared.host.Host.{Ghosts}
 use Rattle.server_outcome.specs.declared.fault.ServeFault.{ServeFault}
@@ -75,16 +79,23 @@ pub record AreStarts (n : ℕ) (starts : List LoopStart) : Type 0 where
 
 -- ---- the setup
 
--- no option names a setup, and it is empty; or it is what was read of the file at the path
+-- the owner is the user of the first line
+abbrev pub IsOwnerOf : List Entry → UserId → Type 0
+IsOwnerOf users owner = slice_get (names users) 0 ≡ Some (name_of owner)
+
+-- No option names a setup, and it is empty; or it is what was read of the file at the path, and each of its lines can be
+-- a command.
 module _ (reads : List ℕ → Result (Vec ℕ Global) Error → Type 0) where
   abbrev pub IsSetupAt : Option (List ℕ) → Vec ℕ Global → Type 0
   IsSetupAt None setup = setup.items ≡ []
-  IsSetupAt (Some path) setup = reads path (Ok setup)
+  IsSetupAt (Some path) setup = reads path (Ok setup) × (first_fault (commands_in setup.items) ≡ None)
 
-  -- the file at the path couldn't be read, and this is why
+  -- the file at the path couldn't be read, or one of its lines can be no command, and this is why
   abbrev pub IsUnread : Option (List ℕ) → ServeFault → Type 0
   IsUnread given fault.NoMemory = Unit {0}
   IsUnread (Some path) (fault.Setup at (cause.NotRead why)) = (string_bytes at ≡ path) × reads path (Err why.0)
+  IsUnread (Some path) (fault.Setup at (cause.Wrong why)) = (string_bytes at ≡ path)
+      × (setup : Vec ℕ Global) × reads path (Ok setup) × (first_fault (commands_in setup.items) ≡ Some why)
   IsUnread given other = ⊥
 
 module _ {R A B C : Type 0} (system : Ghosts R A B C) (reads : List ℕ → Result (Vec ℕ Global) Error → Type 0)

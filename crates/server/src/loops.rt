@@ -4,9 +4,9 @@ ghost use Rattle.std.specs.Prelude.{◌≡◌, IfOk, Some, is_some, length, opti
 ghost use Rattle.std.specs.Arc.{arc_value};
 ghost use Rattle.server_seat.specs.declared.seat.ServerEnd.TheVariants.{Quit};
 ghost use Rattle.server_session.specs.SettingUp.{agrees, setup_of, users_of};
-ghost use Rattle.server_system.specs.Paths.{socket_path, watched_path};
+ghost use Rattle.server_system.specs.Paths.{socket_path, watched_owner, watched_path};
 ghost use Rattle.server_trail.specs.Journals.{journal_path};
-ghost use Rattle.server.specs.Starting.{loops_of, text_of};
+ghost use Rattle.server.specs.Starting.{IsOwnerOf, loops_of, text_of};
 
 use crate::inlet::run_loop;
 use crate::latch::ReadyLine;
@@ -103,19 +103,17 @@ impl<G: Gate + Copy + Sync + Drop, O: Write + Send, E: EndCause + Sync> Server<'
         start: Start<LoopStart>,
     ) -> Result<KeptSession, ServeFault>
         requires { length start.places.items ≡ loops_of self.now.options.loops }
+        requires { IsOwnerOf start.users (watched_owner (arc_value self.now.shared.watched)) }
         ensures users { IfOk result (λ kept. users_of kept.session ≡ start.users) }
         ensures setup { IfOk result (λ kept. setup_of kept.session ≡ start.setup.items) }
         ensures agrees { IfOk result (λ kept. agrees kept.session ≡ true) }
         ensures trail { IfOk result (λ kept. is_some kept.trail ≡ is_some self.now.journal) }
         ensures end { IfOk result (λ kept. E.EndCause.holds self.now.shared.over (Some Quit)) }
     {
+        let path = self.options.setup.unwrap_or("");
         let kept = match keep(rt, start, self) {
             Ok(agreement) => Ok(agreement),
-            Err(fault) => Err(start_fault(
-                self.shared.alloc,
-                self.options.setup.unwrap_or(""),
-                fault,
-            )),
+            Err(fault) => Err(start_fault(self.shared.alloc, path, fault)),
         };
         self.shared.watched.stop(rt);
         let (said, never) = self.ready.said(rt);
@@ -165,10 +163,8 @@ where
     }
 
     fn stand_by(&self, rt: &R) {
-        let said = match self.shared.latch.await_all(rt) {
-            Some(all) => self.ready.say(rt, all),
-            None => None,
-        };
+        let all = self.shared.latch.await_all(rt);
+        let said = all.and_then(|it| self.ready.say(rt, it));
         self.shared.latch.open(rt, said);
         let mut errors = self.log;
         self.shared.log.write_all(rt, &mut errors);

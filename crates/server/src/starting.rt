@@ -92,7 +92,7 @@ impl<'a> Options<'a> {
     }
 }
 
-/// Reads the setup at a path. Without a path it has no lines.
+/// Reads the setup at a path, each line of which can be a command. Without a path it has no lines.
 pub fn read_setup<R: SetupHost>(rt: &R, path: Option<&str>) -> Result<Vec<u8>, ServeFault>
     ensures ok { IfOk result (IsSetupAt (R.SetupHost.reads rt.now) (text_of path.entry)) }
     ensures fault { IfErr result (IsUnread (R.SetupHost.reads rt.now) (text_of path.entry)) }
@@ -102,7 +102,10 @@ pub fn read_setup<R: SetupHost>(rt: &R, path: Option<&str>) -> Result<Vec<u8>, S
         return Ok(Vec::new(alloc));
     };
     match rt.read_file(path) {
-        Ok(setup) => Ok(setup),
+        Ok(setup) => match program_words::read_setup(alloc, &setup).err() {
+            None => Ok(setup),
+            Some(fault) => Err(start_fault(alloc, path, LoopsFault::Setup(fault))),
+        },
         Err(error) => {
             let cause = SetupCause::NotRead(SystemError(error));
             Err(ServeFault::of_setup(alloc, path, cause))
