@@ -9,8 +9,6 @@ use Rattle.std.specs.declared.io.Error.{Error}
 use Rattle.std.specs.declared.vec.Vec.{Vec}
 use Rattle.clap.specs.Words.{first_value, one_text}
 use Rattle.clap.specs.declared.parser.matches.Found.{Found}
-use Rattle.acl.specs.Names.{name_of}
-use Rattle.acl.specs.declared.user_id.UserId.{UserId}
 use Rattle.program_words.specs.SetupLines.{commands_in, first_fault}
 use Rattle.program_words.specs.declared.setup.SetupFault.TheVariants.{NoMemory, NotText, TooLong}
 use Rattle.server_session.specs.SettingUp.{agrees, setup_of, users_of}
@@ -18,7 +16,6 @@ use Rattle.server_session.specs.declared.loop_body.LoopsFault.{LoopsFault}
 use Rattle.server_session.specs.declared.loop_body.LoopsFault.TheVariants as loops
 use Rattle.server_outcome.specs.Faults.{IsOfSetup}
 use Rattle.server_system.specs.Looking.{IsReadOf}
-use Rattle.server_users.specs.Entries.{Entry, names}
 use Rattle.server_system.specs.Paths.{ListensAt, socket_path}
 use Rattle.server_system.specs.declared.host.Host.{Ghosts}
 use Rattle.server_outcome.specs.declared.fault.ServeFault.{ServeFault}
@@ -78,10 +75,6 @@ pub record AreStarts (n : ℕ) (starts : List LoopStart) : Type 0 where
   pub each : (k : ℕ) (start : LoopStart) → slice_get starts k ≡ Some start → IsStart k (k == 0) start
 
 -- ---- the setup
-
--- the owner is the user of the first line
-abbrev pub IsOwnerOf : List Entry → UserId → Type 0
-IsOwnerOf users owner = slice_get (names users) 0 ≡ Some (name_of owner)
 
 -- No option names a setup, and it is empty; or it is what was read of the file at the path, and each of its lines can be
 -- a command.

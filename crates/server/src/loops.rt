@@ -3,10 +3,10 @@
 ghost use Rattle.std.specs.Prelude.{◌≡◌, IfOk, Some, is_some, length, option_map, true};
 ghost use Rattle.std.specs.Arc.{arc_value};
 ghost use Rattle.server_seat.specs.declared.seat.ServerEnd.TheVariants.{Quit};
-ghost use Rattle.server_session.specs.SettingUp.{agrees, setup_of, users_of};
+ghost use Rattle.server_session.specs.SettingUp.{IsOwnerOf, agrees, setup_of, users_of};
 ghost use Rattle.server_system.specs.Paths.{socket_path, watched_owner, watched_path};
 ghost use Rattle.server_trail.specs.Journals.{journal_path};
-ghost use Rattle.server.specs.Starting.{IsOwnerOf, loops_of, text_of};
+ghost use Rattle.server.specs.Starting.{loops_of, text_of};
 
 use crate::inlet::run_loop;
 use crate::latch::ReadyLine;

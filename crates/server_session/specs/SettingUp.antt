@@ -75,6 +75,13 @@ pub record HasBegun (owner : UserId) (file : List ℕ) (seats : List Sitting) : 
 abbrev pub IsOwnerOf : List Entry → UserId → Type 0
 IsOwnerOf users owner = slice_get (names users) 0 ≡ Some (name_of owner)
 
+-- why a session of these users and this setup didn't begin: memory was refused, or not all lines were done
+abbrev pub IsUnbegun : UserId → List ℕ → LoopsFault → Type 0
+IsUnbegun owner file why = (why ≡ fault.NoMemory) ⊎ ((first last : Sitting) × Fails owner file why first last)
+
+abbrev pub IsUnkept : List Entry → List ℕ → LoopsFault → Type 0
+IsUnkept users file why = (owner : UserId) × IsOwnerOf users owner × IsUnbegun owner file why
+
 -- ---- what is told of a session that is closed
 
 -- the file whose lines it began with

@@ -1,10 +1,10 @@
 //! The loops that share a session, each in a thread of its own.
 
-ghost use Rattle.std.specs.Prelude.{◌≡◌, ◌<◌, ◌≤◌, IfOk, length};
+ghost use Rattle.std.specs.Prelude.{◌≡◌, ◌<◌, ◌≤◌, IfErr, IfOk, length};
 ghost use Rattle.acl.specs.declared.leaders.Edition.TheVariants.{Second};
 ghost use Rattle.session.specs.Trace.{begun as run_begun};
 ghost use Rattle.hub.specs.Seats.{StandsFor};
-ghost use Rattle.server_session.specs.SettingUp.{HasBegun, IsOwnerOf, setup_of, users_of};
+ghost use Rattle.server_session.specs.SettingUp.{HasBegun, IsOwnerOf, IsUnbegun, IsUnkept, setup_of, users_of};
 
 use crate::setting_up::{Agreement, Giver, SetUp, close, set_up};
 use crate::shared_session::SharedSession;
@@ -175,6 +175,7 @@ where
     ensures recorder { IfOk result (λ made. K.records loop_body.now made.0.shared.recorder) }
     ensures setup { IfOk result (λ made. made.2.file ≡ setup) }
     ensures set_up { IfOk result (λ made. HasBegun parts.owner setup.items made.1.items) }
+    ensures fault { IfErr result (IsUnbegun parts.owner setup.items) }
 {
     let Parts {
         alloc,
@@ -222,6 +223,7 @@ where
     requires session { (L.edition ≡ Second) × (L.owner ≡ parts.owner) × IsOwnerOf start.users parts.owner }
     ensures setup { IfOk result (λ agreement. setup_of agreement ≡ start.setup.items) }
     ensures users { IfOk result (λ agreement. users_of agreement ≡ start.users) }
+    ensures fault { IfErr result (IsUnbegun parts.owner start.setup.items) }
 {
     let Start {
         users,
@@ -246,6 +248,7 @@ where
     R: Clock + Threads + Wait + Sync,
     ensures setup { IfOk result (λ agreement. setup_of agreement ≡ start.setup.items) }
     ensures users { IfOk result (λ agreement. users_of agreement ≡ start.users) }
+    ensures fault { IfErr result (IsUnkept start.users start.setup.items) }
 {
     let loops = start.places.len().clamp(1, MOST);
     let parts = Parts {

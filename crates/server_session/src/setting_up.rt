@@ -166,12 +166,10 @@ pub fn close<L: Begun>(
     let (hub, users) = shared.into_parts();
     let (trail, wrong) = hub.close(left);
     let is_so = wrong.is_none();
-    (
-        trail,
-        Agreement {
-            setup,
-            users,
-            is_so,
-        },
-    )
+    let agreement = Agreement {
+        setup,
+        users,
+        is_so,
+    };
+    (trail, agreement)
 }
