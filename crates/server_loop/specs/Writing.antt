@@ -44,7 +44,7 @@ module _ {S J : Type 0} (calls : Calls J) where
   -- what was typed by those who may have lost their right was looked at
   abbrev pub DropsLost : State S J → State S J → Type 0
   DropsLost old new = IfBool old.may_have_lost
-      (VisitsAll (DropsAt calls) (record old { may_have_lost = false }) new)
+      (VisitsAll DropsAt (record old { may_have_lost = false }) new)
       (new ≡ old)
 
 module _ {S J : Type 0} (calls : Calls J) (streams : Streams S) where
