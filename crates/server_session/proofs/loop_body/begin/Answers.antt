@@ -1,4 +1,4 @@
-use Rattle.std.proofs.Common.{arith}
+use Rattle.std.proofs.Common.{arith, inl, refl}
 use Rattle.server_session.proofs.SettingUp.{begun_by}
 use Rattle.server_session.proofs.loop_body.begin.Goals as goal
 
@@ -10,3 +10,12 @@ returns-in-Ok-set_up-clause-set_up g c =
     begun_by c.args.parts.owner c.args.setup.items c.in-Ok-new.seats.items c.index_mut-first.result.now
     c.ask_for_entries.new.self c.set_up.new.seat (omega arith) c.in-Ok-new.ensures.seats.1
     c.index_mut-first.ensures.value c.ask_for_entries.ensures c.in-Ok-set_up.ensures.done
+
+pub returns-in_default-clause-fault : goal.returns-in_default-clause-fault
+returns-in_default-clause-fault g c = inl refl
+
+pub returns-in_default-new_session-clause-fault : goal.returns-in_default-new_session-clause-fault
+returns-in_default-new_session-clause-fault g c = inl refl
+
+pub returns-in_default-new-clause-fault : goal.returns-in_default-new-clause-fault
+returns-in_default-new-clause-fault g c = inl refl
