@@ -1,19 +1,20 @@
 //! `mux-web`, from its arguments to its status.
 
-ghost use Rattle.std.specs.Prelude.{IfOk, IsErr};
+ghost use Rattle.std.specs.Prelude.{◌≡◌, ◌↔◌, Ok, IfErr, IfOk, IsErr, IsTrue};
 ghost use Rattle.web_options.specs.Listening.{texts};
-ghost use Rattle.mux_web.specs.Serving.{DoesAsAsked, IsAsked};
+ghost use Rattle.mux_web.specs.Serving.{CantBind, CantOpen, CantOpenFor, DoesAsAsked, EndsAsAsked, HasNoSite, IsAsked};
+ghost use Rattle.mux_web.specs.Serving.{IsBeside, IsLacking, IsNotMade, IsOpenAt, IsOpenFor, IsShared, IsSocketAt};
 
 use mio::{Events, Poll};
 use program_words::{SystemError, of_web, tell};
 use server_system::{Host, SocketPath};
 use std::alloc::AllocGlobal;
-use std::io::{ErrorKind, Write};
+use std::io::{self, ErrorKind, Write};
 use std::sync::Wait;
 use std::thread::Threads;
 use web_options::{Listen, ReadsFiles, WebFault, WebOptions, look_for_paths, origins_of, site_of};
 use web_requests::{Loopback, Site};
-use web_streams::{Stream, WebListener};
+use web_streams::{OpensListeners, Stream, WebListener};
 use web_turn::{Bridge, BridgeOptions, serve, start_log};
 
 /// The system's number for a kind of addresses that it doesn't have.
@@ -48,87 +49,152 @@ fn bridge_of<'a, R: Host + Send + Sync + Threads + Wait + Eprint + 'static>(
     }
 }
 
-// Serves browsers that come in through these listeners.
-fn serve_at<R: Host + Send + Sync + Threads + Wait + Eprint + 'static, O: Write>(
-    rt: &R,
-    options: WebOptions<'_>,
-    site: Site,
-    mut listeners: Vec<WebListener>,
-    output: &mut O,
-) -> Result<(), WebFault>
-    ensures { IsErr result }
-{
-    look_for_paths(rt, options)?;
-    let bridge = bridge_of(rt, options, site)?;
-    let poll = Poll::new(rt)?;
-    let events = Events::with_capacity(rt.alloc(), EVENTS)?;
-    writeln!(output, "mux-web: ready")?;
-    output.flush()?;
-    let listeners = listeners.as_mut_slice();
-    Err(WebFault::from(serve(rt, bridge, poll, events, listeners)))
+/// What serves browsers. Its relation is shown by a call alone.
+pub trait ServesBrowsers {
+    ghost use Rattle.std.specs.Prelude.{IfErr, IsErr, List};
+    ghost use Rattle.web_options.specs.declared.fault.WebFault.{WebFault as Fault};
+    ghost use Rattle.web_options.specs.declared.options.WebOptions.{WebOptions as Options};
+    ghost use Rattle.web_requests.specs.declared.site.Site.{Site as Page};
+    ghost use Rattle.web_streams.specs.declared.connections.WebListener.{WebListener as Door};
+
+    // The options, the site, the listeners, and why it ended.
+    ghost serves: { Self → Options → Page → List Door → Fault → Type 0 };
+
+    /// Serves browsers that come in through these listeners.
+    fn serve_at<R: Host + Send + Sync + Threads + Wait + Eprint + 'static, O: Write>(
+        &self,
+        rt: &R,
+        options: WebOptions<'_>,
+        site: Site,
+        listeners: Vec<WebListener>,
+        output: &mut O,
+    ) -> Result<(), WebFault>
+        ensures ends { IsErr result }
+        ensures serves { IfErr result (serves self.now options.entry site listeners.items) };
 }
 
-// Listeners at an address of this machine, and at the other one that localhost may be: else another account could
-// listen there. A machine that lacks that one has no such listener.
-fn listeners_at<R: Host>(
+/// The loop of a bridge.
+struct BridgeLoop;
+
+impl ServesBrowsers for BridgeLoop {
+    ghost serves = { λ by options site listeners fault. Unit {0} };
+
+    fn serve_at<R: Host + Send + Sync + Threads + Wait + Eprint + 'static, O: Write>(
+        &self,
+        rt: &R,
+        options: WebOptions<'_>,
+        site: Site,
+        mut listeners: Vec<WebListener>,
+        output: &mut O,
+    ) -> Result<(), WebFault> {
+        look_for_paths(rt, options)?;
+        let bridge = bridge_of(rt, options, site)?;
+        let poll = Poll::new(rt)?;
+        let events = Events::with_capacity(rt.alloc(), EVENTS)?;
+        writeln!(output, "mux-web: ready")?;
+        output.flush()?;
+        let listeners = listeners.as_mut_slice();
+        Err(WebFault::from(serve(rt, bridge, poll, events, listeners)))
+    }
+}
+
+// Listens at an address of this machine.
+fn listener_at<R: OpensListeners + AllocGlobal>(
     rt: &R,
     options: WebOptions<'_>,
-    address: &Loopback,
-) -> Result<Vec<WebListener>, WebFault> {
-    let mut listeners = Vec::new(rt.alloc());
-    match WebListener::tcp(rt, *address) {
-        Ok(listener) => listeners.push(listener)?,
+    address: Loopback,
+) -> Result<WebListener, WebFault>
+    ensures ok { IfOk result (λ listener. R.opens rt.now address (Ok listener)) }
+    ensures fault { IfErr result (IsNotMade (R.opens rt.now) address options.entry.listen.now) }
+{
+    match rt.open_listener(address) {
+        Ok(listener) => Ok(listener),
         Err(error) => {
             let name = String::from_str(rt.alloc(), options.listen)?;
-            return Err(WebFault::NotMade(name, SystemError(error)));
+            Err(WebFault::NotMade(name, SystemError(error)))
         }
     }
+}
+
+// Whether the machine lacks an address, by the error of listening there.
+fn is_lacking(error: &io::Error) -> bool
+    ensures { IsTrue result ↔ IsLacking error.now }
+{
+    error.kind() == ErrorKind::AddrNotAvailable || error.raw_os_error() == Some(EAFNOSUPPORT)
+}
+
+// Listens at the other address that localhost may be: else another account could listen there. A machine that lacks it
+// has no such listener.
+fn listener_beside<R: OpensListeners>(
+    rt: &R,
+    address: Loopback,
+) -> Result<Option<WebListener>, WebFault>
+    ensures ok { IfOk result (IsBeside (R.opens rt.now) address) }
+    ensures fault { IfErr result (IsShared (R.opens rt.now) address) }
+{
     let Some(other) = address.other() else {
-        return Ok(listeners);
+        return Ok(None);
     };
-    match WebListener::tcp(rt, other) {
-        Ok(listener) => listeners.push(listener)?,
-        Err(error) if error.kind() == ErrorKind::AddrNotAvailable => {}
-        Err(error) if error.raw_os_error() == Some(EAFNOSUPPORT) => {}
-        Err(error) => return Err(WebFault::Shared(other.address(), SystemError(error))),
+    match rt.open_listener(other) {
+        Ok(listener) => Ok(Some(listener)),
+        Err(error) if is_lacking(&error) => Ok(None),
+        Err(error) => Err(WebFault::Shared(other.address(), SystemError(error))),
+    }
+}
+
+// Listeners at an address of this machine, and at the other one that localhost may be.
+fn listeners_at<R: OpensListeners + AllocGlobal>(
+    rt: &R,
+    options: WebOptions<'_>,
+    address: Loopback,
+) -> Result<Vec<WebListener>, WebFault>
+    ensures ok { IfOk result (λ listeners. IsOpenAt (R.opens rt.now) address listeners.items) }
+    ensures fault { IfErr result (CantOpen (R.opens rt.now) address options.entry.listen.now) }
+{
+    let mut listeners = Vec::new(rt.alloc());
+    listeners.push(listener_at(rt, options, address)?)?;
+    if let Some(listener) = listener_beside(rt, address)? {
+        listeners.push(listener)?;
     }
     Ok(listeners)
 }
 
-// Serves at an address of this machine.
-fn serve_address<R: Host + Send + Sync + Threads + Wait + Eprint + 'static, O: Write>(
+// Listens at a socket.
+fn socket_at<'a, R: Host>(
     rt: &R,
-    options: WebOptions<'_>,
-    site: Site,
-    address: &Loopback,
-    output: &mut O,
-) -> Result<(), WebFault>
-    ensures { IsErr result }
-{
-    let listeners = listeners_at(rt, options, address)?;
-    serve_at(rt, options, site, listeners, output)
-}
-
-// Serves at a socket, which is removed if the system refuses to wait. A signal ends the program at once and
-// leaves it: the next start replaces it.
-fn serve_socket<R: Host + Send + Sync + Threads + Wait + Eprint + 'static, O: Write>(
-    rt: &R,
-    options: WebOptions<'_>,
-    site: Site,
-    path: &str,
-    output: &mut O,
-) -> Result<(), WebFault>
-    ensures { IsErr result }
+    path: &'a str,
+) -> Result<(SocketPath<'a>, Vec<WebListener>), WebFault>
+    ensures ok { IfOk result (λ made. IsSocketAt R.Host rt.now path.entry.now made.1.items) }
+    ensures fault { IfErr result CantBind }
 {
     match SocketPath::listen(rt, rt.alloc(), path) {
         Ok((place, listener)) => {
             let mut listeners = Vec::new(rt.alloc());
             listeners.push(WebListener::Unix(listener))?;
-            let served = serve_at(rt, options, site, listeners, output);
-            place.end(rt, rt);
-            served
+            Ok((place, listeners))
         }
         Err(fault) => Err(WebFault::Socket(format!(in rt.alloc(); "{fault}")?)),
+    }
+}
+
+// Listens where the arguments ask for it, at a path with its place.
+fn open_at<'a, R: Host + OpensListeners>(
+    rt: &R,
+    options: WebOptions<'a>,
+    listen: Listen<'a>,
+) -> Result<(Option<SocketPath<'a>>, Vec<WebListener>), WebFault>
+    ensures ok { IfOk result (λ made. IsOpenFor R.Host (R.opens rt.now) rt.now listen.entry made.1.items) }
+    ensures fault { IfErr result (CantOpenFor (R.opens rt.now) options.entry.listen.now listen.entry) }
+{
+    match listen {
+        Listen::Address(address) => match listeners_at(rt, options, address) {
+            Ok(listeners) => Ok((None, listeners)),
+            Err(fault) => Err(fault),
+        },
+        Listen::Path(path) => match socket_at(rt, path) {
+            Ok((place, listeners)) => Ok((Some(place), listeners)),
+            Err(fault) => Err(fault),
+        },
     }
 }
 
@@ -137,32 +203,40 @@ fn site_at<R: ReadsFiles + AllocGlobal>(
     rt: &R,
     options: WebOptions<'_>,
     origins: &[&str],
+    listen: Listen<'_>,
 ) -> Result<Site, WebFault>
-    ensures { IfOk result (IsAsked (R.reads rt.now) (R.lies rt.now) options.entry (texts origins.now)) }
+    ensures ok { IfOk result (IsAsked (R.reads rt.now) (R.lies rt.now) options.entry (texts origins.now) listen.entry) }
+    ensures fault { IfErr result (HasNoSite (R.reads rt.now) (R.lies rt.now) options.entry (texts origins.now) listen.entry) }
 {
-    match options.listens(rt.alloc()) {
-        Ok(listen) => match origins_of(rt.alloc(), origins, listen) {
-            Ok(origins) => site_of(rt, options, origins),
-            Err(fault) => Err(fault),
-        },
+    match origins_of(rt.alloc(), origins, listen) {
+        Ok(origins) => site_of(rt, options, origins),
         Err(fault) => Err(fault),
     }
 }
 
-fn serve_asked<R: Host + Send + Sync + Threads + Wait + Eprint + 'static, O: Write>(
+// Serves what the arguments ask for. A socket is removed if the system refuses to wait. A signal ends the program at once
+// and leaves it: the next start replaces it.
+fn serve_asked<R, B: ServesBrowsers, O: Write>(
     rt: &R,
+    bridges: &B,
     options: WebOptions<'_>,
     origins: &[&str],
     output: &mut O,
 ) -> Result<(), WebFault>
-    ensures { IsErr result }
+where
+    R: Host + OpensListeners + ReadsFiles + Send + Sync + Threads + Wait + Eprint + 'static,
+    ensures ends { IsErr result }
+    ensures asked { IfErr result (EndsAsAsked R.Host (R.opens rt.now) (R.reads rt.now) (R.lies rt.now) rt.now
+        (B.serves bridges.now) options.entry (texts origins.now)) }
 {
-    let site = site_at(rt, options, origins)?;
     let listen = options.listens(rt.alloc())?;
-    match &listen {
-        Listen::Address(address) => serve_address(rt, options, site, address, output),
-        Listen::Path(path) => serve_socket(rt, options, site, path, output),
+    let site = site_at(rt, options, origins, listen)?;
+    let (place, listeners) = open_at(rt, options, listen)?;
+    let served = bridges.serve_at(rt, options, site, listeners, output);
+    if let Some(place) = place {
+        place.end(rt, rt);
     }
+    served
 }
 
 /// Serves until the system refuses to wait. Returns the status to exit with.
@@ -182,7 +256,7 @@ where
         }
     };
     let origins = matches.get_strs("origin").unwrap_or(&[]);
-    match serve_asked(rt, WebOptions::of(&matches), origins, output) {
+    match serve_asked(rt, &BridgeLoop, WebOptions::of(&matches), origins, output) {
         Ok(()) => 0,
         Err(fault) => {
             let _ = writeln!(errors, "mux-web: {fault}");

@@ -13,7 +13,7 @@ use attach_proto::{Bytes, Message, Text, Token, WriteFault, write_message};
 use std::alloc::Global;
 use web_page::{ClientFault, WebDisplay};
 use web_requests::Watcher;
-use web_streams::{Outgoing, ReadOutcome, WebStream};
+use web_streams::{Outgoing, ReadBuffer, ReadOutcome, WebStream};
 
 /// A client of the server, over a connection of its own.
 #[derive(Drop)]
@@ -119,15 +119,20 @@ impl WebClient {
     }
 
     /// Reads the server once, and hears what came. If it can't be heard the connection ends.
-    pub(crate) fn receive<S: WebStream>(&mut self, server: &mut S, buffer: &mut [u8]) -> ReadOutcome
+    pub(crate) fn receive<S: WebStream>(
+        &mut self,
+        server: &mut S,
+        buffer: &mut ReadBuffer,
+    ) -> ReadOutcome
         ensures hears { HearsRead S.reads server.old self.old.display result server.new self.new.display }
         ensures asks { self.new.outgoing ≡ self.old.outgoing }
     {
-        let (count, arrival) = server.read_once(buffer);
-        if count == 0 {
+        let arrival = server.read_once(buffer);
+        let piece = buffer.piece();
+        if piece.is_empty() {
             return arrival;
         }
-        match self.display.hear_all(&buffer[..count]) {
+        match self.display.hear_all(piece) {
             Ok(()) => arrival,
             Err(_) => ReadOutcome::End,
         }
@@ -174,7 +179,7 @@ impl SharedClient {
     }
 
     /// Reads the server once, and hears what came.
-    pub fn receive<S: WebStream>(&mut self, server: &mut S, buffer: &mut [u8]) -> ReadOutcome
+    pub fn receive<S: WebStream>(&mut self, server: &mut S, buffer: &mut ReadBuffer) -> ReadOutcome
         ensures hears { HearsRead S.reads server.old self.old.client.display result server.new
             self.new.client.display }
         ensures asks { self.new.client.outgoing ≡ self.old.client.outgoing }

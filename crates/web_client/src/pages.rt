@@ -9,11 +9,11 @@ use crate::client::SharedClient;
 use crate::identity::Identity;
 use crate::visitor::Visitor;
 use crate::wire::{Phase, SentPage, WireFault};
-use web_streams::{ReadOutcome, WebStream};
+use web_streams::{ReadBuffer, ReadOutcome, WebStream};
 
 impl Visitor {
     /// Reads the server once for the browser's own client, which hears what came. If it has none the connection ends.
-    pub fn hear<S: WebStream>(&mut self, server: &mut S, buffer: &mut [u8]) -> ReadOutcome
+    pub fn hear<S: WebStream>(&mut self, server: &mut S, buffer: &mut ReadBuffer) -> ReadOutcome
         ensures hears { HearsFor S.reads server.old self.old.identity result server.new self.new.identity }
         ensures same { self.new ≡ record self.old { identity = self.new.identity } }
     {

@@ -15,7 +15,7 @@ use crate::wire::{Phase, SentPage, Wire, WireFault};
 use attach_proto::Why;
 use std::alloc::Global;
 use web_requests::{Response, Site, Upgrade, answered, refusal};
-use web_streams::{ReadOutcome, WebStream, drop_front, write_all};
+use web_streams::{ReadBuffer, ReadOutcome, WebStream, drop_front, write_all};
 use websocket::protocol::CloseCode;
 
 /// While more bytes wait for the server, or for the browser, the browser isn't read.
@@ -201,12 +201,12 @@ impl Visitor {
     }
 
     /// Reads the browser once. What came waits to be taken.
-    pub fn receive<S: WebStream>(&mut self, browser: &mut S, buffer: &mut [u8]) -> ReadOutcome
+    pub fn receive<S: WebStream>(&mut self, browser: &mut S, buffer: &mut ReadBuffer) -> ReadOutcome
         ensures receives { Receives S.reads browser.old self.old.input.items result browser.new self.new.input.items }
         ensures same { self.new ≡ record self.old { input = self.new.input } }
     {
-        let (count, arrival) = browser.read_once(buffer);
-        match self.input.extend_from_slice(&buffer[..count]) {
+        let arrival = browser.read_once(buffer);
+        match self.input.extend_from_slice(buffer.piece()) {
             Ok(()) => arrival,
             Err(_) => ReadOutcome::End,
         }

@@ -7,10 +7,10 @@ ghost use Rattle.web_relay.specs.Walking.{Repeats};
 
 use std::time::Duration;
 use web_client::SharedClient;
-use web_streams::{ReadOutcome, WebStream};
+use web_streams::{ReadBuffer, ReadOutcome, WebStream};
 
 /// How often a connection is read in one turn.
-const READS: usize = 16;
+pub const READS: usize = 16;
 
 /// A client that sees no window attaches again after this number of seconds, and one is sent to the chosen window.
 const PAUSE: u64 = 10;
@@ -39,7 +39,7 @@ pub struct Hall<S> {
 
 impl<S: WebStream + Drop> Hall<S> {
     // Reads the server once.
-    fn hear(&mut self, buffer: &mut [u8])
+    fn hear(&mut self, buffer: &mut ReadBuffer)
         ensures { HallHears S.WebStream self.old self.new }
     {
         match self.client.receive(&mut self.stream, buffer) {
@@ -50,7 +50,7 @@ impl<S: WebStream + Drop> Hall<S> {
     }
 
     // Reads what the server has sent.
-    fn hear_all(&mut self, buffer: &mut [u8])
+    fn hear_all(&mut self, buffer: &mut ReadBuffer)
         ensures { Repeats IsHallToHear (HallHears S.WebStream) READS self.old self.new }
     {
         'reads: for _ in 0..READS {
@@ -62,7 +62,7 @@ impl<S: WebStream + Drop> Hall<S> {
     }
 
     // Reads what the server has sent, and writes what waits for it. Nobody counts as its audience yet.
-    pub(crate) fn turn(&mut self, buffer: &mut [u8])
+    pub(crate) fn turn(&mut self, buffer: &mut ReadBuffer)
         ensures { HallTurns S.WebStream self.old self.new }
     {
         self.audience = 0;

@@ -14,7 +14,7 @@ use std::alloc::Global;
 use std::net::Net;
 use std::time::Duration;
 use web_client::SharedClient;
-use web_streams::{BridgeContext, BridgeStream, WebStream, hall_token};
+use web_streams::{BridgeContext, BridgeStream, ReadBuffer, WebStream, hall_token};
 
 /// How many pages are shared at most.
 const MOST: usize = 8;
@@ -46,7 +46,7 @@ fn choose_all<S: Drop>(halls: &mut Slab<Hall<S>>, choice: &str, now: Duration)
 }
 
 // Reads and writes for the hall at this place.
-fn turn_at<S: WebStream + Drop>(halls: &mut Slab<Hall<S>>, place: usize, buffer: &mut [u8])
+fn turn_at<S: WebStream + Drop>(halls: &mut Slab<Hall<S>>, place: usize, buffer: &mut ReadBuffer)
     ensures at { AtBoth (HallTurns S.WebStream) (get halls.old place) (get halls.new place) }
     ensures others { (other : ℕ) → other ≢ place → get halls.new other ≡ get halls.old other }
 {
@@ -340,7 +340,7 @@ impl<S: Drop> Halls<S> {
 
 impl<S: WebStream + Drop> Halls<S> {
     /// Reads and writes for all halls. Nobody counts as their audience yet.
-    pub fn turn(&mut self, buffer: &mut [u8])
+    pub fn turn(&mut self, buffer: &mut ReadBuffer)
         ensures each { AtEach (HallTurns S.WebStream) self.old.list self.new.list }
         ensures same { self.new ≡ record self.old { list = self.new.list } }
     {

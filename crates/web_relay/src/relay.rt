@@ -9,16 +9,14 @@ ghost use Rattle.web_relay.specs.Relaying.{IsToRead, ReadsBrowser, ReadsOnce, Ta
 ghost use Rattle.web_relay.specs.Relaying.{WantsServer};
 ghost use Rattle.web_relay.specs.Walking.{Repeats};
 
+use crate::hall::READS;
 use crate::halls::HallNumber;
 use attach_proto::Token;
 use std::alloc::Global;
 use std::net::Net;
 use std::time::Duration;
 use web_client::{Identity, Visitor};
-use web_streams::{BridgeContext, BridgeStream, ReadOutcome, WebStream, server_token};
-
-/// How often a connection is read in one turn.
-const READS: usize = 16;
+use web_streams::{BridgeContext, BridgeStream, ReadBuffer, ReadOutcome, WebStream, server_token};
 
 /// What a page is told if its client can't be connected.
 pub const NO_SERVER: &str = "The session hasn't begun, or it has ended";
@@ -109,10 +107,10 @@ impl<S: Drop> Relay<S> {
         ensures begun { result ≡ true → self.new ≡ record self.old { has_begun = true } }
         ensures same { result ≡ false → self.new ≡ self.old }
     {
-        let has_page = match self.visitor.identity() {
-            Identity::Own(_) | Identity::Watching(_, _) => true,
-            Identity::Nobody | Identity::Link(_) | Identity::Unknown | Identity::Left => false,
-        };
+        let has_page = matches!(
+            self.visitor.identity(),
+            Identity::Own(_) | Identity::Watching(_, _)
+        );
         if has_page && !self.has_begun && self.visitor.is_open() {
             self.has_begun = true;
             return true;
@@ -166,20 +164,14 @@ impl<S: Drop> Relay<S> {
     fn has_client(&self) -> bool
         ensures { IsTrue result ↔ HasClient self.now.visitor.identity }
     {
-        match self.visitor.identity() {
-            Identity::Own(_) => true,
-            _ => false,
-        }
+        matches!(self.visitor.identity(), Identity::Own(_))
     }
 
     /// Whether its own client is to be connected: once, when its page has said who it is.
     pub fn wants_server(&self) -> bool
         ensures { IsTrue result ↔ WantsServer self.now }
     {
-        let is_unasked = match &self.server {
-            Upstream::Unasked => true,
-            Upstream::Connected(_) | Upstream::Lost => false,
-        };
+        let is_unasked = matches!(&self.server, Upstream::Unasked);
         self.has_client() && self.visitor.is_open() && self.has_begun && is_unasked
     }
 
@@ -280,7 +272,7 @@ impl<S: Drop> Relay<S> {
 impl<S: WebStream + Drop> Relay<S> {
     /// Reads what the browser has sent, up to 64 frames in a turn if they are short. Returns whether its page opened.
     /// Its own client is asked for what these frames say, and for nothing else.
-    pub fn read_browser(&mut self, around: BridgeContext<'_>, buffer: &mut [u8]) -> bool
+    pub fn read_browser(&mut self, around: BridgeContext<'_>, buffer: &mut ReadBuffer) -> bool
         ensures asks { Asks self.old.visitor.identity self.new.visitor.identity }
         ensures opens { IsTrue result ↔ ((IsOpen self.old.visitor → ⊥) × IsOpen self.new.visitor) }
         ensures reads { ReadsBrowser S.WebStream around.entry.site.now around.entry.now self.old self.new }
@@ -309,7 +301,7 @@ impl<S: WebStream + Drop> Relay<S> {
     }
 
     // Reads the browser while it has sent something.
-    fn read_some(&mut self, around: BridgeContext<'_>, buffer: &mut [u8])
+    fn read_some(&mut self, around: BridgeContext<'_>, buffer: &mut ReadBuffer)
         ensures asks { Asks self.old.visitor.identity self.new.visitor.identity }
         ensures reads { Repeats IsToRead (ReadsOnce S.WebStream around.entry.site.now around.entry.now) READS self.old
             self.new }
@@ -323,7 +315,7 @@ impl<S: WebStream + Drop> Relay<S> {
     }
 
     // Reads the browser once.
-    fn read_once(&mut self, around: BridgeContext<'_>, buffer: &mut [u8])
+    fn read_once(&mut self, around: BridgeContext<'_>, buffer: &mut ReadBuffer)
         ensures asks { Asks self.old.visitor.identity self.new.visitor.identity }
         ensures reads { ReadsOnce S.WebStream around.entry.site.now around.entry.now self.old self.new }
     {

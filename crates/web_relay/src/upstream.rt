@@ -6,10 +6,11 @@ ghost use Rattle.web_relay.specs.Relaying.{IsToAsk, IsToHear, Looks, LosesServer
 ghost use Rattle.web_relay.specs.Seeing.{ShowsOwn};
 ghost use Rattle.web_relay.specs.Walking.{Repeats};
 
+use crate::hall::READS;
 use crate::relay::{Relay, Upstream};
 use std::time::Duration;
 use web_client::Identity;
-use web_streams::{ReadOutcome, WebStream};
+use web_streams::{ReadBuffer, ReadOutcome, WebStream};
 
 /// A browser has this number of seconds for its request and its first message.
 const PATIENCE: u64 = 20;
@@ -25,9 +26,6 @@ const STUCK: u64 = 60;
 
 /// What a page is told when its client's connection has ended.
 pub const ENDED: &str = "The connection to the session ended";
-
-/// How often a connection is read in one turn.
-const READS: usize = 16;
 
 impl<S: Drop> Relay<S> {
     // Its own client's connection ended. If the server said why, the page is still to be told that.
@@ -110,7 +108,7 @@ impl<S: Drop> Relay<S> {
 
 impl<S: WebStream + Drop> Relay<S> {
     // Reads the server once.
-    fn hear(&mut self, buffer: &mut [u8])
+    fn hear(&mut self, buffer: &mut ReadBuffer)
         ensures { HearsOnce S.WebStream self.old self.new }
     {
         let Upstream::Connected(server) = &mut self.server else {
@@ -122,7 +120,7 @@ impl<S: WebStream + Drop> Relay<S> {
     }
 
     /// Reads what the server has sent to its own client. Nobody else hears it.
-    pub fn read_server(&mut self, buffer: &mut [u8])
+    pub fn read_server(&mut self, buffer: &mut ReadBuffer)
         ensures { Repeats IsToHear (HearsOnce S.WebStream) READS self.old self.new }
     {
         'reads: for _ in 0..READS {

@@ -86,11 +86,6 @@ pub enum WebListener {
 pub type Stream = Either<TcpStream, UnixStream>;
 
 impl WebListener {
-    /// Listens on an address of this machine.
-    pub fn tcp<R: Net>(rt: &R, address: Loopback) -> io::Result<WebListener> {
-        Ok(WebListener::Tcp(TcpListener::bind(rt, address.address())?))
-    }
-
     /// Waits for connections.
     pub fn register(&mut self, registry: &Registry, token: Token) -> io::Result<()>
         ensures { self.new ≡ self.old }
@@ -99,6 +94,29 @@ impl WebListener {
             WebListener::Tcp(it) => registry.register(it, token, Interest::READABLE),
             WebListener::Unix(it) => registry.register(it, token, Interest::READABLE),
         }
+    }
+}
+
+/// What opens listeners. Its relation is shown by a call alone.
+pub trait OpensListeners {
+    ghost use Rattle.std.specs.Prelude.{Result};
+    ghost use Rattle.std.specs.declared.io.Error.{Error};
+    ghost use Rattle.std.specs.declared.net.socket_addr.SocketAddr.{SocketAddr as Address};
+    ghost use Rattle.web_streams.specs.declared.connections.WebListener.{WebListener as Door};
+
+    // An address, and the listener there, or why none was opened.
+    ghost opens: { Self → Address → Result Door Error → Type 0 };
+
+    /// Listens on an address of this machine.
+    fn open_listener(&self, address: Loopback) -> io::Result<WebListener>
+        ensures { opens self.now address result };
+}
+
+impl<R: Net> OpensListeners for R {
+    ghost opens = { λ host address opened. Unit {0} };
+
+    fn open_listener(&self, address: Loopback) -> io::Result<WebListener> {
+        Ok(WebListener::Tcp(TcpListener::bind(self, address.address())?))
     }
 }
 

@@ -7,8 +7,8 @@ mod outgoing;
 mod stream;
 
 pub use connections::{
-    Accepted, Asked, BridgeContext, BridgeStream, Stream, WebListener, Woken, browser_token,
-    hall_token, listener_token, server_token, woken_by,
+    Accepted, Asked, BridgeContext, BridgeStream, OpensListeners, Stream, WebListener, Woken,
+    browser_token, hall_token, listener_token, server_token, woken_by,
 };
 pub use outgoing::{Outgoing, drop_front, write_all};
-pub use stream::{ReadOutcome, WebStream, WriteOutcome};
+pub use stream::{ReadBuffer, ReadOutcome, WebStream, WriteOutcome};

@@ -21,11 +21,9 @@ use std::time::{Clock, Duration};
 use web_relay::{Halls, Relay, make_room, mark};
 use web_requests::Site;
 use web_streams::{
-    Accepted, Asked, BridgeStream, WebListener, WebStream, Woken, browser_token, woken_by,
+    Accepted, Asked, BridgeStream, ReadBuffer, WebListener, WebStream, Woken, browser_token,
+    woken_by,
 };
-
-/// The size of a read.
-const CHUNK: usize = 16_384;
 
 /// How many connections may be there besides those of pages that have said who they are.
 const SPARE: usize = 256;
@@ -70,7 +68,7 @@ pub struct Bridge<'a, S> {
     pub(crate) log: Option<Arc<WebLog>>,
     pub(crate) relays: Slab<Relay<S>>,
     pub(crate) halls: Halls<S>,
-    pub(crate) buffer: Vec<u8>,
+    pub(crate) buffer: ReadBuffer,
     // How often listeners were asked.
     asked: Asked,
     // Browsers may wait at a listener. It tells of those that come, and not again of those that wait.
@@ -111,7 +109,7 @@ impl<'a, S: Drop> Bridge<'a, S> {
             log,
             relays: Slab::new(alloc),
             halls: Halls::new(alloc, choice),
-            buffer: vec![in alloc; 0; CHUNK]?,
+            buffer: ReadBuffer::new(alloc)?,
             asked: Asked::new(),
             has_comers: true,
             is_busy: false,

@@ -16,7 +16,7 @@ use std::net::Net;
 use std::sync::Wait;
 use std::time::Duration;
 use web_relay::{Halls, Relay, is_full, let_go};
-use web_streams::{BridgeContext, BridgeStream, WebStream};
+use web_streams::{BridgeContext, BridgeStream, ReadBuffer, WebStream};
 
 /// What a page is told that has said who it is when all places are taken.
 pub const FULL: &str = "All places are taken";
@@ -40,7 +40,7 @@ impl PageArrival {
 fn hear<S: WebStream + Drop>(
     relay: &mut Relay<S>,
     around: BridgeContext<'_>,
-    buffer: &mut [u8],
+    buffer: &mut ReadBuffer,
 ) -> PageArrival
     ensures { Hears S.WebStream around.entry.site.now around.entry.now relay.old result relay.new }
 {
@@ -80,7 +80,7 @@ fn read_at<S: WebStream + Drop>(
     place: usize,
     most: usize,
     around: BridgeContext<'_>,
-    buffer: &mut [u8],
+    buffer: &mut ReadBuffer,
 )
     ensures { ChangesAt place (Reads S.WebStream around.entry.site.now around.entry.now most relays.old place)
         relays.old
@@ -141,13 +141,7 @@ impl<S: BridgeStream + WebStream + Drop> Bridge<'_, S> {
             socket: self.socket,
             now,
         };
-        read_at(
-            &mut self.relays,
-            place,
-            self.most,
-            around,
-            self.buffer.as_mut_slice(),
-        );
+        read_at(&mut self.relays, place, self.most, around, &mut self.buffer);
     }
 
     // One turn of the browser at this place.
@@ -173,7 +167,7 @@ impl<S: BridgeStream + WebStream + Drop> Bridge<'_, S> {
         redeem(rt, self.links, relay);
         let begins = self.halls.seat(rt, around, relay);
         tell_watching(rt, &self.log, place, relay, begins);
-        relay.read_server(self.buffer.as_mut_slice());
+        relay.read_server(&mut self.buffer);
         tell(rt, &self.log, place, relay);
         relay.write_all();
         show(&mut self.halls, relay);
@@ -217,7 +211,7 @@ impl<S: BridgeStream + WebStream + Drop> Bridge<'_, S> {
             self.new.halls }
         ensures same { self.new ≡ record self.old { halls = self.new.halls; buffer = self.new.buffer } }
     {
-        self.halls.turn(self.buffer.as_mut_slice());
+        self.halls.turn(&mut self.buffer);
         let around = BridgeContext {
             registry,
             site: &self.site,
