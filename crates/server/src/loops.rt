@@ -102,8 +102,8 @@ impl<G: Gate + Copy + Sync + Drop, O: Write + Send, E: EndCause + Sync> Server<'
         rt: &R,
         start: Start<LoopStart>,
     ) -> Result<KeptSession, ServeFault>
-        requires { length start.places.items ≡ loops_of self.now.options.loops }
-        requires { IsOwnerOf start.users (watched_owner (arc_value self.now.shared.watched)) }
+        requires places { length start.places.items ≡ loops_of self.now.options.loops }
+        requires owner { IsOwnerOf start.users (watched_owner (arc_value self.now.shared.watched)) }
         ensures users { IfOk result (λ kept. users_of kept.session ≡ start.users) }
         ensures setup { IfOk result (λ kept. setup_of kept.session ≡ start.setup.items) }
         ensures agrees { IfOk result (λ kept. agrees kept.session ≡ true) }
