@@ -12,7 +12,7 @@ use Rattle.server_system.specs.declared.looks.KnownUsers.{KnownUsers}
 use Rattle.server.specs.declared.acceptor.Acceptor.{Acceptor}
 use Rattle.server.specs.declared.loop_handle.HandCalls.{HandCalls}
 use Rattle.server.specs.declared.loop_handle.HandedStream.{HandedStream}
-use Rattle.server.specs.declared.inlet.Inlet.{Inlet}
+use Rattle.server.specs.declared.turns.Inlet.{Inlet}
 use Rattle.mio.specs.Event.{event_token, is_error, is_read_closed, is_readable, is_writable}
 use Rattle.mio.specs.declared.event.event.Event.{Event}
 use Rattle.server_turns.specs.declared.around.Came.{Came}

@@ -67,7 +67,7 @@ loops_of asked = max 1 (min asked 8)
 
 -- what the loop of this number begins with, and whether it has the listener
 abbrev pub IsStart : ℕ → Bool → LoopStart → Type 0
-IsStart me listens start = (start.me.0 ≡ me) × (is_some start.acceptor ≡ listens)
+IsStart me listens start = (start.me ≡ me) × (is_some start.acceptor ≡ listens)
 
 -- what n loops begin with, which are numbered from 0; the first one alone has the listener
 pub record AreStarts (n : ℕ) (starts : List LoopStart) : Type 0 where

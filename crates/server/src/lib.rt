@@ -2,7 +2,6 @@
 #![tactic(auto)]
 
 mod acceptor;
-mod inlet;
 mod latch;
 mod loop_handle;
 mod loops;

@@ -167,22 +167,10 @@ pub struct Shared<L = Looks, E = OnceLock<ServerEnd>> {
     pub tells: bool,
 }
 
-/// A loop's number. `places` alone gives it, so no loop can take another one's.
-#[derive(Drop)]
-pub struct LoopNumber(usize);
-
-impl LoopNumber {
-    pub fn get(&self) -> usize
-        ensures { result ≡ self.now.0 }
-    {
-        self.0
-    }
-}
-
 /// What a loop begins with.
 #[derive(Drop)]
 pub struct LoopStart {
-    pub me: LoopNumber,
+    pub me: usize,
     pub poll: Poll,
     /// The registry of the poll, whose descriptor is there before anybody connects.
     pub registry: Registry,
@@ -213,7 +201,7 @@ fn place(
         None => None,
     };
     let start = LoopStart {
-        me: LoopNumber(me),
+        me,
         poll,
         registry,
         acceptor,

@@ -8,10 +8,10 @@ ghost use Rattle.server_system.specs.Paths.{socket_path, watched_owner, watched_
 ghost use Rattle.server_trail.specs.Journals.{journal_path};
 ghost use Rattle.server.specs.Starting.{loops_of, text_of};
 
-use crate::inlet::run_loop;
 use crate::latch::ReadyLine;
 use crate::loop_handle::{EndCause, LoopStart, Shared};
 use crate::starting::{Options, start_fault};
+use crate::turns::run_loop;
 use server_loop::{Gate, ServerEnd};
 use server_outcome::{DiskLog, LastLine, ServeFault, Unready, cause_of, outcome_of, served};
 use server_session::{
@@ -165,10 +165,13 @@ where
     fn stand_by(&self, rt: &R) {
         let all = self.shared.latch.await_all(rt);
         let said = all.and_then(|it| self.ready.say(rt, it));
+        let serves = said.is_some();
         self.shared.latch.open(rt, said);
         let mut errors = self.log;
         self.shared.log.write_all(rt, &mut errors);
-        self.await_trail(rt);
+        if serves {
+            self.await_trail(rt);
+        }
     }
 
     fn recorder(&self, alloc: Global, loops: usize) -> Option<Recorder> {

@@ -3,19 +3,18 @@
 ghost use Rattle.std.specs.Prelude.{◌≡◌, IfSome, None};
 ghost use Rattle.server.specs.Events.{Shows, came_by, polled, token_of};
 
-use crate::acceptor::NONE;
-use crate::inlet::Inlet;
-use crate::loop_handle::{EndCause, Shared};
+use crate::acceptor::{Acceptor, NONE};
+use crate::loop_handle::{EndCause, HandCalls, HandedStream, LoopHandle, LoopStart, Shared};
 use attach_proto::Why;
-use mio::Token;
 use mio::event::Event;
-use server_loop::{Name, News, ServerEnd};
-use server_system::{KnownUsers, PeerSocket, SharedLooks, Wired};
-use server_turns::{Around, Backlog, Came, Learned};
+use mio::{Events, Poll, Registry, Token};
+use server_loop::{Gate, Loop, Name, News, ServerEnd, SessionSeat};
+use server_system::{KnownUsers, Looks, PeerSocket, SharedLooks, Wired};
+use server_turns::{Around, Backlog, Came, Learned, Turner};
 use std::fmt::{self, Display, Formatter};
 use std::io::{self, ErrorKind};
-use std::sync::Wait;
 use std::sync::atomic::{AtomicU64, Ordering};
+use std::sync::{OnceLock, Wait};
 use std::time::{Clock, Duration};
 
 /// The token of a loop's waker.
@@ -27,6 +26,23 @@ const FIRST: usize = 2;
 
 // Peers that read how the server ends are looked at after this many milliseconds, or when something comes.
 const PAUSE: u64 = 20;
+
+// What comes to a loop: events of its connections, news, and connections to be taken in.
+#[derive(Drop)]
+struct Inlet<'a, L = Looks, E = OnceLock<ServerEnd>> {
+    shared: &'a Shared<L, E>,
+    me: usize,
+    loop_handle: &'a LoopHandle,
+    poll: Poll,
+    events: Events,
+    // How many of the events were looked at.
+    seen: usize,
+    registry: &'a Registry,
+    acceptor: Option<Acceptor>,
+    // The connection that was handed to the loop last.
+    handed: Option<HandedStream>,
+    calls: HandCalls,
+}
 
 // What came by an event.
 fn came_by(event: &Event) -> Came
@@ -153,7 +169,7 @@ impl<'a, L: SharedLooks, E: EndCause> Around<Wired<PeerSocket<'a>>> for Inlet<'a
     }
 
     fn wake_others(&mut self) -> io::Result<()> {
-        self.shared.wake_others(self.me.get())
+        self.shared.wake_others(self.me)
     }
 
     // Strangers are counted, and have at most one line a second of each kind.
@@ -241,4 +257,40 @@ impl<L, E> Shared<L, E> {
             self.log.put(rt, &NewsLine(news, number));
         }
     }
+}
+
+/// Runs one loop until the server ends, and returns its seat.
+pub fn run_loop<J: SessionSeat + Drop, G: Gate + Copy + Drop, R: Clock + Wait, E: EndCause>(
+    rt: &R,
+    shared: &Shared<Looks, E>,
+    mut gate: G,
+    seat: J,
+    start: LoopStart,
+) -> io::Result<J> {
+    let LoopStart {
+        me,
+        poll,
+        registry,
+        acceptor,
+        calls,
+    } = start;
+    let Some(loop_handle) = shared.loop_handles.get(me) else {
+        return Ok(seat);
+    };
+    let inlet = Inlet {
+        shared,
+        me,
+        loop_handle,
+        poll,
+        events: Events::with_capacity(shared.alloc, 64)?,
+        seen: 0,
+        registry: &registry,
+        acceptor,
+        handed: None,
+        calls,
+    };
+    gate.stand_at(me);
+    let loops = shared.loop_handles.len();
+    let own: Loop<Wired<PeerSocket>, G, J> = Loop::new(shared.alloc, seat, gate, loops)?;
+    Turner::new(own, inlet, loops).serve(rt)
 }
