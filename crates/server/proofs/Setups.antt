@@ -1,5 +1,7 @@
 -- Why a setup that was read isn't taken.
-use Rattle.std.proofs.Common.{◌≡◌, ◌⊎◌, inl, inr, ℕ, List, Some, Ok, Result}
+use Rattle.std.proofs.Common.{◌≡◌, ◌⊎◌, inl, inr, ℕ, List, Some, Ok, Err, Result, subst}
+use Rattle.std.specs.Prelude.{IfErr}
+use Rattle.std.specs.Result.{result_err}
 use Rattle.std.specs.String.{string_bytes}
 use Rattle.std.specs.declared.alloc.Global.{Global}
 use Rattle.std.specs.declared.io.Error.{Error}
@@ -13,6 +15,13 @@ use Rattle.server_outcome.specs.declared.fault.ServeFault.TheVariants as fault
 use Rattle.server_outcome.specs.declared.fault.SetupCause.TheVariants as cause
 use Rattle.server_session.specs.declared.loop_body.LoopsFault.TheVariants as loops
 use Rattle.server.specs.Starting.{IsStartFault, IsUnread}
+
+-- what holds of an error, if there is one, holds of the error that there is
+pub error_is : {A E : Type 0} (P : E → Type 0) (r : Result A E) (e : E) → IfErr r P → result_err r ≡ Some e → P e
+error_is P (Ok x) e p q = absurd (cc (q))
+error_is P (Err d) e p q =
+    let same : d ≡ e = cc (q) in
+    subst P same p
 
 module _ (reads : List ℕ → Result (Vec ℕ Global) Error → Type 0) (path : List ℕ) (setup : Vec ℕ Global)
     (read : reads path (Ok setup)) where
