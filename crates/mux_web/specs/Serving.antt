@@ -9,8 +9,8 @@ use Rattle.std.specs.declared.net.socket_addr.SocketAddr.{SocketAddr}
 use Rattle.mio.specs.declared.net.uds.listener.UnixListener.{UnixListener}
 use Rattle.server_system.specs.Paths.{ListensAt as SocketListensAt}
 use Rattle.server_system.specs.declared.host.Host.{Ghosts as System}
-use Rattle.web_options.specs.Asking.{CantServe, Serves, select_keys, text_of}
-use Rattle.web_options.specs.Listening.{CantListen, HasNoOrigins, ListensAt, Origins}
+use Rattle.web_options.specs.Asking.{Serves, select_keys, text_of}
+use Rattle.web_options.specs.Listening.{ListensAt, Origins}
 use Rattle.web_options.specs.declared.fault.WebFault.{WebFault}
 use Rattle.web_options.specs.declared.fault.WebFault.TheVariants as why
 use Rattle.web_options.specs.declared.listening.Listen.{Listen}
@@ -24,14 +24,10 @@ use Rattle.web_turn.specs.declared.bridge.Bridge.{Bridge}
 
 -- a site for pages of the origins that are named, or that go with where browsers come in
 abbrev pub IsAsked : (reads : List ℕ → Result (List ℕ) Error → Type 0) (lies : Result (List ℕ) Error → Type 0)
-    → WebOptions → List (List ℕ) → Listen → Site → Type 0
-IsAsked reads lies o named listen site =
-    (origins : List (List ℕ)) × Origins named listen origins × Serves reads lies o origins site
-
--- no origins go with where browsers come in, or the site can't be read
-abbrev pub HasNoSite : (reads : List ℕ → Result (List ℕ) Error → Type 0) (lies : Result (List ℕ) Error → Type 0)
-    → WebOptions → List (List ℕ) → Listen → WebFault → Type 0
-HasNoSite reads lies o named listen fault = HasNoOrigins named listen fault ⊎ CantServe reads lies o fault
+    → WebOptions → List (List ℕ) → Site → Type 0
+IsAsked reads lies o named site =
+    (listen : Listen) × (origins : List (List ℕ)) × ListensAt o.listen.now listen × Origins named listen origins
+    × Serves reads lies o origins site
 
 -- it serves this site, and has the socket, the folder of links, the bound and the window that the arguments name
 pub record DoesAsAsked {S : Type 0} (o : WebOptions) (served : Site) (b : Bridge S) : Type 0 where
@@ -100,24 +96,3 @@ CantBind _ = ⊥
 abbrev pub CantOpenFor : (SocketAddr → Result WebListener Error → Type 0) → (named : List ℕ) → Listen → WebFault → Type 0
 CantOpenFor opens named (Address address) fault = CantOpen opens address named fault
 CantOpenFor opens named (Path path) fault = CantBind fault
-
--- ---- what becomes of all that is asked
-
--- where browsers come in can't be said; or there is no site for that, or no listener
-abbrev pub CantBegin : (opens : SocketAddr → Result WebListener Error → Type 0)
-    (reads : List ℕ → Result (List ℕ) Error → Type 0) (lies : Result (List ℕ) Error → Type 0)
-    → WebOptions → List (List ℕ) → WebFault → Type 0
-CantBegin opens reads lies o named fault =
-    CantListen o.listen.now fault
-    ⊎ ((listen : Listen) × ListensAt o.listen.now listen
-    × (HasNoSite reads lies o named listen fault ⊎ CantOpenFor opens o.listen.now listen fault))
-
-module _ {R A B C : Type 0} (system : System R A B C) (opens : SocketAddr → Result WebListener Error → Type 0)
-    (reads : List ℕ → Result (List ℕ) Error → Type 0) (lies : Result (List ℕ) Error → Type 0) (host : R) where
-  -- The site that is asked for was served to browsers that came in where that is asked for; or it couldn't begin.
-  abbrev pub EndsAsAsked : (WebOptions → Site → List WebListener → WebFault → Type 0) → WebOptions → List (List ℕ)
-      → WebFault → Type 0
-  EndsAsAsked serves o named fault =
-      CantBegin opens reads lies o named fault
-      ⊎ ((listen : Listen) × ListensAt o.listen.now listen × (site : Site) × IsAsked reads lies o named listen site
-      × (listeners : List WebListener) × IsOpenFor system opens host listen listeners × serves o site listeners fault)

@@ -2,8 +2,8 @@
 
 ghost use Rattle.std.specs.Prelude.{◌≡◌, ◌↔◌, Ok, IfErr, IfOk, IsErr, IsTrue};
 ghost use Rattle.web_options.specs.Listening.{texts};
-ghost use Rattle.mux_web.specs.Serving.{CantBind, CantOpen, CantOpenFor, DoesAsAsked, EndsAsAsked, HasNoSite, IsAsked};
-ghost use Rattle.mux_web.specs.Serving.{IsBeside, IsLacking, IsNotMade, IsOpenAt, IsOpenFor, IsShared, IsSocketAt};
+ghost use Rattle.mux_web.specs.Serving.{CantBind, CantOpen, CantOpenFor, DoesAsAsked, IsAsked, IsBeside, IsLacking};
+ghost use Rattle.mux_web.specs.Serving.{IsNotMade, IsOpenAt, IsOpenFor, IsShared, IsSocketAt};
 
 use mio::{Events, Poll};
 use program_words::{SystemError, of_web, tell};
@@ -49,53 +49,24 @@ fn bridge_of<'a, R: Host + Send + Sync + Threads + Wait + Eprint + 'static>(
     }
 }
 
-/// What serves browsers. Its relation is shown by a call alone.
-pub trait ServesBrowsers {
-    ghost use Rattle.std.specs.Prelude.{IfErr, IsErr, List};
-    ghost use Rattle.web_options.specs.declared.fault.WebFault.{WebFault as Fault};
-    ghost use Rattle.web_options.specs.declared.options.WebOptions.{WebOptions as Options};
-    ghost use Rattle.web_requests.specs.declared.site.Site.{Site as Page};
-    ghost use Rattle.web_streams.specs.declared.connections.WebListener.{WebListener as Door};
-
-    // The options, the site, the listeners, and why it ended.
-    ghost serves: { Self → Options → Page → List Door → Fault → Type 0 };
-
-    /// Serves browsers that come in through these listeners.
-    fn serve_at<R: Host + Send + Sync + Threads + Wait + Eprint + 'static, O: Write>(
-        &self,
-        rt: &R,
-        options: WebOptions<'_>,
-        site: Site,
-        listeners: Vec<WebListener>,
-        output: &mut O,
-    ) -> Result<(), WebFault>
-        ensures ends { IsErr result }
-        ensures serves { IfErr result (serves self.now options.entry site listeners.items) };
-}
-
-/// The loop of a bridge.
-struct BridgeLoop;
-
-impl ServesBrowsers for BridgeLoop {
-    ghost serves = { λ by options site listeners fault. Unit {0} };
-
-    fn serve_at<R: Host + Send + Sync + Threads + Wait + Eprint + 'static, O: Write>(
-        &self,
-        rt: &R,
-        options: WebOptions<'_>,
-        site: Site,
-        mut listeners: Vec<WebListener>,
-        output: &mut O,
-    ) -> Result<(), WebFault> {
-        look_for_paths(rt, options)?;
-        let bridge = bridge_of(rt, options, site)?;
-        let poll = Poll::new(rt)?;
-        let events = Events::with_capacity(rt.alloc(), EVENTS)?;
-        writeln!(output, "mux-web: ready")?;
-        output.flush()?;
-        let listeners = listeners.as_mut_slice();
-        Err(WebFault::from(serve(rt, bridge, poll, events, listeners)))
-    }
+// Serves browsers that come in through these listeners.
+fn serve_at<R: Host + Send + Sync + Threads + Wait + Eprint + 'static, O: Write>(
+    rt: &R,
+    options: WebOptions<'_>,
+    site: Site,
+    mut listeners: Vec<WebListener>,
+    output: &mut O,
+) -> Result<(), WebFault>
+    ensures { IsErr result }
+{
+    look_for_paths(rt, options)?;
+    let bridge = bridge_of(rt, options, site)?;
+    let poll = Poll::new(rt)?;
+    let events = Events::with_capacity(rt.alloc(), EVENTS)?;
+    writeln!(output, "mux-web: ready")?;
+    output.flush()?;
+    let listeners = listeners.as_mut_slice();
+    Err(WebFault::from(serve(rt, bridge, poll, events, listeners)))
 }
 
 // Listens at an address of this machine.
@@ -181,13 +152,13 @@ fn socket_at<'a, R: Host>(
 fn open_at<'a, R: Host + OpensListeners>(
     rt: &R,
     options: WebOptions<'a>,
-    listen: Listen<'a>,
+    listen: &Listen<'a>,
 ) -> Result<(Option<SocketPath<'a>>, Vec<WebListener>), WebFault>
-    ensures ok { IfOk result (λ made. IsOpenFor R.Host (R.opens rt.now) rt.now listen.entry made.1.items) }
-    ensures fault { IfErr result (CantOpenFor (R.opens rt.now) options.entry.listen.now listen.entry) }
+    ensures ok { IfOk result (λ made. IsOpenFor R.Host (R.opens rt.now) rt.now listen.now made.1.items) }
+    ensures fault { IfErr result (CantOpenFor (R.opens rt.now) options.entry.listen.now listen.now) }
 {
     match listen {
-        Listen::Address(address) => match listeners_at(rt, options, address) {
+        Listen::Address(address) => match listeners_at(rt, options, *address) {
             Ok(listeners) => Ok((None, listeners)),
             Err(fault) => Err(fault),
         },
@@ -203,36 +174,32 @@ fn site_at<R: ReadsFiles + AllocGlobal>(
     rt: &R,
     options: WebOptions<'_>,
     origins: &[&str],
-    listen: Listen<'_>,
 ) -> Result<Site, WebFault>
-    ensures ok { IfOk result (IsAsked (R.reads rt.now) (R.lies rt.now) options.entry (texts origins.now) listen.entry) }
-    ensures fault { IfErr result (HasNoSite (R.reads rt.now) (R.lies rt.now) options.entry (texts origins.now) listen.entry) }
+    ensures { IfOk result (IsAsked (R.reads rt.now) (R.lies rt.now) options.entry (texts origins.now)) }
 {
-    match origins_of(rt.alloc(), origins, listen) {
-        Ok(origins) => site_of(rt, options, origins),
+    match options.listens(rt.alloc()) {
+        Ok(listen) => match origins_of(rt.alloc(), origins, listen) {
+            Ok(origins) => site_of(rt, options, origins),
+            Err(fault) => Err(fault),
+        },
         Err(fault) => Err(fault),
     }
 }
 
 // Serves what the arguments ask for. A socket is removed if the system refuses to wait. A signal ends the program at once
 // and leaves it: the next start replaces it.
-fn serve_asked<R, B: ServesBrowsers, O: Write>(
+fn serve_asked<R: Host + Send + Sync + Threads + Wait + Eprint + 'static, O: Write>(
     rt: &R,
-    bridges: &B,
     options: WebOptions<'_>,
     origins: &[&str],
     output: &mut O,
 ) -> Result<(), WebFault>
-where
-    R: Host + OpensListeners + ReadsFiles + Send + Sync + Threads + Wait + Eprint + 'static,
-    ensures ends { IsErr result }
-    ensures asked { IfErr result (EndsAsAsked R.Host (R.opens rt.now) (R.reads rt.now) (R.lies rt.now) rt.now
-        (B.serves bridges.now) options.entry (texts origins.now)) }
+    ensures { IsErr result }
 {
+    let site = site_at(rt, options, origins)?;
     let listen = options.listens(rt.alloc())?;
-    let site = site_at(rt, options, origins, listen)?;
-    let (place, listeners) = open_at(rt, options, listen)?;
-    let served = bridges.serve_at(rt, options, site, listeners, output);
+    let (place, listeners) = open_at(rt, options, &listen)?;
+    let served = serve_at(rt, options, site, listeners, output);
     if let Some(place) = place {
         place.end(rt, rt);
     }
@@ -256,7 +223,7 @@ where
         }
     };
     let origins = matches.get_strs("origin").unwrap_or(&[]);
-    match serve_asked(rt, &BridgeLoop, WebOptions::of(&matches), origins, output) {
+    match serve_asked(rt, WebOptions::of(&matches), origins, output) {
         Ok(()) => 0,
         Err(fault) => {
             let _ = writeln!(errors, "mux-web: {fault}");
