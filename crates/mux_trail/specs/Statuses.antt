@@ -1,5 +1,5 @@
 -- The exit status, and what it says of the file whose bytes were read.
-use Rattle.std.specs.Prelude.{ℕ, ◌≡◌, ◌⊎◌, Bool, true, List, Option, None, IfSome, unwrap_or}
+use Rattle.std.specs.Prelude.{ℕ, ◌≡◌, ◌⊎◌, Bool, true, false, List, Option, Some, None, IfSome, unwrap_or}
 use Rattle.acl.specs.declared.leaders.Edition.{Edition}
 use Rattle.acl.specs.declared.user_id.UserId.{UserId}
 use Rattle.clap.specs.declared.error.kind.ErrorKind.{ErrorKind}
@@ -11,6 +11,18 @@ use Rattle.trail_files.specs.Showing.{ShowsFrom}
 use Rattle.trail_files.specs.declared.fault.TrailFault.{TrailFault}
 use Rattle.trail_files.specs.declared.fault.TrailFault.TheVariants as fault
 use Rattle.trail_files.specs.declared.heading.Heading.{Heading}
+use Rattle.clap.specs.declared.parser.matches.Found.{Found}
+use Rattle.trail_files.specs.Beginning.{LastOf}
+use Rattle.trail_rights.specs.declared.sight.Sight.{Sight}
+use Rattle.trail_rights.specs.declared.watch.Watch.{Watch}
+use Rattle.mux_trail.specs.Answers.{IsAsked}
+use Rattle.mux_trail.specs.Asking.{AreAsked}
+use Rattle.mux_trail.specs.Diary.{IsLogged}
+use Rattle.mux_trail.specs.declared.streams.Outlet.{Outlet}
+use Rattle.mux_trail.specs.declared.words.LastAsked.{LastAsked}
+use Rattle.mux_trail.specs.declared.words.LastAsked.TheVariants as last
+use Rattle.mux_trail.specs.declared.words.Limits.{Limits}
+use Rattle.mux_trail.specs.declared.words.TrailArgs.{TrailArgs}
 use Rattle.mux_trail.specs.declared.words.Verb.{Verb}
 use Rattle.mux_trail.specs.declared.words.Verb.TheVariants as verb
 
@@ -54,8 +66,49 @@ IsChecked status owner old = Begins owner old (IsJudged status)
 abbrev pub IsShown : Option ℕ → Option (List ℕ) → Type 0
 IsShown stray old = Begins None old (λ edition owner rest. IfSome rest (ShowsFrom 2 stray))
 
--- what the status says of the file whose bytes these are, by what the program did with it
-abbrev pub TellsBy : Verb → ℕ → Option UserId → Option (List ℕ) → Type 0
-TellsBy verb.Check status owner old = IsChecked status owner old
-TellsBy verb.Show status owner old = (status ≡ 0) × IsShown None old
-TellsBy other status owner old = Unit {0}
+-- the status, and what was written, by what is asked of a file that has these bytes
+module _ {W : Type 0} (contents : W → Option (List ℕ)) (rights : W → Watch → Sight → W → Type 0) where
+  abbrev pub TellsBy : Verb → Limits → ℕ → Option (List ℕ) → W → W → Type 0
+  TellsBy verb.Check limits status bytes old new = IsChecked status limits.owner bytes
+  TellsBy (verb.Show is_json) limits status bytes old new = (status ≡ 0) × IsShown None bytes
+  TellsBy (verb.Log asked) limits status bytes old new = Begins limits.owner bytes (IsLogged limits status)
+  TellsBy (verb.Ask asked) limits status bytes old new =
+      Begins limits.owner bytes (IsAsked contents rights asked limits status old new)
+
+-- a file that is followed has no end
+abbrev pub bytes_of : Bool → Option (List ℕ) → Option (List ℕ)
+bytes_of true bytes = None
+bytes_of false bytes = bytes
+
+module _ {F : Type 0} (opens : F → Type 0) (remaining : F → Option (List ℕ)) where
+  -- the place of the last entry that counts; of a time by a file that was opened
+  abbrev pub IsPlaceOf : LastAsked → Option ℕ → Type 0
+  IsPlaceOf last.All None = Unit {0}
+  IsPlaceOf (last.Place n) (Some place) = place ≡ n
+  IsPlaceOf (last.Time ms) (Some place) =
+      (file : F) × opens file × IfSome (remaining file) (LastOf ms (Some place))
+  IsPlaceOf _ _ = ⊥
+
+  -- what is asked of a file that was opened
+  pub record IsRun {W : Type 0} (contents : W → Option (List ℕ)) (rights : W → Watch → Sight → W → Type 0)
+      (a : TrailArgs) (status : ℕ) (old new : W) : Type 0 where
+    pub place : Option ℕ
+    pub place_is : IsPlaceOf a.last place
+    pub file : F
+    pub opened : opens file
+    pub tells : TellsBy contents rights a.verb (record { owner = a.owner; last = place; follows = a.follows }) status
+        (bytes_of a.follows (remaining file)) old new
+
+-- no subcommand, an invalid argument, or the help
+abbrev pub IsRefused : ℕ → Type 0
+IsRefused status = (status ≡ 2) ⊎ ((kind : ErrorKind) × IsHelped kind status)
+
+-- The arguments are refused; or a fault has its status; or what they ask was answered.
+abbrev pub ExitsBy : {F W : Type 0} → (List (List ℕ) → List ℕ → Found → Type 0) → (List ℕ → F → Type 0)
+    → (F → Option (List ℕ)) → (W → Option (List ℕ)) → List (List ℕ) → ℕ → Type 0
+ExitsBy {F} {W} means opens remaining contents words status =
+    IsRefused status
+    ⊎ ((a : TrailArgs) × AreAsked means words a
+    × (((fault : TrailFault) × (status ≡ fault_status fault))
+    ⊎ ((old new : Outlet W) × IsRun (opens a.path.now) remaining (λ (o : Outlet W). contents o.output.now)
+    (λ o watch sight more. Unit {0}) a status old new)))

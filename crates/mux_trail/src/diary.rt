@@ -1,47 +1,54 @@
-//! The log of a trail, for people: a line an entry, one line for bytes that a user types one after
-//! another, and a line for each new day.
+//! The log of a trail, for people: a line an entry, one for bytes typed in a row, and one for each new day.
 
-use crate::words::{TrailArgs, WindowWord};
-use acl::{Edition, UserId};
+ghost use Rattle.std.specs.Prelude.{◌≡◌, IfOk};
+ghost use Rattle.mux_trail.specs.Words.{HasLogged};
+ghost use Rattle.mux_trail.specs.Diary.{IsLogStatus, IsLogged, Keeps, choice_of, wanted_of};
+ghost use Rattle.mux_trail.specs.Statuses.{Begins};
+
+use crate::reading::{TakesEntries, take_file};
+use crate::words::{Limits, LogAsked, WindowWord};
+use acl::UserId;
 use line_fields::push_day;
 use session::Bytes;
 use std::alloc::{AllocError, Global};
 use std::io::{self, BufRead, Write};
-use trail_files::{Finish, LEGAL, TrailFault, finish_at, finish_of, heading_of, tell_finish};
-use trail_lines::{Halt, Wrong, next_entry};
+use trail_files::{Finish, LEGAL, TrailFault, heading_of, tell_finish};
+use trail_lines::Wrong;
 use trail_log::{Choice, LogWriter, Wanted, push_end};
 
 /// A day, in milliseconds.
 const DAY: u64 = 86_400_000;
 
-/// A log on its way to people.
+/// A log on its way to people, with the day of the last line. If it follows its file, each line is written at once.
 #[derive(Drop)]
-struct Diary {
+struct Diary<'a, W> {
     alloc: Global,
     log: LogWriter,
-    /// Which entries are asked for.
     choice: Choice,
-    /// Whether more is waited for at the file's end: then each line is written at once.
     follows: bool,
-    /// The day of the last line that was written.
     day: Option<u64>,
+    output: &'a mut W,
 }
 
-/// Writes the day of a time.
-fn write_day<W: Write>(alloc: Global, ms: u64, output: &mut W) -> io::Result<()> {
-    let mut text = Vec::new(alloc);
-    push_day(ms, &mut text)?;
-    output.write_all(text.as_slice())?;
-    output.write_all(b" (UTC)\n")
+/// The window that is asked for, if one is.
+fn wanted_of(alloc: Global, window: Option<WindowWord<'_>>) -> Result<Option<Wanted>, AllocError>
+    ensures { IfOk result (λ wanted. wanted ≡ wanted_of window.entry) }
+{
+    match window {
+        Some(WindowWord::Serial(serial)) => Ok(Some(Wanted::Serial(serial))),
+        Some(WindowWord::Title(title)) => {
+            let title = Bytes::of(alloc, title.as_bytes())?;
+            Ok(Some(Wanted::Title(title)))
+        }
+        None => Ok(None),
+    }
 }
 
-/// The entries that the words ask for.
-fn choice_of(alloc: Global, asked: TrailArgs<'_>) -> Result<Choice, AllocError> {
-    let window = match asked.window {
-        Some(WindowWord::Serial(serial)) => Some(Wanted::Serial(serial)),
-        Some(WindowWord::Title(title)) => Some(Wanted::Title(Bytes::of(alloc, title.as_bytes())?)),
-        None => None,
-    };
+/// The entries that the arguments ask for.
+fn choice_of(alloc: Global, asked: LogAsked<'_>) -> Result<Choice, AllocError>
+    ensures { IfOk result (λ choice. choice ≡ choice_of asked.entry) }
+{
+    let window = wanted_of(alloc, asked.window)?;
     Ok(Choice {
         since: asked.since,
         until: asked.until,
@@ -50,149 +57,102 @@ fn choice_of(alloc: Global, asked: TrailArgs<'_>) -> Result<Choice, AllocError> 
     })
 }
 
-impl Diary {
-    /// Writes a line of this time at once, and before it the day if that is another day than the last
-    /// line's. Writes nothing if there is no line.
-    fn write<W: Write>(&mut self, ms: Option<u64>, text: &[u8], output: &mut W) -> io::Result<()> {
+impl<W: Write> Diary<'_, W> {
+    /// Writes a line of this time, if there is one, and before it the day if that is another one than the last line's.
+    fn write(&mut self, ms: Option<u64>, text: &[u8]) -> io::Result<()>
+        ensures { self.new.log ≡ self.old.log }
+    {
         let Some(ms) = ms else {
             return Ok(());
         };
         let day = Some(ms / DAY);
         if self.day != day {
-            write_day(self.alloc, ms, output)?;
+            let mut line = Vec::new(self.alloc);
+            push_day(ms, &mut line)?;
+            line.extend_from_slice(b" (UTC)\n")?;
+            self.output.write_all(line.as_slice())?;
             self.day = day;
         }
-        output.write_all(text)?;
-        output.flush()
+        self.output.write_all(text)?;
+        self.output.flush()
     }
 
-    /// Writes the line that the log holds, if it holds one.
-    fn write_held<W: Write>(&mut self, text: &mut Vec<u8>, output: &mut W) -> io::Result<()> {
-        text.clear();
-        let ms = self.log.end(text)?;
-        self.write(ms, text.as_slice(), output)
+    /// Writes the line that the log holds, if it holds one, unless something may yet be joined to it.
+    fn write_held(&mut self, joins: bool) -> io::Result<()>
+        ensures { Keeps self.old.log self.new.log }
+    {
+        if joins {
+            return Ok(());
+        }
+        let mut text = Vec::new(self.alloc);
+        let ms = self.log.end(&mut text)?;
+        self.write(ms, text.as_slice())
     }
 
-    /// Takes the line of the next entry, and writes the lines to which nothing is joined. The answer is
-    /// what is wrong with the entry, if something is.
-    fn take<W: Write>(
-        &mut self,
-        line: &[u8],
-        text: &mut Vec<u8>,
-        output: &mut W,
-    ) -> io::Result<Option<Wrong>> {
-        text.clear();
-        match self.log.take(line, &self.choice, text) {
+    /// Writes how a file ends, and gives the status to exit with. Writes nothing if it is still being written.
+    fn write_finish(&mut self, finish: Finish, owner: UserId) -> io::Result<u8>
+        ensures { IfOk result (IsLogStatus finish) }
+    {
+        match finish {
+            Finish::Ended { ended } => {
+                let mut text = Vec::new(self.alloc);
+                push_end(&ended, &mut text)?;
+                self.write(Some(ended.ms), text.as_slice())?;
+                Ok(LEGAL)
+            }
+            Finish::Open | Finish::Torn => Ok(LEGAL),
+            bad => tell_finish(self.alloc, bad, self.log.count(), owner, self.output),
+        }
+    }
+}
+
+impl<W: Write> TakesEntries for Diary<'_, W> {
+    ghost has_taken = { λ diary edition owner said. HasLogged diary.log edition owner said };
+
+    fn count(&self) -> u64 {
+        self.log.count()
+    }
+
+    fn take(&mut self, line: &[u8]) -> io::Result<Option<Wrong>> {
+        let mut text = Vec::new(self.alloc);
+        match self.log.take(line, &self.choice, &mut text) {
             Ok(ms) => {
-                self.write(ms, text.as_slice(), output)?;
-                if self.follows {
-                    self.write_held(text, output)?;
-                }
+                self.write(ms, text.as_slice())?;
+                self.write_held(!self.follows)?;
                 Ok(None)
             }
             Err(wrong) => Ok(Some(wrong)),
         }
     }
-
-    /// Writes the lines of entries that are asked for, up to the line that halts the reading, which is
-    /// left in `line`. A line may still be held.
-    fn write_entries<R: BufRead, W: Write>(
-        &mut self,
-        reader: &mut R,
-        line: &mut Vec<u8>,
-        text: &mut Vec<u8>,
-        output: &mut W,
-    ) -> io::Result<Halt> {
-        for number in 2..u64::MAX {
-            if let Some(halt) = next_entry(reader, line, number)? {
-                return Ok(halt);
-            }
-            if let Some(wrong) = self.take(line.as_slice(), text, output)? {
-                return Ok(Halt::Stopped {
-                    line: number,
-                    wrong,
-                });
-            }
-        }
-        Ok(Halt::Nothing)
-    }
-
-    /// Writes how a file ends: when and why the session ended, or what is wrong. Writes nothing if the
-    /// file is still being written. The answer is the status to exit with.
-    fn write_finish<W: Write>(
-        &mut self,
-        finish: Finish,
-        owner: UserId,
-        output: &mut W,
-    ) -> io::Result<u8> {
-        match finish {
-            Finish::Ended { ended } => {
-                let mut text = Vec::new(self.alloc);
-                push_end(&ended, &mut text)?;
-                self.write(Some(ended.ms), text.as_slice(), output)?;
-                Ok(LEGAL)
-            }
-            Finish::Open | Finish::Torn => Ok(LEGAL),
-            bad => tell_finish(self.alloc, bad, self.log.count(), owner, output),
-        }
-    }
-}
-
-/// Writes the log of a trail of this owner, after its first line.
-fn write_diary<R: BufRead, W: Write>(
-    mut diary: Diary,
-    owner: UserId,
-    reader: &mut R,
-    output: &mut W,
-) -> io::Result<u8> {
-    let alloc = diary.alloc;
-    let mut line = Vec::new(alloc);
-    let mut text = Vec::new(alloc);
-    let halt = diary.write_entries(reader, &mut line, &mut text, output);
-    diary.write_held(&mut text, output)?;
-    let halt = halt?;
-    let count = diary.log.count();
-    let finish = match halt {
-        // Nothing is waited for after the last line of a file that is followed.
-        Halt::Last { line: number } if diary.follows => finish_at(
-            alloc,
-            count,
-            number,
-            line.as_slice(),
-        )?,
-        halt => finish_of(alloc, count, halt, reader, &mut line)?,
-    };
-    diary.write_finish(finish, owner, output)
-}
-
-/// A log that has read nothing.
-fn diary_of(
-    alloc: Global,
-    asked: TrailArgs<'_>,
-    edition: Edition,
-    owner: UserId,
-) -> io::Result<Diary> {
-    Ok(Diary {
-        alloc,
-        log: LogWriter::new(alloc, edition, owner)?,
-        choice: choice_of(alloc, asked)?,
-        follows: asked.follows,
-        day: None,
-    })
 }
 
 /// Writes the log of what a reader has.
 pub fn tell_log<R: BufRead, W: Write>(
     alloc: Global,
-    asked: TrailArgs<'_>,
+    asked: LogAsked<'_>,
+    limits: Limits,
     reader: &mut R,
     output: &mut W,
-) -> Result<u8, TrailFault> {
+) -> Result<u8, TrailFault>
+    ensures { IfOk result (λ status. Begins limits.owner (R.remaining reader.old) (IsLogged limits status)) }
+{
     let heading = heading_of(alloc, reader)?;
-    let owner = asked.owner.unwrap_or(heading.owner);
-    let diary = diary_of(alloc, asked, heading.edition, owner)?;
-    match write_diary(diary, owner, reader, output) {
-        Ok(status) => Ok(status),
-        Err(error) => Err(TrailFault::Io(error)),
-    }
+    let owner = limits.owner.unwrap_or(heading.owner);
+    let log = match LogWriter::new(alloc, heading.edition, owner) {
+        Ok(log) => log,
+        Err(error) => return Err(TrailFault::Io(io::Error::from(error))),
+    };
+    let mut diary = Diary {
+        alloc,
+        log,
+        choice: choice_of(alloc, asked).map_err(io::Error::from)?,
+        follows: limits.follows,
+        day: None,
+        output,
+    };
+    let finish = take_file(alloc, &mut diary, limits, reader);
+    diary.write_held(false)?;
+    let finish = finish?;
+    let status = diary.write_finish(finish, owner)?;
+    Ok(status)
 }

@@ -1,22 +1,20 @@
 //! When a user got a bit, and lost it.
 
-use crate::words::TitledBit;
+ghost use Rattle.std.specs.Prelude.{◌≡◌, ◌++◌, OnOk, [], false};
+ghost use Rattle.acl.specs.History.{History as Acts};
+ghost use Rattle.mux_trail.specs.Words.{Edition, StandsAfter, UserId, flat_map, said};
+ghost use Rattle.mux_trail.specs.History.{by_text, change_text, changed, has_asked, noted, question_in, window_titled};
+ghost use Rattle.mux_trail.specs.History.{yes_text};
+
+use crate::words::RightsAsked;
 use acl::{Object, UserId};
+use hub::Rights;
+use line_fields::push_when;
+use session::push_decimal;
 use std::alloc::{AllocError, Global};
-use std::io::{self, Write};
 use trail_confined::Question;
 use trail_lines::EntryLine;
-use trail_log::Names;
-use trail_rights::{Watch, may, text_of, write_when};
-
-/// The bit that is asked about.
-#[derive(Clone, Copy)]
-pub enum BitAsked<'a> {
-    Nothing,
-    Of(Question),
-    /// On the open window that was given a title last.
-    On(TitledBit<'a>),
-}
+use trail_log::Titled;
 
 /// A change of a bit by an entry.
 #[derive(Clone, Copy)]
@@ -27,84 +25,126 @@ struct HistoryChange {
     by: Option<UserId>,
 }
 
-/// The changes of a bit, the first one first.
+/// Whether a user has a bit now, and its changes, the first one first.
 #[derive(Drop)]
 pub struct History {
+    has: bool,
     changes: Vec<HistoryChange>,
 }
 
 /// The open window that was given a title last, if one has it.
-pub fn window_titled(names: &Names, title: &str) -> Option<u32> {
+fn window_titled(titles: &[Titled], title: &[u8]) -> Option<u32>
+    ensures { result ≡ window_titled title.now titles.now }
+{
     let mut window = None;
-    for titled in names.titles() {
-        if titled.title() == title.as_bytes() {
+    for titled in titles {
+        if titled.title() == title {
             window = Some(titled.window());
         }
     }
     window
 }
 
-/// Whether a user has a bit on the open window that was given a title last.
-fn has_titled(watch: &Watch, names: &Names, asked: TitledBit<'_>) -> bool {
-    let TitledBit { user, bit, title } = asked;
-    match window_titled(names, title) {
-        Some(window) => may(watch.replay(), user, bit, Object::Window(window)),
+/// The question about one bit, if one is asked about, when windows have these titles.
+pub fn question_in(asked: RightsAsked<'_>, titles: &[Titled]) -> Option<Question>
+    ensures { result ≡ question_in asked.entry titles.now }
+{
+    match asked {
+        RightsAsked::Why(question) => Some(question),
+        RightsAsked::WhyTitled { user, bit, title } => Some(Question {
+            user,
+            bit,
+            object: Object::Window(window_titled(titles, title.as_bytes())?),
+        }),
+        RightsAsked::Who | RightsAsked::Confined(_) | RightsAsked::Setup => None,
+    }
+}
+
+/// Whether the user has the bit that is asked about, when windows have these titles.
+pub fn has_asked(asked: RightsAsked<'_>, rights: &Rights, titles: &[Titled]) -> bool
+    ensures { (edition : Edition) (owner : UserId) (h : Acts) → StandsAfter rights.now edition owner h
+        → result ≡ has_asked asked.entry edition owner h titles.now }
+{
+    match question_in(asked, titles) {
+        Some(Question { user, bit, object }) => {
+            rights.is_there(object) && rights.may(user, bit, object)
+        }
         None => false,
     }
 }
 
+/// Appends whether the user has the bit.
+fn push_yes(has: bool, out: &mut Vec<u8>) -> Result<(), AllocError>
+    ensures { OnOk result (out.new.items ≡ out.old.items ++ yes_text has) }
+{
+    if has {
+        out.extend_from_slice(b"yes")
+    } else {
+        out.extend_from_slice(b"no")
+    }
+}
+
+/// Appends who gave an event, if a user did, and ends the line.
+fn push_by(by: Option<UserId>, out: &mut Vec<u8>) -> Result<(), AllocError>
+    ensures { OnOk result (out.new.items ≡ out.old.items ++ by_text by) }
+{
+    match by {
+        Some(by) => {
+            out.extend_from_slice(b" by ")?;
+            out.extend_from_slice(by.as_bytes())?;
+            out.extend_from_slice(b"\n")
+        }
+        None => out.extend_from_slice(b"\n"),
+    }
+}
+
+/// Appends the line of a change.
+fn push_change(change: HistoryChange, out: &mut Vec<u8>) -> Result<(), AllocError>
+    ensures { OnOk result (out.new.items ≡ out.old.items ++ change_text change) }
+{
+    push_yes(change.has, out)?;
+    out.extend_from_slice(b" from entry ")?;
+    push_decimal(change.place, out)?;
+    push_when(b" at ", change.ms, out)?;
+    push_by(change.by, out)
+}
+
 impl History {
-    /// Without a change.
-    pub fn new(alloc: Global) -> History {
+    pub fn new(alloc: Global) -> History
+        ensures { noted result ≡ (false, []) }
+    {
         History {
+            has: false,
             changes: Vec::new(alloc),
         }
     }
 
-    /// Whether the user had the bit after the entries that were noted.
-    fn has(&self) -> bool {
-        match self.changes.as_slice() {
-            [.., last] => last.has,
-            [] => false,
-        }
-    }
-
-    /// Notes whether an entry changed the bit. It was taken by the watch and the names.
+    /// Notes whether the user has the bit after an entry, which this user gave.
     pub fn note(
         &mut self,
-        asked: BitAsked<'_>,
-        watch: &Watch,
-        names: &Names,
+        has: bool,
         by: Option<UserId>,
-        said: &EntryLine,
-    ) -> Result<(), AllocError> {
-        let has = match asked {
-            BitAsked::Nothing => return Ok(()),
-            BitAsked::Of(Question { user, bit, object }) => may(watch.replay(), user, bit, object),
-            BitAsked::On(titled) => has_titled(watch, names, titled),
-        };
-        if has == self.has() {
-            return Ok(());
+        next: &EntryLine,
+    ) -> Result<(), AllocError>
+        ensures { OnOk result (noted self.new ≡ changed has by (said next.now) (noted self.old)) }
+    {
+        if has != self.has {
+            self.changes.push(HistoryChange {
+                has,
+                place: next.place,
+                ms: next.ms,
+                by,
+            })?;
+            self.has = has;
         }
-        self.changes.push(HistoryChange {
-            has,
-            place: said.place,
-            ms: said.ms,
-            by,
-        })?;
         Ok(())
     }
 
-    /// Writes a line for each change.
-    pub fn write<W: Write>(&self, alloc: Global, output: &mut W) -> io::Result<()> {
+    pub fn push(&self, out: &mut Vec<u8>) -> Result<(), AllocError>
+        ensures { OnOk result (out.new.items ≡ out.old.items ++ flat_map change_text (noted self.now).1) }
+    {
         for change in self.changes.as_slice() {
-            let word = if change.has { "yes" } else { "no" };
-            write!(output, "{word} from entry {}", change.place)?;
-            let _has_time = write_when(alloc, b" at ", change.ms, output)?;
-            match change.by {
-                Some(by) => writeln!(output, " by {}", text_of(&by))?,
-                None => output.write_all(b"\n")?,
-            }
+            push_change(*change, out)?;
         }
         Ok(())
     }

@@ -4,6 +4,7 @@
 mod ask;
 mod diary;
 mod history;
+mod host;
 mod program;
 mod reading;
 mod streams;

@@ -1,29 +1,25 @@
 //! What the program does with its words.
 
-ghost use Rattle.std.specs.Prelude.{◌≡◌, IfOk, IfSome, None};
-ghost use Rattle.std.specs.Io.Buffered.{reader_remaining};
-ghost use Rattle.clap.specs.Words.{kind_of};
-ghost use Rattle.trail_files.specs.Showing.{ShowsFrom};
-ghost use Rattle.mux_trail.specs.Statuses.{IsChecked, IsHelped, IsShown, TellsBy, fault_status};
+ghost use Rattle.std.specs.Prelude.{◌≡◌, IfErr, IfOk, IfSome, None, Some, map};
+ghost use Rattle.mux_trail.specs.Words.{LastOf, kind_of, reader_remaining, string_bytes};
+ghost use Rattle.mux_trail.specs.Asking.{AreAsked};
+ghost use Rattle.mux_trail.specs.Statuses.{ExitsBy, IsChecked, IsHelped, IsPlaceOf, IsRefused, IsRun, IsShown, TellsBy};
+ghost use Rattle.mux_trail.specs.Statuses.{fault_status};
 
-use crate::ask::ask;
+use crate::ask::{TellsRights, ask};
 use crate::diary::tell_log;
+use crate::host::TrailHost;
 use crate::streams::{Following, Outlet};
-use crate::words::{GivenArgs, Mistake, TrailArgs, Verb, asked_of, given_in};
+use crate::words::{LastAsked, Limits, Mistake, TrailArgs, Verb, asked_of};
 use acl::UserId;
 use clap::Error;
 use client_words::put_visible;
 use std::alloc::Global;
-use std::fs;
 use std::io::{self, BufRead, BufReader, Read, Write};
-use std::rt::Files;
-use std::time::Clock;
 use trail_files::{
-    Heading, ILLEGAL, LEGAL, LineFormat, TROUBLE, TrailFault, finish_of, heading_of, judge,
-    place_at, show_lines, tell_finish, tell_heading,
+    ILLEGAL, LEGAL, LineFormat, TROUBLE, TrailFault, heading_of, judge, place_at, show_lines,
+    tell_heading,
 };
-use trail_rights::{AskedBits, Watch, watch_entries};
-use trail_setup::{SetupState, push_setup};
 
 /// Judges what a reader has.
 fn check<R: BufRead, W: Write>(
@@ -36,44 +32,29 @@ fn check<R: BufRead, W: Write>(
 {
     let heading = heading_of(alloc, reader)?;
     let owner = owner.unwrap_or(heading.owner);
-    match judge(alloc, heading.edition, owner, reader, output) {
-        Ok(status) => Ok(status),
-        Err(error) => Err(TrailFault::Io(error)),
-    }
-}
-
-/// Shows what a first line says, and the lines of a reader. The answer is the number of the first line
-/// that isn't a line of a trail, if there is one.
-fn show_all<R: BufRead, W: Write>(
-    alloc: Global,
-    form: LineFormat,
-    heading: Heading,
-    reader: &mut R,
-    output: &mut W,
-) -> io::Result<Option<u64>>
-    ensures { IfOk result (λ stray. IfSome (R.remaining reader.old) (ShowsFrom 2 stray)) }
-{
-    match form {
-        LineFormat::Plain => tell_heading(alloc, heading, output)?,
-        LineFormat::Json => {}
-    }
-    show_lines(alloc, form, reader, output)
+    let status = judge(alloc, heading.edition, owner, reader, output)?;
+    Ok(status)
 }
 
 /// Shows what a reader has.
 fn show<R: BufRead, W: Write>(
     alloc: Global,
-    form: LineFormat,
+    is_json: bool,
     reader: &mut R,
     output: &mut W,
 ) -> Result<u8, TrailFault>
     ensures { IfOk result (λ status. (status ≡ 0) × IsShown None (R.remaining reader.old)) }
 {
     let heading = heading_of(alloc, reader)?;
-    match show_all(alloc, form, heading, reader, output) {
-        Ok(None) => Ok(LEGAL),
-        Ok(Some(number)) => Err(TrailFault::NoLine(number)),
-        Err(error) => Err(TrailFault::Io(error)),
+    let form = if is_json {
+        LineFormat::Json
+    } else {
+        tell_heading(alloc, heading, output)?;
+        LineFormat::Plain
+    };
+    match show_lines(alloc, form, reader, output)? {
+        None => Ok(LEGAL),
+        Some(number) => Err(TrailFault::NoLine(number)),
     }
 }
 
@@ -84,55 +65,70 @@ fn buffered<F: Read + Drop>(alloc: Global, file: F) -> io::Result<BufReader<F>>
     BufReader::new(alloc, file)
 }
 
-/// Judges, shows or logs a file, or answers by it.
-fn read_file<F: Read + Drop, W: Write>(
+/// Does what is asked with a file.
+fn read_file<F: Read + Drop, W: TellsRights>(
     alloc: Global,
-    asked: TrailArgs<'_>,
+    verb: Verb<'_>,
+    limits: Limits,
     file: F,
     output: &mut W,
 ) -> Result<u8, TrailFault>
-    ensures { IfOk result (λ status. TellsBy asked.entry.way status asked.entry.owner (F.remaining file)) }
+    ensures { IfOk result (λ status. TellsBy W.contents W.tells_rights verb.entry limits status (F.remaining file)
+        output.old output.new) }
 {
     let mut reader = buffered(alloc, file)?;
-    match asked.way {
-        Verb::Check => check(alloc, asked.owner, &mut reader, output),
-        Verb::Log => tell_log(alloc, asked, &mut reader, output),
-        Verb::Show => show(alloc, asked.form, &mut reader, output),
-        Verb::Ask => ask(alloc, asked, &mut reader, output),
-        Verb::Setup => tell_setup(alloc, asked, &mut reader, output),
+    match verb {
+        Verb::Check => check(alloc, limits.owner, &mut reader, output),
+        Verb::Log(asked) => tell_log(alloc, asked, limits, &mut reader, output),
+        Verb::Show { is_json } => show(alloc, is_json, &mut reader, output),
+        Verb::Ask(asked) => ask(alloc, asked, limits, &mut reader, output),
     }
 }
 
-/// What the words ask, with the place of the last entry if they give its time. The file is read up to that
-/// entry for it.
-fn placed<'a, R: Files + AllocGlobal>(
-    rt: &R,
-    asked: TrailArgs<'a>,
-) -> Result<TrailArgs<'a>, TrailFault> {
-    let Some(ms) = asked.time else {
-        return Ok(asked);
-    };
-    let file = fs::open(rt, asked.path).map_err(TrailFault::NotOpened)?;
-    let mut reader = buffered(rt.alloc(), file)?;
-    let place = place_at(rt.alloc(), ms, &mut reader)?;
-    Ok(TrailArgs {
-        place: Some(place),
-        ..asked
-    })
+/// The place of the last entry not later than a time, by the entries of a file.
+fn place_by<F: Read + Drop>(alloc: Global, ms: u64, file: F) -> Result<u64, TrailFault>
+    ensures { IfOk result (λ place. IfSome (F.remaining file) (LastOf ms (Some place))) }
+{
+    let mut reader = buffered(alloc, file)?;
+    place_at(alloc, ms, &mut reader)
 }
 
-/// Does what the words ask.
-fn run<R: Clock + Files + AllocGlobal, W: Write>(
+/// The place of the last entry that counts, if not all count. If that is given by its time, the file is read up to it.
+fn place_of<R: TrailHost>(rt: &R, path: &str, last: LastAsked) -> Result<Option<u64>, TrailFault>
+    ensures { IfOk result (IsPlaceOf (R.opens rt.now path.now) R.Trail.remaining last) }
+{
+    match last {
+        LastAsked::All => Ok(None),
+        LastAsked::Place(place) => Ok(Some(place)),
+        LastAsked::Time(ms) => Ok(Some(place_by(rt.alloc(), ms, rt.open_trail(path)?)?)),
+    }
+}
+
+/// Does what the arguments ask.
+fn run<R: TrailHost, W: TellsRights>(
     rt: &R,
     asked: TrailArgs<'_>,
     output: &mut W,
-) -> Result<u8, TrailFault> {
-    let asked = placed(rt, asked)?;
-    let file = fs::open(rt, asked.path).map_err(TrailFault::NotOpened)?;
+) -> Result<u8, TrailFault>
+    ensures { IfOk result (λ status. IsRun (R.opens rt.now asked.entry.path.now) R.Trail.remaining W.contents
+        W.tells_rights asked.entry status output.old output.new) }
+{
+    let limits = Limits {
+        owner: asked.owner,
+        last: place_of(rt, asked.path, asked.last)?,
+        follows: asked.follows,
+    };
+    let file = rt.open_trail(asked.path)?;
     if asked.follows {
-        return read_file(rt.alloc(), asked, Following { rt, file }, output);
+        return read_file(
+            rt.alloc(),
+            asked.verb,
+            limits,
+            Following { rt, file },
+            output,
+        );
     }
-    read_file(rt.alloc(), asked, file, output)
+    read_file(rt.alloc(), asked.verb, limits, file, output)
 }
 
 /// Writes which words aren't understood. Control characters of the words are escaped.
@@ -170,32 +166,29 @@ fn tell_mistake<E: Write>(alloc: Global, mistake: Mistake<'_>, errors: &mut E) -
     writeln!(errors, ": {advice}")
 }
 
-/// What words ask. If a word isn't understood, writes which one, and gives the status to exit with.
-fn understand<'a, E: Write>(
-    alloc: Global,
-    given: GivenArgs<'a>,
-    errors: &mut E,
-) -> Result<TrailArgs<'a>, u8> {
-    match asked_of(given) {
-        Ok(asked) => Ok(asked),
-        Err(mistake) => {
-            let _ = tell_mistake(alloc, mistake, errors);
-            Err(TROUBLE)
-        }
-    }
-}
-
-/// What the words ask. If they ask nothing, writes why, and gives the status to exit with.
-fn asked_by<'a, W: Write, E: Write>(
-    alloc: Global,
+/// What the arguments ask. If they ask nothing, writes why, and gives the status to exit with.
+fn asked_by<'a, R: TrailHost, W: Write, E: Write>(
+    rt: &R,
     words: &'a [String],
     output: &mut W,
     errors: &mut E,
-) -> Result<TrailArgs<'a>, u8> {
-    match given_in(alloc, words) {
-        Ok(Some(given)) => understand(alloc, given, errors),
-        Ok(None) => Err(TROUBLE),
-        Err(error) => Err(tell(alloc, &error, output, errors)),
+) -> Result<TrailArgs<'a>, u8>
+    ensures ok { IfOk result (AreAsked (R.means rt.now) (map string_bytes words.entry.now)) }
+    ensures err { IfErr result IsRefused }
+{
+    let named = match rt.matches_of(words) {
+        Ok(named) => named,
+        Err(error) => return Err(tell(rt.alloc(), &error, output, errors)),
+    };
+    let Some(named) = named else {
+        return Err(TROUBLE);
+    };
+    match asked_of(named.0, &named.1) {
+        Ok(asked) => Ok(asked),
+        Err(mistake) => {
+            let _ = tell_mistake(rt.alloc(), mistake, errors);
+            Err(TROUBLE)
+        }
     }
 }
 
@@ -210,16 +203,18 @@ fn tell_fault<E: Write>(alloc: Global, fault: TrailFault, path: &str, errors: &m
     }
 }
 
-/// `mux-trail check|log|show|who|setup|why FILE`. The status is 0 for a legal file that is whole, and if what
-/// was asked for was shown; 1 for a file that isn't legal; 2 for invalid arguments and a file that can't
-/// be read; 3 for legal entries without a last line; and 4 for users who aren't confined.
-pub fn trail<R: Clock + Files + AllocGlobal, W: Write, E: Write>(
+/// `mux-trail check|log|show|who|setup|why FILE`. The status is 0 for a legal file that is whole, and if what was asked
+/// for was shown; 1 for an illegal file; 2 for a fault; 3 if there is no last line; and 4 for users who aren't confined.
+pub fn trail<R: TrailHost, W: Write, E: Write>(
     rt: &R,
     words: &[String],
     output: &mut W,
     errors: &mut E,
-) -> u8 {
-    let asked = match asked_by(rt.alloc(), words, output, errors) {
+) -> u8
+    ensures { ExitsBy (R.means rt.now) (R.opens rt.now) R.Trail.remaining W.contents
+        (map string_bytes words.now) result }
+{
+    let asked = match asked_by(rt, words, output, errors) {
         Ok(asked) => asked,
         Err(status) => return status,
     };
@@ -228,40 +223,4 @@ pub fn trail<R: Clock + Files + AllocGlobal, W: Write, E: Write>(
         Ok(status) => status,
         Err(fault) => tell_fault(rt.alloc(), outlet.fault_of(fault), asked.path, errors),
     }
-}
-
-/// Writes the lines of a setup by the entries that a reader has, or what is wrong with the file.
-pub fn tell_setup<R: BufRead, W: Write>(
-    alloc: Global,
-    asked: TrailArgs<'_>,
-    reader: &mut R,
-    output: &mut W,
-) -> Result<u8, TrailFault> {
-    let heading = heading_of(alloc, reader)?;
-    let (edition, owner) = (heading.edition, asked.owner.unwrap_or(heading.owner));
-    let mut watch = Watch::new(alloc, edition, owner, AskedBits::Nothing).map_err(io::Error::from)?;
-    let mut state = SetupState::new(alloc, edition, owner).map_err(io::Error::from)?;
-    let mut line = Vec::new(alloc);
-    let last = asked.place.unwrap_or(u64::MAX);
-    let halt = watch_entries(
-        &mut watch,
-        reader,
-        &mut line,
-        last,
-        |said| state.take(&said.entry),
-    )?;
-    let finish = finish_of(alloc, watch.count(), halt, reader, &mut line)?;
-    if finish.is_bad() {
-        tell_finish(alloc, finish, watch.count(), owner, output)?;
-        return Ok(ILLEGAL);
-    }
-    if let Some(place) = asked.place
-        && place >= watch.count()
-    {
-        return Err(TrailFault::NoPlace(place, watch.count()));
-    }
-    let mut text = Vec::new(alloc);
-    push_setup(alloc, &watch, &state, &mut text).map_err(io::Error::from)?;
-    output.write_all(text.as_slice())?;
-    Ok(LEGAL)
 }

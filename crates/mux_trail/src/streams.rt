@@ -10,13 +10,11 @@ use std::thread;
 use std::time::{Clock, Duration};
 use trail_files::TrailFault;
 
-/// How often the end of the file is looked at for more, in milliseconds.
+/// The pause between looks at the end of the file, in milliseconds; after `QUIET` looks without news it is longer.
 const PAUSE: u64 = 100;
 
-/// After this many looks without news the pause is longer.
 const QUIET: u64 = 100;
 
-/// The longer pause, in milliseconds.
 const LONG_PAUSE: u64 = 1000;
 
 /// A file without an end: at the end of the file, reading waits for more.

@@ -1,28 +1,17 @@
-//! What the words of `mux-trail` ask for.
+//! What the arguments of `mux-trail` ask for.
 
-use acl::{Bit, UserId};
-use clap::{ArgMatches, Error};
+ghost use Rattle.std.specs.Prelude.{◌≡◌, ◌^◌, IfOk, IfSome, None, Some};
+ghost use Rattle.mux_trail.specs.Words.{found_of, named_by, number_below};
+ghost use Rattle.mux_trail.specs.Asking.{IsAskedBy, IsLastOf, IsLogOf, IsObjectOf, IsTime, IsTimeOf};
+ghost use Rattle.mux_trail.specs.Asking.{IsUserOf, IsVerbOf, IsWhoOf, IsWhyOf, IsWindowOf, bit_in, text_at, text_of};
+ghost use Rattle.mux_trail.specs.Asking.{way_of};
+
+use acl::{Bit, Object, UserId};
+use clap::ArgMatches;
 use jiff::Timestamp;
 use line_fields::{read_u32, read_u64};
-use program_words::of_trail;
 use std::alloc::{AllocError, Global};
-use trail_confined::{Question, bit_of};
-use trail_files::LineFormat;
-
-/// What the program does with a file.
-#[derive(Clone, Copy)]
-pub enum Verb {
-    /// Judges it.
-    Check,
-    /// Prints its lines.
-    Show,
-    /// Prints its log.
-    Log,
-    /// Prints rights, or the acts that decide one.
-    Ask,
-    /// Prints the setup that goes on with the rights.
-    Setup,
-}
+use trail_confined::Question;
 
 /// A window, by its serial or its title.
 #[derive(Clone, Copy)]
@@ -31,90 +20,67 @@ pub enum WindowWord<'a> {
     Title(&'a str),
 }
 
-/// A bit of a user on the window of a title.
+/// What is asked about rights.
 #[derive(Clone, Copy)]
-pub struct TitledBit<'a> {
-    pub user: UserId,
-    pub bit: Bit,
-    pub title: &'a str,
+pub enum RightsAsked<'a> {
+    Who,
+    /// Whether the users of these names, with commas between them, are confined.
+    Confined(&'a str),
+    Why(Question),
+    /// Why a user has a bit on the open window that was given a title last, or hasn't.
+    WhyTitled {
+        user: UserId,
+        bit: Bit,
+        title: &'a str,
+    },
+    Setup,
 }
 
-/// What the words ask of a file.
+/// Which entries of a log are asked for. Times are in milliseconds since 1970.
 #[derive(Clone, Copy)]
-pub struct TrailArgs<'a> {
-    pub way: Verb,
-    pub path: &'a str,
-    pub owner: Option<UserId>,
-    /// The last entry that counts.
-    pub place: Option<u64>,
-    /// The time of the last entry that counts, in milliseconds since 1970, before its place is known.
-    pub time: Option<u64>,
-    /// The question of `why`.
-    pub question: Option<Question>,
-    /// The question of `why` about a title, before it is known which window has it.
-    pub titled: Option<TitledBit<'a>>,
-    /// The names of the users of `who --confined`.
-    pub confined: Option<&'a str>,
-    pub form: LineFormat,
-    /// Whether more is waited for at the file's end, until the trail ends.
-    pub follows: bool,
-    /// The user whose entries are asked for.
+pub struct LogAsked<'a> {
     pub user: Option<UserId>,
-    /// The window whose entries are asked for.
     pub window: Option<WindowWord<'a>>,
-    /// The times between which entries are asked for, in milliseconds since 1970.
     pub since: u64,
     pub until: u64,
 }
 
-/// The words of a way as they were given.
+/// What the program does with a file: it judges it, or prints its lines, its log, or what it says of rights.
 #[derive(Clone, Copy)]
-pub struct GivenArgs<'a> {
-    way: &'a str,
+pub enum Verb<'a> {
+    Check,
+    Show { is_json: bool },
+    Log(LogAsked<'a>),
+    Ask(RightsAsked<'a>),
+}
+
+/// The last entry that counts, by its place or its time.
+#[derive(Clone, Copy)]
+pub enum LastAsked {
+    All,
+    Place(u64),
+    Time(u64),
+}
+
+/// As whose trail a file is read, up to which entry's place, and whether more is waited for at its end.
+#[derive(Clone, Copy)]
+pub struct Limits {
+    pub owner: Option<UserId>,
+    pub last: Option<u64>,
+    pub follows: bool,
+}
+
+/// What the arguments ask of a file.
+#[derive(Clone, Copy)]
+pub struct TrailArgs<'a> {
+    pub verb: Verb<'a>,
     pub path: &'a str,
-    owner: Option<&'a str>,
-    place: Option<&'a str>,
-    confined: Option<&'a str>,
-    window: Option<&'a str>,
-    since: Option<&'a str>,
-    until: Option<&'a str>,
-    user: Option<&'a str>,
-    bit: &'a str,
-    object: &'a str,
-    is_json: bool,
-    follows: bool,
+    pub owner: Option<UserId>,
+    pub last: LastAsked,
+    pub follows: bool,
 }
 
-impl<'a> GivenArgs<'a> {
-    fn of(way: &'a str, matches: &ArgMatches<'a>) -> GivenArgs<'a> {
-        GivenArgs {
-            way,
-            path: matches.get_str("file").unwrap_or(""),
-            owner: matches.get_str("owner"),
-            place: matches.get_str("at"),
-            confined: matches.get_str("confined"),
-            window: matches.get_str("window"),
-            since: matches.get_str("since"),
-            until: matches.get_str("until"),
-            user: matches.get_str("user"),
-            bit: matches.get_str("bit").unwrap_or(""),
-            object: matches.get_str("object").unwrap_or(""),
-            is_json: matches.get_flag("json"),
-            follows: matches.get_flag("follow"),
-        }
-    }
-}
-
-/// The words of a way, the program's name first.
-pub fn given_in<'a>(alloc: Global, words: &'a [String]) -> Result<Option<GivenArgs<'a>>, Error> {
-    let matches = of_trail(alloc, words)?;
-    match matches.subcommand() {
-        Some((way, words)) => Ok(Some(GivenArgs::of(way, words))),
-        None => Ok(None),
-    }
-}
-
-/// A word that isn't understood: what is wrong, the word, and what to do.
+/// An argument that isn't understood: what is wrong, the argument, and what to do.
 #[derive(Clone, Copy)]
 pub struct Mistake<'a> {
     pub what: &'static str,
@@ -122,23 +88,33 @@ pub struct Mistake<'a> {
     pub advice: &'static str,
 }
 
-/// What a user's name looks like.
-const NAMES: &str = "a name has 1 to 20 lower-case letters, digits and _, and begins with a letter";
-
-/// The user of a name.
-fn user_named<'a>(word: &'a str, what: &'static str) -> Result<UserId, Mistake<'a>> {
-    match UserId::of(word.as_bytes()) {
-        Some(user) => Ok(user),
-        None => Err(Mistake {
-            what,
-            word,
-            advice: NAMES,
-        }),
+/// What is found in a word, or that the word isn't understood.
+fn found_in<'a, T>(
+    found: Option<T>,
+    word: &'a str,
+    what: &'static str,
+    advice: &'static str,
+) -> Result<T, Mistake<'a>>
+    ensures { IfOk result (λ it. found ≡ Some it) }
+{
+    match found {
+        Some(it) => Ok(it),
+        None => Err(Mistake { what, word, advice }),
     }
 }
 
+/// The user of a name.
+fn user_named<'a>(word: &'a str, what: &'static str) -> Result<UserId, Mistake<'a>>
+    ensures { IfOk result (λ user. named_by word.entry.now ≡ Some user) }
+{
+    let advice = "a name has 1 to 20 lower-case letters, digits and _, and begins with a letter";
+    found_in(UserId::of(word.as_bytes()), word, what, advice)
+}
+
 /// The user of a name, if one is given.
-fn user_in<'a>(name: Option<&'a str>, what: &'static str) -> Result<Option<UserId>, Mistake<'a>> {
+fn user_in<'a>(name: Option<&'a str>, what: &'static str) -> Result<Option<UserId>, Mistake<'a>>
+    ensures { IfOk result (IsUserOf (text_of name.entry)) }
+{
     match name {
         Some(name) => Ok(Some(user_named(name, what)?)),
         None => Ok(None),
@@ -146,113 +122,109 @@ fn user_in<'a>(name: Option<&'a str>, what: &'static str) -> Result<Option<UserI
 }
 
 /// The last entry that counts, by its place or its time.
-#[derive(Clone, Copy)]
-enum Last {
-    All,
-    Place(u64),
-    Time(u64),
-}
-
-fn last_of(word: Option<&str>) -> Result<Last, Mistake<'_>> {
+fn last_of(word: Option<&str>) -> Result<LastAsked, Mistake<'_>>
+    ensures { IfOk result (IsLastOf (text_of word.entry)) }
+{
     let Some(word) = word else {
-        return Ok(Last::All);
+        return Ok(LastAsked::All);
     };
     if let Some(place) = read_u64(word.as_bytes()) {
-        return Ok(Last::Place(place));
+        return Ok(LastAsked::Place(place));
     }
-    match ms_of(word) {
-        Some(ms) => Ok(Last::Time(ms)),
-        None => Err(Mistake {
-            what: "--at names no entry",
-            word,
-            advice: "give the place of an entry, a number from 0 on, or a time as 2025-11-24T16:00:02Z",
-        }),
-    }
+    let advice =
+        "give the place of an entry, a number from 0 on, or a time as 2025-11-24T16:00:02Z";
+    let ms = found_in(ms_of(word), word, "--at names no entry", advice)?;
+    Ok(LastAsked::Time(ms))
 }
 
-impl Last {
-    fn place(self) -> Option<u64> {
-        match self {
-            Last::Place(place) => Some(place),
-            _ => None,
-        }
-    }
-
-    fn time(self) -> Option<u64> {
-        match self {
-            Last::Time(ms) => Some(ms),
-            _ => None,
-        }
-    }
-}
-
-/// A list of names with commas between, if one is given and each of them is a name.
-fn names_in(names: Option<&str>) -> Result<Option<&str>, Mistake<'_>> {
-    if let Some(names) = names {
-        for name in names.split(',') {
-            let shown = if name.is_empty() { names } else { name };
-            let _user = user_named(shown, "--confined names no user")?;
-        }
-    }
-    Ok(names)
-}
-
-/// The users of a list of names with commas between.
-pub fn users_named(alloc: Global, names: &str) -> Result<Vec<UserId>, AllocError> {
-    let mut users = Vec::new(alloc);
+/// What `who` is asked. If names are given, each is a user's.
+fn who_of(names: Option<&str>) -> Result<RightsAsked<'_>, Mistake<'_>>
+    ensures { IfOk result (IsWhoOf (text_of names.entry)) }
+{
+    let Some(names) = names else {
+        return Ok(RightsAsked::Who);
+    };
     for name in names.split(',') {
-        if let Some(user) = UserId::of(name.as_bytes()) {
-            users.push(user)?;
-        }
+        let shown = if name.is_empty() { names } else { name };
+        let _user = user_named(shown, "--confined names no user")?;
     }
-    Ok(users)
+    Ok(RightsAsked::Confined(names))
 }
 
-/// The question of `why`, if it names a window's serial or a command.
-fn question_of(given: GivenArgs<'_>) -> Option<Question> {
-    if given.way != "why" {
-        return None;
+/// The users of a list of names with commas between them. Only `of` makes one.
+#[derive(Drop)]
+pub struct NamedUsers<'a> {
+    names: &'a str,
+    users: Vec<UserId>,
+}
+
+impl<'a> NamedUsers<'a> {
+    pub fn of(alloc: Global, names: &'a str) -> Result<NamedUsers<'a>, AllocError>
+        ensures { IfOk result (λ it. it.names.now ≡ names.entry.now) }
+    {
+        let mut users = Vec::new(alloc);
+        for name in names.split(',') {
+            if let Some(user) = UserId::of(name.as_bytes()) {
+                users.push(user)?;
+            }
+        }
+        Ok(NamedUsers { names, users })
     }
-    let user = given.user?;
-    Question::read(
-        user.as_bytes(),
-        given.bit.as_bytes(),
-        given.object.as_bytes(),
-    )
+
+    pub fn users(&self) -> &[UserId]
+        ensures { result.now ≡ self.now.users.items }
+    {
+        self.users.as_slice()
+    }
 }
 
 /// The bit of a letter.
-fn bit_named(word: &str) -> Result<Bit, Mistake<'_>> {
-    match bit_of(word.as_bytes()) {
-        Some(bit) => Ok(bit),
-        None => Err(Mistake {
-            what: "BIT is no bit",
-            word,
-            advice: "give r, w or x",
+fn bit_in(word: &str) -> Option<Bit>
+    ensures { result ≡ bit_in word.now }
+{
+    match word {
+        "r" => Some(Bit::Read),
+        "w" => Some(Bit::Write),
+        "x" => Some(Bit::Execute),
+        _ => None,
+    }
+}
+
+/// The object of a window's serial or a command's name.
+fn object_in(word: &str) -> Option<Object>
+    ensures some { IfSome result (IsObjectOf word.now) }
+    ensures none { result ≡ None → number_below (2 ^ 32) word.now ≡ None }
+{
+    if let Some(window) = read_u32(word.as_bytes()) {
+        return Some(Object::Window(window));
+    }
+    // A question is about a command if it isn't about a window.
+    match Question::read(b"own", b"x", word.as_bytes())?.object {
+        Object::Command(command) => Some(Object::Command(command)),
+        Object::Window(_) => None,
+    }
+}
+
+/// What `why` is asked: about a window's serial or a command, else about a window's title.
+fn why_of<'a>(user: &'a str, bit: &'a str, object: &'a str) -> Result<RightsAsked<'a>, Mistake<'a>>
+    ensures { IfOk result (IsWhyOf user.entry.now bit.entry.now object.entry.now) }
+{
+    let user = user_named(user, "USER is no user")?;
+    let bit = found_in(bit_in(bit), bit, "BIT is no bit", "give r, w or x")?;
+    match object_in(object) {
+        Some(object) => Ok(RightsAsked::Why(Question { user, bit, object })),
+        None => Ok(RightsAsked::WhyTitled {
+            user,
+            bit,
+            title: object,
         }),
     }
 }
 
-/// The question of `why`, if it names a window's title. Other ways have none.
-fn titled_of<'a>(given: GivenArgs<'a>) -> Result<Option<TitledBit<'a>>, Mistake<'a>> {
-    if given.way != "why" || question_of(given).is_some() {
-        return Ok(None);
-    }
-    Ok(Some(TitledBit {
-        user: user_named(given.user.unwrap_or(""), "USER is no user")?,
-        bit: bit_named(given.bit)?,
-        title: given.object,
-    }))
-}
-
-/// The user of `log`. Other ways have none.
-fn user_of<'a>(given: GivenArgs<'a>) -> Result<Option<UserId>, Mistake<'a>> {
-    let name = if given.way == "log" { given.user } else { None };
-    user_in(name, "--user names no user")
-}
-
 /// A window's serial or title.
-fn window_of(word: Option<&str>) -> Option<WindowWord<'_>> {
+fn window_of(word: Option<&str>) -> Option<WindowWord<'_>>
+    ensures { IsWindowOf (text_of word.entry) result }
+{
     let word = word?;
     match read_u32(word.as_bytes()) {
         Some(serial) => Some(WindowWord::Serial(serial)),
@@ -261,71 +233,83 @@ fn window_of(word: Option<&str>) -> Option<WindowWord<'_>> {
 }
 
 /// A time in the form of RFC 3339, in milliseconds since 1970.
-fn ms_of(time: &str) -> Option<u64> {
-    let time = time.parse::<Timestamp>().ok()?;
-    u64::try_from(time.as_millisecond()).ok()
+fn ms_of(time: &str) -> Option<u64>
+    ensures { IfSome result (IsTime time.now) }
+{
+    match time.parse::<Timestamp>() {
+        Ok(time) => u64::try_from(time.as_millisecond()).ok(),
+        Err(_) => None,
+    }
 }
 
 /// A time that is given, else this one.
-fn time_of<'a>(
-    word: Option<&'a str>,
-    what: &'static str,
-    else_ms: u64,
-) -> Result<u64, Mistake<'a>> {
+fn time_of<'a>(word: Option<&'a str>, what: &'static str, else_ms: u64) -> Result<u64, Mistake<'a>>
+    ensures { IfOk result (IsTimeOf (text_of word.entry) else_ms) }
+{
     let Some(word) = word else {
         return Ok(else_ms);
     };
-    match ms_of(word) {
-        Some(ms) => Ok(ms),
-        None => Err(Mistake {
-            what,
-            word,
-            advice: "give a time as 2025-11-24T16:00:02Z",
+    found_in(
+        ms_of(word),
+        word,
+        what,
+        "give a time as 2025-11-24T16:00:02Z",
+    )
+}
+
+/// Which entries of a log the arguments ask for.
+fn log_of<'a>(matches: &ArgMatches<'a>) -> Result<LogAsked<'a>, Mistake<'a>>
+    ensures { IfOk result (IsLogOf (found_of matches.now)) }
+{
+    let user = user_in(matches.get_str("user"), "--user names no user")?;
+    let since = time_of(matches.get_str("since"), "--since is no time", 0)?;
+    let until = time_of(matches.get_str("until"), "--until is no time", u64::MAX)?;
+    Ok(LogAsked {
+        user,
+        window: window_of(matches.get_str("window")),
+        since,
+        until,
+    })
+}
+
+/// An argument that must be there: without it there are no matches.
+fn text_at<'a>(matches: &ArgMatches<'a>, name: &str) -> &'a str
+    ensures { result.now ≡ text_at (found_of matches.now) name.now }
+{
+    matches.get_str(name).unwrap_or("")
+}
+
+/// What the subcommand of this name does with these arguments.
+fn verb_of<'a>(name: &str, matches: &ArgMatches<'a>) -> Result<Verb<'a>, Mistake<'a>>
+    ensures { IfOk result (IsVerbOf (way_of name.now) (found_of matches.now)) }
+{
+    match name {
+        "check" => Ok(Verb::Check),
+        "log" => Ok(Verb::Log(log_of(matches)?)),
+        "who" => Ok(Verb::Ask(who_of(matches.get_str("confined"))?)),
+        "setup" => Ok(Verb::Ask(RightsAsked::Setup)),
+        "why" => {
+            let (user, bit) = (text_at(matches, "user"), text_at(matches, "bit"));
+            Ok(Verb::Ask(why_of(user, bit, text_at(matches, "object"))?))
+        }
+        _ => Ok(Verb::Show {
+            is_json: matches.get_flag("json"),
         }),
     }
 }
 
-fn way_of(name: &str) -> Verb {
-    match name {
-        "check" => Verb::Check,
-        "who" | "why" => Verb::Ask,
-        "log" => Verb::Log,
-        "setup" => Verb::Setup,
-        _ => Verb::Show,
-    }
-}
-
-fn form_of(is_json: bool) -> LineFormat {
-    if is_json {
-        LineFormat::Json
-    } else {
-        LineFormat::Plain
-    }
-}
-
-/// What the words of a way ask, or the word that isn't understood.
-pub fn asked_of<'a>(given: GivenArgs<'a>) -> Result<TrailArgs<'a>, Mistake<'a>> {
-    let owner = user_in(given.owner, "--owner names no user")?;
-    let last = last_of(given.place)?;
-    let titled = titled_of(given)?;
-    let user = user_of(given)?;
-    let since = time_of(given.since, "--since is no time", 0)?;
-    let until = time_of(given.until, "--until is no time", u64::MAX)?;
-    let confined = names_in(given.confined)?;
+/// What the arguments of this subcommand ask, or the one that isn't understood.
+pub fn asked_of<'a>(name: &str, matches: &ArgMatches<'a>) -> Result<TrailArgs<'a>, Mistake<'a>>
+    ensures { IfOk result (IsAskedBy name.now (found_of matches.now)) }
+{
+    let owner = user_in(matches.get_str("owner"), "--owner names no user")?;
+    let last = last_of(matches.get_str("at"))?;
+    let verb = verb_of(name, matches)?;
     Ok(TrailArgs {
-        way: way_of(given.way),
-        path: given.path,
+        verb,
+        path: text_at(matches, "file"),
         owner,
-        place: last.place(),
-        time: last.time(),
-        question: question_of(given),
-        titled,
-        confined,
-        form: form_of(given.is_json),
-        follows: given.follows,
-        user,
-        window: window_of(given.window),
-        since,
-        until,
+        last,
+        follows: matches.get_flag("follow"),
     })
 }
