@@ -99,15 +99,16 @@ module _ {F : Type 0} (opens : F → Type 0) (remaining : F → Option (List ℕ
     pub tells : TellsBy contents rights a.verb (record { owner = a.owner; last = place; follows = a.follows }) status
         (bytes_of a.follows (remaining file)) old new
 
--- no subcommand, an invalid argument, or the help
-abbrev pub IsRefused : ℕ → Type 0
-IsRefused status = (status ≡ 2) ⊎ ((kind : ErrorKind) × IsHelped kind status)
+-- no subcommand or an invalid argument, or the arguments ask for the help
+abbrev pub IsRefused : (ErrorKind → Type 0) → ℕ → Type 0
+IsRefused refuses status = (status ≡ 2) ⊎ ((kind : ErrorKind) × refuses kind × IsHelped kind status)
 
 -- The arguments are refused; or a fault has its status; or what they ask was answered.
-abbrev pub ExitsBy : {F W : Type 0} → (List (List ℕ) → List ℕ → Found → Type 0) → (List ℕ → F → Type 0)
+abbrev pub ExitsBy : {F W : Type 0} → (List (List ℕ) → List ℕ → Found → Type 0)
+    → (List (List ℕ) → ErrorKind → Type 0) → (List ℕ → F → Type 0)
     → (F → Option (List ℕ)) → (W → Option (List ℕ)) → List (List ℕ) → ℕ → Type 0
-ExitsBy {F} {W} means opens remaining contents words status =
-    IsRefused status
+ExitsBy {F} {W} means refuses opens remaining contents words status =
+    IsRefused (refuses words) status
     ⊎ ((a : TrailArgs) × AreAsked means words a
     × (((fault : TrailFault) × (status ≡ fault_status fault))
     ⊎ ((old new : Outlet W) × IsRun (opens a.path.now) remaining (λ (o : Outlet W). contents o.output.now)

@@ -6,6 +6,7 @@ pub use Rattle.acl.specs.Names.{named_by}
 pub use Rattle.acl.specs.declared.leaders.Edition.{Edition}
 pub use Rattle.acl.specs.declared.user_id.UserId.{UserId}
 pub use Rattle.clap.specs.Words.{found_of, kind_of}
+pub use Rattle.clap.specs.declared.error.kind.ErrorKind.{ErrorKind}
 pub use Rattle.clap.specs.declared.parser.matches.Found.{Found}
 pub use Rattle.hub.specs.Following.{StandsAfter}
 pub use Rattle.line_fields.specs.Numbers.{number_below}

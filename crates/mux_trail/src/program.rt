@@ -65,7 +65,6 @@ fn buffered<F: Read + Drop>(alloc: Global, file: F) -> io::Result<BufReader<F>>
     BufReader::new(alloc, file)
 }
 
-/// Does what is asked with a file.
 fn read_file<F: Read + Drop, W: TellsRights>(
     alloc: Global,
     verb: Verb<'_>,
@@ -104,7 +103,6 @@ fn place_of<R: TrailHost>(rt: &R, path: &str, last: LastAsked) -> Result<Option<
     }
 }
 
-/// Does what the arguments ask.
 fn run<R: TrailHost, W: TellsRights>(
     rt: &R,
     asked: TrailArgs<'_>,
@@ -174,7 +172,7 @@ fn asked_by<'a, R: TrailHost, W: Write, E: Write>(
     errors: &mut E,
 ) -> Result<TrailArgs<'a>, u8>
     ensures ok { IfOk result (AreAsked (R.means rt.now) (map string_bytes words.entry.now)) }
-    ensures err { IfErr result IsRefused }
+    ensures err { IfErr result (IsRefused (R.refuses rt.now (map string_bytes words.entry.now))) }
 {
     let named = match rt.matches_of(words) {
         Ok(named) => named,
@@ -204,14 +202,14 @@ fn tell_fault<E: Write>(alloc: Global, fault: TrailFault, path: &str, errors: &m
 }
 
 /// `mux-trail check|log|show|who|setup|why FILE`. The status is 0 for a legal file that is whole, and if what was asked
-/// for was shown; 1 for an illegal file; 2 for a fault; 3 if there is no last line; and 4 for users who aren't confined.
+/// for was shown; 1 for an illegal file; 2 for a fault; 3 without a last line; and 4 for users who aren't confined.
 pub fn trail<R: TrailHost, W: Write, E: Write>(
     rt: &R,
     words: &[String],
     output: &mut W,
     errors: &mut E,
 ) -> u8
-    ensures { ExitsBy (R.means rt.now) (R.opens rt.now) R.Trail.remaining W.contents
+    ensures { ExitsBy (R.means rt.now) (R.refuses rt.now) (R.opens rt.now) R.Trail.remaining W.contents
         (map string_bytes words.now) result }
 {
     let asked = match asked_by(rt, words, output, errors) {

@@ -178,7 +178,6 @@ impl<'a> NamedUsers<'a> {
     }
 }
 
-/// The bit of a letter.
 fn bit_in(word: &str) -> Option<Bit>
     ensures { result ≡ bit_in word.now }
 {
@@ -198,7 +197,6 @@ fn object_in(word: &str) -> Option<Object>
     if let Some(window) = read_u32(word.as_bytes()) {
         return Some(Object::Window(window));
     }
-    // A question is about a command if it isn't about a window.
     match Question::read(b"own", b"x", word.as_bytes())?.object {
         Object::Command(command) => Some(Object::Command(command)),
         Object::Window(_) => None,
