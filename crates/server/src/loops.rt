@@ -156,10 +156,12 @@ where
         left
     }
 
-    fn fail(&self, rt: &R) {
+    fn fail(&self, rt: &R, is_loop: bool) {
         let _ = self.shared.end(ServerEnd::Fault);
         self.shared.latch.fail(rt, Unready::NoThread);
-        self.leave(rt);
+        if is_loop {
+            self.leave(rt);
+        }
     }
 
     fn stand_by(&self, rt: &R) {

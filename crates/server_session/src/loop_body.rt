@@ -55,8 +55,8 @@ pub trait LoopBody<P: Drop, R> {
         place: P,
     ) -> Option<Seat<L>>;
 
-    /// The system refused a loop its thread.
-    fn fail(&self, rt: &R);
+    /// The system refused a thread: that of a loop, which is over then, or that in which the trail is written.
+    fn fail(&self, rt: &R, is_loop: bool);
 
     /// Runs in the thread that began the loops, until they have ended.
     fn stand_by(&self, _rt: &R) {}
@@ -123,14 +123,14 @@ where
                 running.leave(rt, left);
             });
             if started.is_err() {
-                loop_body.fail(rt);
+                loop_body.fail(rt, true);
                 running.leave(rt, None);
             }
         }
         if let Some(recorder) = running.shared.recorder() {
             let writing = scope.spawn(move || loop_body.write_trail(rt, recorder));
             if writing.is_err() {
-                loop_body.fail(rt);
+                loop_body.fail(rt, false);
             }
         }
         loop_body.stand_by(rt);

@@ -213,7 +213,7 @@ impl<R: Clock + Wait> LoopBody<usize, R> for Playing<'_> {
         Some(own.into_seat().into_inner())
     }
 
-    fn fail(&self, _rt: &R) {}
+    fn fail(&self, _rt: &R, _is_loop: bool) {}
 
     fn stand_by(&self, _rt: &R) {}
 

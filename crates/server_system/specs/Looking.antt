@@ -86,12 +86,17 @@ module _ {R A B C : Type 0} (system : Ghosts R A B C) (host : R) (path : List �
   abbrev pub IsFoundAs : Option Stamp → Type 0
   IsFoundAs found = (told : Result Stamp Error) × system.finds host path told × (found ≡ result_ok told)
 
+-- after a fault: a file is read again, and that there is none is known
+abbrev pub failed_at : Option Stamp → LastLook
+failed_at None = record { known = Some None; failed = Some None }
+failed_at (Some stamp) = record { known = None; failed = Some (Some stamp) }
+
 -- what is remembered of a look, which found the file so, and this fault
 abbrev pub after_look : Option Stamp → Option UsersFileFault → LastLook → LastLook
 after_look found (Some fault.NoMemory) seen = seen
-after_look found (Some (fault.NoFile path error)) seen = record { stamp = None; failed = Some found }
-after_look found (Some (fault.Folder path folder)) seen = record { stamp = None; failed = Some found }
-after_look found other seen = record { stamp = found; failed = None }
+after_look found (Some (fault.NoFile path error)) seen = failed_at found
+after_look found (Some (fault.Folder path folder)) seen = failed_at found
+after_look found other seen = record { known = Some found; failed = None }
 
 -- such a fault isn't news if it has been told
 abbrev pub MayBeTold : Option UsersFileFault → Type 0
@@ -115,7 +120,7 @@ module _ {F : Type 0} (finds : F → Option Stamp → Type 0)
   -- The file was found as it was at the last look, and there is no news. Or it was read, and that is the news.
   abbrev pub LooksAt : F → LastLook → Option (Result (List Entry) UsersFileFault) → LastLook → Type 0
   LooksAt file old news new = (found : Option Stamp) × finds file found
-      × (((found ≡ old.stamp) × (news ≡ None) × (new ≡ old))
+      × (((old.known ≡ Some found) × (news ≡ None) × (new ≡ old))
       ⊎ ((read : Result (List Entry) UsersFileFault) × reads file read
       × (new ≡ after_look found (fault_of read) old) × Tells found old read news))
 

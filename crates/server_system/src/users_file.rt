@@ -6,7 +6,7 @@ ghost use Rattle.std.specs.Option.{option_copied};
 ghost use Rattle.std.specs.String.{string_bytes};
 ghost use Rattle.server_system.specs.Folders.{IsHeldFile, IsLookedFile, access_of};
 ghost use Rattle.server_system.specs.Looking.{AreOf, IsFoundAs, IsReadAs, IsReadOf, IsUnfound, IsUnreadOf, IsWrong};
-ghost use Rattle.server_system.specs.Looking.{LooksAt, MayBeTold, after_look};
+ghost use Rattle.server_system.specs.Looking.{LooksAt, MayBeTold, after_look, failed_at};
 ghost use Rattle.server_system.specs.Paths.{users_path};
 ghost use Rattle.server_system.specs.declared.fault.UsersFileFault.TheVariants.{NoMemory};
 
@@ -222,8 +222,8 @@ impl<H: Host> UsersSource for UsersFile<H> {
 /// What the last look at a users' file found.
 #[derive(Clone, Copy, Debug)]
 pub struct LastLook {
-    // The file as it was when it was read. None if there was none, or if it must be read again.
-    stamp: Option<Stamp>,
+    // What need not be read again: the file as it was when it was read, or that there is none.
+    known: Option<Option<Stamp>>,
     // The file as it was when it couldn't be read, if that has been told.
     failed: Option<Option<Stamp>>,
 }
@@ -231,21 +231,21 @@ pub struct LastLook {
 impl LastLook {
     /// The file was read when it had this stamp.
     pub fn read(stamp: Stamp) -> LastLook
-        ensures { result ≡ record { stamp = Some stamp; failed = None } }
+        ensures { result ≡ record { known = Some (Some stamp); failed = None } }
     {
         LastLook {
-            stamp: Some(stamp),
+            known: Some(Some(stamp)),
             failed: None,
         }
     }
 
-    // The file can't be read, or others can replace it. Returns whether that is news; the next look reads it again.
+    // The file can't be read, or others can replace it. Returns whether that is news; a file is read again.
     fn fails(&mut self, found: Option<Stamp>) -> bool
-        ensures seen { self.new ≡ record { stamp = None; failed = Some found } }
+        ensures seen { self.new ≡ failed_at found }
         ensures told { result ≡ false → self.old.failed ≡ Some found }
     {
         let was_told = self.failed == Some(found);
-        self.stamp = None;
+        self.known = found.is_none().then_some(None);
         self.failed = Some(found);
         !was_told
     }
@@ -260,7 +260,7 @@ impl LastLook {
             Some(UsersFileFault::NoMemory) => true,
             Some(UsersFileFault::NoFile(..) | UsersFileFault::Folder(..)) => self.fails(found),
             _ => {
-                self.stamp = found;
+                self.known = Some(found);
                 self.failed = None;
                 true
             }
@@ -278,7 +278,7 @@ pub fn look_at<F: UsersSource>(
     ensures memory { result ≡ Some (Err NoMemory) → seen.new ≡ seen.old }
 {
     let found = file.find();
-    if found == seen.stamp {
+    if seen.known == Some(found) {
         return None;
     }
     let read = file.read();
