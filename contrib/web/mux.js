@@ -166,7 +166,8 @@
   };
   // A command at the prompt, as from any client.
   const command = (text) => {
-    if (alive) send(KEYS, new TextEncoder().encode(text));
+    if (alive && open) later = text;
+    else if (alive) give(text);
     keys.focus();
   };
   it("hand").addEventListener("click", () => command(`\x01:wall "${HAND}"\r`));
@@ -237,11 +238,27 @@
   const send = (kind, bytes) => {
     if (socket && socket.readyState === WebSocket.OPEN) socket.send(Uint8Array.of(kind, ...bytes));
   };
+  // What is open after the keys that were sent: the command key waits for another one, and a prompt for the end of its
+  // line.  Keys that the page gives of its own would be part of that, so they come `later`.
+  const COMMAND = 1, PROMPT = 2, LAST = "\r\n\x1b\x03\x07";
+  let open = 0, later = "";
+  const opened = (key) => {
+    if (open === COMMAND) return key === ":" ? PROMPT : 0;
+    if (open === PROMPT) return LAST.includes(key) ? 0 : PROMPT;
+    return key === "\x01" ? COMMAND : 0;
+  };
+  const give = (text) => {
+    for (const key of text) open = opened(key);
+    const bytes = new TextEncoder().encode(text), own = open ? "" : later;
+    for (let at = 0; at < bytes.length; at += LONGEST) send(KEYS, bytes.subarray(at, at + LONGEST));
+    if (!own) return;
+    later = "";
+    give(own);
+  };
   const type = (text) => {
     if (watching || !alive) return;
-    if (back) look(0);
-    const bytes = new TextEncoder().encode(text);
-    for (let at = 0; at < bytes.length; at += LONGEST) send(KEYS, bytes.subarray(at, at + LONGEST));
+    if (back && !open) look(0);
+    give(text);
   };
   const CURSOR = { ArrowUp: "A", ArrowDown: "B", ArrowRight: "C", ArrowLeft: "D", Home: "H", End: "F" };
   const NAMED = { Enter: "\r", Backspace: "\x7f", Tab: "\t", Escape: "\x1b", Insert: "\x1b[2~", Delete: "\x1b[3~",
@@ -265,9 +282,10 @@
   const ask = () => {
     looks = 0;
     if (asked === back) return;
-    asked = back;
-    send(KEYS, new TextEncoder().encode(`\x01:scrollview ${back}\r`));
     looks = setTimeout(ask, 250);
+    if (open) return;
+    asked = back;
+    give(`\x01:scrollview ${back}\r`);
   };
   const look = (lines) => {
     if (watching || !alive) return;
@@ -423,7 +441,8 @@
   const clear = () => {
     for (const shown of [page, news]) shown.replaceChildren();
     told = [];
-    back = asked = 0;
+    back = asked = open = 0;
+    later = "";
     past.hidden = true;
     it("cursor").hidden = turns.hidden = true;
   };
