@@ -1,5 +1,5 @@
 -- Where the effects go that a loop takes.
-use Rattle.std.specs.Prelude.{◌≡◌, ◌⊎◌, ◌||◌, ℕ, Bool, false, List, [], ◌∷◌, Option, None}
+use Rattle.std.specs.Prelude.{◌≡◌, ◌⊎◌, ◌||◌, ℕ, Bool, true, false, List, [], ◌∷◌, Option, None, list_any}
 use Rattle.acl.specs.declared.user_id.UserId.{UserId}
 use Rattle.attach_proto.specs.declared.kind.Kind.TheVariants as kind
 use Rattle.attach_proto.specs.declared.message.Message.TheVariants as message
@@ -16,6 +16,8 @@ use Rattle.server_connections.specs.declared.peer.Role.TheVariants as role
 use Rattle.server_seat.specs.declared.seat.SessionSeat.{Ghosts as Calls}
 use Rattle.server_loop.specs.Leaving.{Expels, IfBool}
 use Rattle.server_loop.specs.Submitting.{State, peer_at}
+use Rattle.server_loop.specs.Walking.{VisitsAll}
+use Rattle.server_loop.specs.Writing.{DropsAt}
 use Rattle.server_sending.specs.Causes.{told_of}
 use Rattle.server_sending.specs.Frames.{PutsFrames, PutsFront, PutsMessage}
 use Rattle.server_sending.specs.Written.{Waiting}
@@ -27,6 +29,11 @@ use Rattle.server_steps.specs.Typing.{is_open_at}
 -- an effect, with the user who typed it
 abbrev pub Sent : Type 0
 Sent = Effect × Option UserId
+
+-- the session ended a window
+abbrev pub ends_window : Effect → Bool
+ends_window (effect.Gone (peer.Window window) reason) = true
+ends_window other = false
 
 module _ {S J : Type 0} where
   -- its connection was told why it goes; after `quit` the server is to end
@@ -76,6 +83,11 @@ module _ {S J : Type 0} (calls : Calls J) where
   HandsAll [] old new = new ≡ old
   HandsAll (sent ∷ rest) old new = (mid : State S J) × Hands sent.0 sent.1 old mid × HandsAll rest mid new
 
+  -- Nobody may type into a window that was ended: what was typed there before, and wasn't begun, was taken out.
+  abbrev pub DropsEnded : List Sent → State S J → State S J → Type 0
+  DropsEnded effects old new =
+      IfBool (list_any (λ sent. ends_window sent.0) effects) (VisitsAll (DropsAt calls) old new) (new ≡ old)
+
   -- The effects that waited were taken once, and went to their connections, in order and each once. If a step other
   -- than a draw was made, there is something to draw, and it is to be looked who may still type.
   pub record HandsOut (old new : State S J) : Type 0 where
@@ -83,8 +95,10 @@ module _ {S J : Type 0} (calls : Calls J) where
     pub is_told : Bool
     pub seat : J
     pub taken : calls.takes old.seat effects is_told seat
+    pub kept : State S J
+    pub dropped : DropsEnded effects (record old { seat = seat; is_behind = false }) kept
     pub mid : State S J
-    pub handed : HandsAll effects (record old { seat = seat; is_behind = false }) mid
+    pub handed : HandsAll effects kept mid
     pub told : new ≡ record mid {
       draws = record mid.draws { is_told = mid.draws.is_told || is_told };
       may_have_lost = mid.may_have_lost || is_told;

@@ -57,9 +57,8 @@ module _ {S J : Type 0} (calls : Calls J) (streams : Streams S) where
         (new ≡ record old { connections = mid })
 
   -- One for which too much waits was told so, written to and is closed once it takes no more. What was typed by those
-  -- who may not type there wasn't written.
+  -- who may not type there was taken out first.
   pub record DropsLaggard (key : ℕ) (old new : State S J) : Type 0 where
     pub outcome : ((¬ (IsSomeAnd (peer_at key old) IsLaggard)) × (new ≡ old))
-        ⊎ (IsSomeAnd (peer_at key old) IsLaggard × ((told : State S J)
-        × Expels calls why.TooFarBehind key old told
-        × (kept : State S J) × DropsAt calls key (with_peer cut key told) kept × Writes key kept new))
+        ⊎ (IsSomeAnd (peer_at key old) IsLaggard × ((kept : State S J) × DropsAt calls key old kept
+        × (told : State S J) × Expels calls why.TooFarBehind key kept told × Writes key (with_peer cut key told) new))

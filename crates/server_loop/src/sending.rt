@@ -1,11 +1,12 @@
 //! What connections are sent, and when they are drawn.
 
-ghost use Rattle.std.specs.Prelude.{◌-◌};
+ghost use Rattle.std.specs.Prelude.{◌≡◌, ◌-◌};
 ghost use Rattle.slab.specs.Slab.{get};
 ghost use Rattle.server_sending.specs.Frames.{Sends, SendsFront};
 ghost use Rattle.server_steps.specs.Meaning.{role_at};
 ghost use Rattle.server_loop.specs.Drawing.{Draws, DrawsAll, DrawsFrom, DrawsNext, DrawsRound, HandsOn, TellsAll};
-ghost use Rattle.server_loop.specs.Handing.{Ends, Hands, HandsAll, HandsFor, HandsOut, SendsTo};
+ghost use Rattle.server_loop.specs.Handing.{DropsEnded, Ends, Hands, HandsAll, HandsFor, HandsOut, SendsTo};
+ghost use Rattle.server_loop.specs.Handing.{ends_window};
 ghost use Rattle.server_loop.specs.Submitting.{state_of};
 ghost use Rattle.server_loop.specs.Walking.{VisitsAll};
 ghost use Rattle.server_loop.specs.Writing.{DropsLaggard, DropsLost, DropsOf, DropsTyped, Writes};
@@ -23,6 +24,13 @@ use std::sync::Wait;
 
 // At most this many draws are asked for in a turn. The others follow in the next turns, and keys are read between.
 const DRAWS: usize = 16;
+
+// Whether the session ended a window.
+fn ends_window(effect: &Effect) -> bool
+    ensures { result ≡ ends_window effect.now }
+{
+    matches!(effect, Effect::Gone(session::Peer::Window(_), _))
+}
 
 impl<S: PeerStream + Drop, G: Gate + Drop, J: SessionSeat + Drop> Loop<S, G, J> {
     // Puts something after what waits for a connection, which is told to go if that can't be done.
@@ -102,12 +110,23 @@ impl<S: PeerStream + Drop, G: Gate + Drop, J: SessionSeat + Drop> Loop<S, G, J> 
         }
     }
 
+    // Nobody may type into a window that is ended: what was typed there before, and isn't begun, isn't written.
+    fn drop_ended(&mut self, rt: &impl Wait, effects: &[(Effect, Option<UserId>)])
+        ensures { DropsEnded J.SessionSeat effects.now (state_of self.old) (state_of self.new) }
+    {
+        if !effects.iter().any(|sent| ends_window(&sent.0)) {
+            return;
+        }
+        each_awake(self, |own, key| own.drop_typed(rt, key));
+    }
+
     // Takes the effects that wait for the loop's peers, and puts them into their connections.
     pub(crate) fn hand_out(&mut self, rt: &impl Wait)
         ensures { HandsOut J.SessionSeat (state_of self.old) (state_of self.new) }
     {
         self.is_behind = false;
         let (effects, is_told) = self.seat.take(rt);
+        self.drop_ended(rt, effects.as_slice());
         self.hand_all(rt, effects.as_slice());
         self.draws.is_told |= is_told;
         self.may_have_lost |= is_told;
@@ -261,9 +280,9 @@ impl<S: PeerStream + Drop, G: Gate + Drop, J: SessionSeat + Drop> Loop<S, G, J> 
         if !is_laggard(&self.connections, key) {
             return;
         }
+        self.drop_typed(rt, key);
         self.expel(rt, key, Why::TooFarBehind);
         cut_off(&mut self.connections, key);
-        self.drop_typed(rt, key);
         self.write_to(rt, key);
     }
 

@@ -1,6 +1,5 @@
 use Rattle.server_loop.proofs.Vocabulary.{◌≡◌, true, false, refl, subst, inl, inr, rules, false≢true, Connections}
-use Rattle.server_loop.proofs.Vocabulary.{state_of}
-use Rattle.server_loop.specs.Writing.{DropsAt}
+use Rattle.server_loop.proofs.Vocabulary.{Writes, state_of}
 use Rattle.server_loop.proofs.own.Loop.drop_laggard.Goals as goal
 
 pub returns-then-not-is_laggard : goal.returns-then-not-is_laggard
@@ -17,13 +16,13 @@ returns g c =
       outcome = inr (
         c.is_laggard.ensures.0 yes,
         (
+          state_of c.drop_typed.new.self,
+          c.drop_typed.ensures,
           state_of c.expel.new.self,
           c.expel.ensures,
-          state_of c.drop_typed.new.self,
-          subst (λ (s : Connections g.row.S.Denot). DropsAt g.J.SessionSeat c.args.key
-              (record (state_of c.expel.new.self) { connections = s }) (state_of c.drop_typed.new.self))
-              c.cut_off.ensures c.drop_typed.ensures,
-          c.write_to.ensures,
+          subst (λ (s : Connections g.row.S.Denot). Writes g.J.SessionSeat g.S.PeerStream c.args.key
+              (record (state_of c.expel.new.self) { connections = s }) (state_of c.write_to.new.self))
+              c.cut_off.ensures c.write_to.ensures,
         ),
       );
     }
