@@ -413,6 +413,25 @@ def taken_back():
         shell = Listener(shell)
         check("what somebody typed who left arrives", once(lambda: shell.typed().endswith(b"last\r")),
               str(shell.typed()[-20:]))
+    for name, lines in (("kill", (b"kill",)), ("-w and kill", (b"aclchg eve -w 0", b"kill"))):
+        with hosted() as server:
+            shell = server.connect(window())
+            assert welcome(shell) and server.give(b"aclchg eve +rw 0").endswith(DONE)
+            client = server.connect(attach(*GUEST))
+            assert welcome(client)
+            client.sendall(pieces(KEYS, b"x" * 240_000) + frame(KEYS, b"evil\r"))
+            time.sleep(1)
+            assert all(server.give(line, number=0).endswith(DONE) for line in lines)
+            shell = Listener(shell)
+            check(f"{name}: the window goes", once(shell.gone))
+            check(f"{name}: what the guest typed ahead isn't typed before", b"evil" not in shell.typed(),
+                  str(shell.typed()[-20:]))
+    with Server() as server:
+        shell, client = server.shared()
+        shell = Listener(shell)
+        client.sendall(frame(KEYS, b"last\r\x01k"))
+        check("what is typed just before a kill arrives", once(shell.gone) and shell.typed() == b"last\r",
+              str(shell.typed()))
 
 
 def sizes():
