@@ -20,9 +20,9 @@ use Rattle.client_peer.specs.Sending.{ComesAgain}
 abbrev pub PutsOut : Peer → List ℕ → Peer → Type 0
 PutsOut old bytes new = (new.bytes.items ≡ old.bytes.items ++ bytes) × (new ≡ record old { bytes = new.bytes })
 
--- the frame of a draw is full, so the draw goes on in the next one
+-- another frame of the draw follows one of 1 or 8,192 bytes
 abbrev pub goes_on : List ℕ → Bool
-goes_on bytes = length bytes == 8192
+goes_on bytes = (length bytes == 1) || (length bytes == 8192)
 
 -- Input is for the window's program. If the window comes back, it waits until the window is opened again.
 pub record TakesInput (old : Peer) (bytes : List ℕ) (new : Peer) : Type 0 where

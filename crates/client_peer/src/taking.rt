@@ -72,7 +72,7 @@ impl Peer {
         ensures closed { self.old.subcommand ≡ Attach → StaysClosed self.old self.new }
         ensures shows { OnOk result (Shows self.old.is_covered self.old bytes.items self.new) }
     {
-        self.is_cut = bytes.len() == LONGEST;
+        self.is_cut = bytes.len() == 1 || bytes.len() == LONGEST;
         if self.is_covered {
             self.is_covered = self.is_cut || self.is_helping;
             return Ok(());

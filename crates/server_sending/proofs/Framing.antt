@@ -9,7 +9,7 @@ use Rattle.attach_proto.specs.declared.kind.Kind.{Kind}
 use Rattle.server_sending.specs.Written.{Waiting, with_frame}
 use Rattle.server_sending.specs.Frames.{IsPiece, PutsFrames}
 
-joined : (pieces : List (List ℕ)) (piece : List ℕ) → concat (pieces ++ piece ∷ []) ≡ concat pieces ++ piece
+pub joined : (pieces : List (List ℕ)) (piece : List ℕ) → concat (pieces ++ piece ∷ []) ≡ concat pieces ++ piece
 joined [] piece = append-nil piece
 joined (first ∷ pieces) piece = ap (λ xs. first ++ xs) (joined pieces piece)
     ∙ sym (append_assoc first (concat pieces) piece)

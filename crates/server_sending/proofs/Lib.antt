@@ -1,3 +1,4 @@
+pub mod Drawing
 pub mod Following
 pub mod Framing
 pub mod Typing

@@ -1,5 +1,5 @@
 -- What a peer is sent as frames.
-use Rattle.std.specs.Prelude.{◌≡◌, ℕ, ◌<◌, ◌≤◌, List, ◌++◌, Option, None, length, All}
+use Rattle.std.specs.Prelude.{◌≡◌, ℕ, ◌<◌, ◌≤◌, ◌⊎◌, List, ◌++◌, Option, None, length, All, ⊤}
 use Rattle.std.specs.List.{concat, fold}
 use Rattle.acl.specs.declared.user_id.UserId.{UserId}
 use Rattle.attach_proto.specs.Spelling.{IsSpellable, frame, spelling}
@@ -28,6 +28,20 @@ abbrev pub PutsFront : Kind → Option UserId → List ℕ → Waiting → Waiti
 PutsFront kind typist bytes old new =
     (front : List ℕ) × (rest : List ℕ) × (bytes ≡ front ++ rest) × PutsFrames kind typist front old new
 
+-- another frame of the draw follows one with this payload
+abbrev pub GoesOn : List ℕ → Type 0
+GoesOn bytes = (length bytes ≡ 1) ⊎ (length bytes ≡ 8192)
+
+-- A draw of these bytes was put. Its last frame has 2 to 8,191 bytes, and each one before it has 1 or 8,192.
+pub record PutsDraw (bytes : List ℕ) (old new : Waiting) : Type 0 where
+  pub pieces : List (List ℕ)
+  pub last : List ℕ
+  pub whole : concat pieces ++ last ≡ bytes
+  pub each : All GoesOn pieces
+  pub ends : (1 < length last) × (length last < 8192)
+  pub put : new ≡ with_frame None (frame kind.Draw last)
+      (fold (λ turn piece. with_frame None (frame kind.Draw piece) turn) old pieces)
+
 -- a message that a frame can hold was put after what waited
 abbrev pub PutsMessage : Message → Waiting → Waiting → Type 0
 PutsMessage m old new = IsSpellable m × (new ≡ record old { unsent = old.unsent ++ spelling m })
@@ -38,6 +52,11 @@ Sends (sending.Message m) = PutsMessage m.now
 Sends (sending.Draw bytes) = PutsFrames kind.Draw None bytes.now
 Sends (sending.Input bytes typist) = PutsFrames kind.Input typist bytes.now
 Sends (sending.Say text) = PutsMessage (message.Say text.now)
+
+-- from its frames a client knows where a draw of 2 bytes or more ends
+abbrev pub EndsDraw : Sending → Waiting → Waiting → Type 0
+EndsDraw (sending.Draw bytes) old new = 1 < length bytes.now → PutsDraw bytes.now old new
+EndsDraw other old new = ⊤
 
 -- what was put if it wasn't put whole: of bytes the frames of the first ones, of a message nothing
 abbrev pub SendsFront : Sending → Waiting → Waiting → Type 0

@@ -1,9 +1,11 @@
 //! What peers are sent, as frames.
 
-ghost use Rattle.std.specs.Prelude.{◌≡◌, Err, OnOk, OnErr};
+ghost use Rattle.std.specs.Prelude.{◌≡◌, ◌≤◌, ◌<◌, ◌+◌, ◌⊎◌, Err, None, OnOk, OnErr, length};
 ghost use Rattle.attach_proto.specs.Spelling.{IsSpellable, spelling};
+ghost use Rattle.attach_proto.specs.declared.kind.Kind.TheVariants as kind;
 ghost use Rattle.attach_proto.specs.declared.message.Message.TheVariants as message;
-ghost use Rattle.server_sending.specs.Frames.{IsUnspellable, PutsFrames, PutsFront, PutsMessage, Sends, SendsFront};
+ghost use Rattle.server_sending.specs.Frames.{EndsDraw, IsUnspellable, PutsDraw, PutsFrames, PutsFront, PutsMessage};
+ghost use Rattle.server_sending.specs.Frames.{Sends, SendsFront};
 ghost use Rattle.server_sending.specs.Causes.{told_of};
 
 use crate::turn::Turn;
@@ -87,17 +89,46 @@ fn put_frames(
     Ok(())
 }
 
+/// The length of a draw's next frame, which isn't the last one. At least 2 bytes are left for that.
+fn next_len(left: usize) -> usize
+    requires { 8192 ≤ left }
+    ensures goes_on { (result ≡ 1) ⊎ (result ≡ 8192) }
+    ensures leaves { result + 2 ≤ left }
+{
+    if left < LONGEST + 2 { 1 } else { LONGEST }
+}
+
+/// Puts a draw after what waits for a client. After a frame of 1 or 8,192 bytes a client expects another one, so the
+/// last frame has another length.
+fn put_draw(turn: &mut Turn, bytes: &[u8]) -> Result<(), AllocError>
+    ensures ok { OnOk result (PutsFrames kind.Draw None bytes.now turn.old turn.new) }
+    ensures ends { OnOk result (1 < length bytes.now → PutsDraw bytes.now turn.old turn.new) }
+    ensures err { OnErr result (PutsFront kind.Draw None bytes.now turn.old turn.new) }
+{
+    let mut rest = bytes;
+    'pieces: while rest.len() >= LONGEST {
+        let (piece, later) = rest.split_at(next_len(rest.len()));
+        turn.put_frame(head_of(Kind::Draw, piece), piece, None)?;
+        rest = later;
+    }
+    if rest.is_empty() {
+        return Ok(());
+    }
+    turn.put_frame(head_of(Kind::Draw, rest), rest, None)
+}
+
 /// Puts something after what waits for a peer. Bytes that are too long for one frame go into several.
 /// What no frame can hold is `Unspellable`. If memory is refused, the first of the bytes may
 /// have been put.
 pub fn put(alloc: Global, turn: &mut Turn, sending: Sending) -> Result<(), WriteFault>
     ensures ok { OnOk result (Sends sending.entry turn.old turn.new) }
+    ensures ends { OnOk result (EndsDraw sending.entry turn.old turn.new) }
     ensures unspellable { result ≡ Err WriteFault.Unspellable → IsUnspellable sending.entry }
     ensures err { OnErr result (SendsFront sending.entry turn.old turn.new) }
 {
     match sending {
         Sending::Message(message) => put_message(alloc, turn, message),
-        Sending::Draw(bytes) => Ok(put_frames(turn, Kind::Draw, bytes, None)?),
+        Sending::Draw(bytes) => Ok(put_draw(turn, bytes)?),
         Sending::Input(bytes, typist) => Ok(put_frames(turn, Kind::Input, bytes, typist)?),
         Sending::Say(text) => put_text(alloc, turn, text),
     }

@@ -1,4 +1,4 @@
-use Rattle.std.proofs.Common.{refl, true, nat_eq}
+use Rattle.std.proofs.Common.{refl}
 use Rattle.std.proofs.lemmas.Result.{on_ok_weaker}
 use Rattle.client_peer.specs.declared.peer.Peer.{Peer}
 use Rattle.client_peer.specs.Showing.{PassesOn}
@@ -8,15 +8,9 @@ use Rattle.client_peer.proofs.peer.Peer.show.Goals as goal
 pub returns-clause-ok : goal.returns-clause-ok
 returns-clause-ok c =
     let old : Peer = c.args.self.now in
-    let middle : Peer = record old {
-      is_cut = nat_eq c.len.result 8192;
-      has_drawn = true;
-      notice = record old.notice { is_hidden = true };
-    } in
     let new : Peer = c.put_draw.new.self in
-    on_ok_weaker {P = PassesOn middle new} {Q = PassesOn old new} c.put_draw.result
-    (λ p.
-    passes_then old middle new (passes_keeps old middle (record { subcommand = refl; draws = refl; kept = refl })) p)
+    on_ok_weaker {Q = PassesOn old new} c.put_draw.result
+    (λ p. passes_then old _ new (passes_keeps old _ (record { subcommand = refl; draws = refl; kept = refl })) p)
     c.put_draw.ensures.ok
 
 pub returns-then-self-clause-ok : goal.returns-then-self-clause-ok
