@@ -1,5 +1,6 @@
 -- The frames of a draw, one after the other.
-use Rattle.std.proofs.Common.{◌≡◌, ◌∙◌, ◌++◌, ◌∷◌, ◌<◌, [], List, ℕ, None, ap, sym, refl, arith, length, inl, inr, subst}
+use Rattle.std.proofs.Common.{◌≡◌, ◌∙◌, ◌++◌, ◌∷◌, ◌<◌, [], List, ℕ, None, ap, sym, refl, arith, length, subst}
+use Rattle.std.proofs.Common.{inl, inr}
 use Rattle.std.specs.List.{All, concat, fold}
 use Rattle.std.proofs.lemmas.List.Elements.{All-nil, All-push, All-weaker}
 use Rattle.std.proofs.lemmas.List.Sums.{fold-append}

@@ -1,4 +1,5 @@
-use Rattle.std.proofs.Common.{◌≡◌, ◌∙◌, ◌++◌, ◌<◌, ◌⊎◌, [], ap, sym, arith, refl, append_assoc, length, subst, List, ℕ, None}
+use Rattle.std.proofs.Common.{◌≡◌, ◌∙◌, ◌++◌, ◌<◌, ◌⊎◌, [], List, ℕ, None, ap, sym, arith, refl, append_assoc}
+use Rattle.std.proofs.Common.{length, subst}
 use Rattle.std.proofs.lemmas.Result.{on_ok_weaker}
 use Rattle.attach_proto.specs.declared.kind.Kind.TheVariants as kind
 use Rattle.server_sending.specs.Written.{Waiting, with_frame}
