@@ -1,12 +1,14 @@
 -- Who could replace what is in a folder.
-use Rattle.std.specs.Prelude.{◌≡◌, ◌⊎◌, ℕ, Bool, true, List, [], Option, Some, None, Result, Ok, Err, codes}
+use Rattle.std.specs.Prelude.{◌≡◌, ◌⊎◌, ℕ, Bool, true, false, List, [], Option, Some, None, Result, Ok, Err}
+use Rattle.std.specs.Prelude.{IfSome, codes}
 use Rattle.std.specs.IoError.{error_kind}
 use Rattle.std.specs.Path.{path_buf_bytes, path_parent}
+use Rattle.std.specs.String.{string_bytes}
 use Rattle.std.specs.declared.alloc.Global.{Global}
 use Rattle.std.specs.declared.io.Error.{Error}
 use Rattle.std.specs.declared.io.ErrorKind.TheVariants.{OutOfMemory}
 use Rattle.std.specs.declared.path.PathBuf.{PathBuf}
-use Rattle.server_users.specs.Trust.{IsKeptFolder}
+use Rattle.server_users.specs.Trust.{IsKeptFolder, LetsInto}
 use Rattle.server_users.specs.declared.trust.Access.{Access}
 use Rattle.server_system.specs.declared.folders.OpenFolder.{OpenFolder}
 use Rattle.server_system.specs.declared.host.Host.{Ghosts}
@@ -47,7 +49,25 @@ module _ {R A B C : Type 0} (system : Ghosts R A B C) (host : R) where
   IsTrusted account folder =
       (found : Stamp) × system.finds host folder (Ok found) × IsKeptFolder account (access_of found)
 
-  -- so was the one that holds what is at a path, for the account that the program runs as
+  -- the first open folder, from this one up: by the stamp that was found, others could replace what is in it
+  abbrev pub IsFirstOpen : ℕ → List ℕ → OpenFolder → Type 0
+  IsFirstOpen account first folder = (folder.account ≡ account)
+      × GoesUp (IsTrusted account) first (Some (string_bytes folder.path))
+      × (folder.is_above ≡ false → string_bytes folder.path ≡ first)
+      × (found : Stamp) × system.finds host (string_bytes folder.path) (Ok found)
+      × LetsInto account (access_of found) folder.flaw
+
+  -- the first open folder among those that hold what is at a path, for the account that the program runs as
+  abbrev pub IsOpenAt : List ℕ → OpenFolder → Type 0
+  IsOpenAt path folder = (account : ℕ) × (there : PathBuf Global) × system.runs_as host account
+      × system.leads host (holder_of path) (Ok there) × IsFirstOpen account (path_buf_bytes there) folder
+
+  -- the first open folder among those that hold a file, or among those that hold what the file leads to
+  abbrev pub IsOpenAtFile : List ℕ → OpenFolder → Type 0
+  IsOpenAtFile path folder = IsOpenAt path folder
+      ⊎ ((there : PathBuf Global) × system.leads host path (Ok there) × IsOpenAt (path_buf_bytes there) folder)
+
+  -- the folder that holds what is at a path was found trusted, for the account that the program runs as
   pub record IsHeld (path : List ℕ) : Type 0 where
     pub account : ℕ
     pub runs : system.runs_as host account
@@ -68,7 +88,8 @@ module _ {R A B C : Type 0} (system : Ghosts R A B C) (host : R) where
 
   -- what was found of the folders from the first one up, or why that can't be told
   abbrev pub IsClimbed : ℕ → List ℕ → Result (Option OpenFolder) Error → Type 0
-  IsClimbed account first (Ok found) = Looked (IsTrusted account) first found
+  IsClimbed account first (Ok found) =
+      Looked (IsTrusted account) first found × IfSome found (IsFirstOpen account first)
   IsClimbed account first (Err why) = IsUnseen why
 
   -- it isn't told where the folder is that holds what is at a path, or what it is
@@ -77,11 +98,11 @@ module _ {R A B C : Type 0} (system : Ghosts R A B C) (host : R) where
 
   -- so of the folders that hold what is at a path
   abbrev pub IsLooked : List ℕ → Result (Option OpenFolder) Error → Type 0
-  IsLooked path (Ok found) = may_pass found ≡ true → IsHeld path
+  IsLooked path (Ok found) = (may_pass found ≡ true → IsHeld path) × IfSome found (IsOpenAt path)
   IsLooked path (Err why) = IsUntold path why
 
   -- so of the folders that hold a file, and of those that hold what the file leads to
   abbrev pub IsLookedFile : List ℕ → Result (Option OpenFolder) Error → Type 0
-  IsLookedFile path (Ok found) = may_pass found ≡ true → IsHeldFile path
+  IsLookedFile path (Ok found) = (may_pass found ≡ true → IsHeldFile path) × IfSome found (IsOpenAtFile path)
   IsLookedFile path (Err why) = IsUntold path why ⊎ system.leads host path (Err why)
       ⊎ ((there : PathBuf Global) × system.leads host path (Ok there) × IsUntold (path_buf_bytes there) why)

@@ -12,7 +12,7 @@ use Rattle.acl.specs.declared.user_id.UserId.{UserId}
 use Rattle.server_users.specs.Entries.{Entry, IsFileOf, names}
 use Rattle.server_users.specs.Stands.{Breaks}
 use Rattle.server_users.specs.Trust.{IsClosed, IsKept, IsOwn}
-use Rattle.server_system.specs.Folders.{IsHeldFile, IsLookedFile, access_of}
+use Rattle.server_system.specs.Folders.{IsHeldFile, IsLookedFile, IsOpenAtFile, access_of}
 use Rattle.server_system.specs.declared.fault.UsersFileFault.{UsersFileFault}
 use Rattle.server_system.specs.declared.fault.UsersFileFault.TheVariants as fault
 use Rattle.server_system.specs.declared.host.Host.{Ghosts}
@@ -67,7 +67,8 @@ module _ {R A B C : Type 0} (system : Ghosts R A B C) (host : R) (path : List �
       ⊎ system.finds host path (Err why.0) ⊎ system.reads host path 1048577 (Err why.0))
   IsUnfound (fault.NotPlain at) =
       (string_bytes at ≡ path) × (stamp : Stamp) × system.finds host path (Ok stamp) × (IsPlain stamp → ⊥)
-  IsUnfound (fault.Folder at folder) = string_bytes at ≡ path
+  IsUnfound (fault.Folder at folder) =
+      (string_bytes at ≡ path) × (folder.is_above ≡ false) × IsOpenAtFile system host path folder
   IsUnfound fault.NoMemory = Unit {0}
   IsUnfound other = ⊥
 
