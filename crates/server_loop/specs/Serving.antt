@@ -1,5 +1,5 @@
 -- What a connection asked for is done: its messages in order, and what isn't done of one is put back, to come first.
-use Rattle.std.specs.Prelude.{◌≡◌, ◌⊎◌, ◌+◌, ◌==◌, ◌&&◌, ℕ, Bool, true, false, not, Option, Some, None}
+use Rattle.std.specs.Prelude.{◌≡◌, ◌+◌, ◌==◌, ◌&&◌, ℕ, Bool, false, not, Option, Some, None}
 use Rattle.std.specs.Prelude.{◌||◌, is_some, min, nat_le, nat_lt}
 use Rattle.slab.specs.Slab.{get}
 use Rattle.server_connections.specs.declared.connections.Connections.{Connections}

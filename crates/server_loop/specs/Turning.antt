@@ -23,7 +23,7 @@ use Rattle.server_steps.specs.declared.turns.Writes.{Writes as Written}
 use Rattle.server_loop.specs.Awaiting.{EndsBy}
 use Rattle.server_loop.specs.Drawing.{DrawsAll}
 use Rattle.server_loop.specs.Handing.{HandsOut}
-use Rattle.server_loop.specs.Leaving.{IfBool, Loses, TriesLeaving}
+use Rattle.server_loop.specs.Leaving.{Loses, TriesLeaving}
 use Rattle.server_loop.specs.Submitting.{CountsOff, State, peer_at, with_peer}
 use Rattle.server_loop.specs.Walking.{VisitsAll}
 use Rattle.server_loop.specs.Writing.{DropsLaggard, DropsLost, Writes}

@@ -1,6 +1,7 @@
 //! What connections are sent, and when they are drawn.
 
 ghost use Rattle.std.specs.Prelude.{◌≡◌, ◌-◌};
+ghost use Rattle.std.specs.List.{list_any};
 ghost use Rattle.slab.specs.Slab.{get};
 ghost use Rattle.server_sending.specs.Frames.{Sends, SendsFront};
 ghost use Rattle.server_steps.specs.Meaning.{role_at};
@@ -30,6 +31,13 @@ fn ends_window(effect: &Effect) -> bool
     ensures { result ≡ ends_window effect.now }
 {
     matches!(effect, Effect::Gone(session::Peer::Window(_), _))
+}
+
+// Whether it ended one by these effects.
+fn end_windows(effects: &[(Effect, Option<UserId>)]) -> bool
+    ensures { result ≡ list_any (λ sent. ends_window sent.0) effects.now }
+{
+    effects.iter().any(|sent| ends_window(&sent.0))
 }
 
 impl<S: PeerStream + Drop, G: Gate + Drop, J: SessionSeat + Drop> Loop<S, G, J> {
@@ -114,7 +122,7 @@ impl<S: PeerStream + Drop, G: Gate + Drop, J: SessionSeat + Drop> Loop<S, G, J> 
     fn drop_ended(&mut self, rt: &impl Wait, effects: &[(Effect, Option<UserId>)])
         ensures { DropsEnded J.SessionSeat effects.now (state_of self.old) (state_of self.new) }
     {
-        if !effects.iter().any(|sent| ends_window(&sent.0)) {
+        if !end_windows(effects) {
             return;
         }
         each_awake(self, |own, key| own.drop_typed(rt, key));
