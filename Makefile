@@ -35,12 +35,14 @@ check:
 	@test -n "$(CRATE)" || { echo "make check CRATE=name" >&2; exit 2; }
 	@cd crates/$(CRATE) && $(RT) check
 
-# The gate: every proof from nothing, the must-fail edits, the tests and the programs, and then the tests of refused
-# memory with each of their allocations refused in turn.  As many crates at a time as there are processors, each with one
-# job, but no more than four: a proof takes up to 4 GB.  RT_JOBS=2 make test: two.
+# The gate: every proof from nothing, the must-fail edits, the tests and the programs; then whether all is there that the
+# specification and docs/PROVED.md name, and the tests of refused memory with each of their allocations refused in turn.
+# As many crates at a time as there are processors, each with one job, but no more than four: a proof takes up to 4 GB.
+# RT_JOBS=2 make test: two.
 LANES = $(shell n=$$(nproc); test $$n -le 4 || n=4; echo $$n)
 test:
 	@RT='$(RT)' RT_JOBS=$${RT_JOBS:-$(LANES)} tools/rt ci
+	@tools/lint named >&2 && tools/lint claims >&2
 	@RT='$(RT)' tools/refusals >&2
 
 # Tries the edits of edits/ in copies of the tree: all, or make edits CRATE=acl.
