@@ -101,14 +101,18 @@ def said_later():
         with Fake(WELCOME + frame(b"s", b"line: 1 at 0")) as fake, Client(fake.words("--assist")) as it:
             check("with --assist a refusal by number is explained", it.shows(b"line: 1 at 0 (unknown command)"),
                   str(it.out))
-    # a draw that is cut at the longest frame: the text waits for its end
+    # a draw that is cut: after frames of 8,192 bytes and of one byte the text waits for its end
     long = (b"\x1b[m" * 3000)[:8192]
     with Fake(WELCOME + frame(b"d", long) + frame(b"s", DROPPED)) as fake, Client(fake.words()) as it:
         it.shows(long)
         time.sleep(0.5)
         check("a text waits while a draw is half there", it.out == long, str(it.out[-60:]))
         fake.kept[-1].sendall(frame(b"d", b"m"))
-        check("and comes after it", it.shows(DROPPED) and it.out.startswith(long + b"m\x1b7"), str(it.out[-99:]))
+        time.sleep(0.5)
+        check("also after a frame of one byte", it.out == long + b"m", str(it.out[-60:]))
+        fake.kept[-1].sendall(frame(b"d", b"\x1bE"))
+        check("and comes after its last frame", it.shows(DROPPED) and it.out.startswith(long + b"m\x1bE\x1b7"),
+              str(it.out[-99:]))
 
 
 def slow_program():
