@@ -191,9 +191,17 @@ take_lock() {
     exec 9<"$1"
     flock -w 60 9 || fault "another mux-console, mux-guest, mux-rights or mux-turn has held the lock for a minute: $1: try again"
 }
-# session_mark: prints what names the session: a mark, if it goes on over restarts (muxd-run --again), else its socket.
+# is_open FOLDER: whether others may write there.
+is_open() {
+    [ -n "$(find -L "$1" -prune -perm /022 2>/dev/null)" ]
+}
+# has_mark: whether the session goes on over restarts (muxd-run --again).  In an open folder the mark may be anybody's.
+has_mark() {
+    [ -f "$socket.session" ] && [ -s "$socket.session" ] && ! is_open "$(dirname -- "$socket")"
+}
+# session_mark: prints what names the session: its mark, or else its socket.
 session_mark() {
-    { [ -f "$socket.session" ] && cat -- "$socket.session" 2>/dev/null; } || socket_now
+    { has_mark && cat -- "$socket.session" 2>/dev/null; } || socket_now
 }
 socket_now() {
     stat -c '%d %i %z' -- "$socket" 2>/dev/null
@@ -289,9 +297,7 @@ newest_trail() {
 wait_for_reader() (
     settings=$(stty -g) || exit 0
     trap 'stty "$settings"' EXIT
-    trap 'exit 129' HUP
-    trap 'exit 130' INT
-    trap 'exit 143' TERM
+    exit_on_signals
     stty -icanon -echo
     perl -e 'vec(my $in, 0, 1) = 1; select($in, undef, undef, 2)' 2>/dev/null || sleep 2
 )
