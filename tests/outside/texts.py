@@ -451,7 +451,6 @@ def lesson(play, on, text, accounts):
     accounts.open("tess", "tess")
     play.run("tess", "mux-user --users ~/class/users add own tess ann bob eve")
     accounts.root("mux-user --users ~tess/class/users give ann bob eve", "it needs other logins")
-    text.leave("tests/outside/consoles plays it", "mux-user replace")
     # The setup is written as the text has it.
     setup = re.search(r"^    multiuser on\n(?:    .*\n)*", text.whole, re.M)[0].replace("    ", "")
     on.run("tess", "printf '%%s' '%s' > ~/class/setup; clear" % setup)
@@ -556,6 +555,11 @@ def turns(play, on, text, accounts):
     on.run("tess", "turn none; clear")
     denied("ann")
     on.type("lesson", "echo still tess\n", shows=r"^(\$ )?still tess", by="ann")
+    # C-c between two shells ends nothing.
+    on.type("lesson", "exit\n")
+    time.sleep(0.3)
+    on.keys("lesson", "C-c")
+    on.type("lesson", "echo anew\n", shows=r"^(\$ )?anew", by="ann")
 
 
 def again(on):
