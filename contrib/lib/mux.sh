@@ -12,6 +12,7 @@ socket=${MUX_SOCKET:-${XDG_RUNTIME_DIR:+$XDG_RUNTIME_DIR/mux/socket}}
 user=${MUX_USER:-}
 token=${MUX_TOKEN:-}
 lock=${MUX_LOCK:-}
+joined='' others='' front=''
 newline='
 '
 
@@ -66,7 +67,7 @@ read_options() {
         *,*" $called "*,*) value=yes ;;
         *) fault "invalid argument: $1 (see $program --help)" 2 ;;
         esac
-        [ "$called" != "${joined-}" ] || eval "value=\$$called\${$called:+,}\$value"
+        [ "$called" != "$joined" ] || eval "value=\$$called\${$called:+,}\$value"
         eval "$called=\$value"
         used=$((used + 1))
         shift
@@ -250,7 +251,7 @@ in_front() {
 }
 # end_front: ends what in_front runs.
 end_front() {
-    [ -z "${front-}" ] || { kill "$front" && wait "$front"; } 2>/dev/null || :
+    [ -z "$front" ] || { kill "$front" && wait "$front"; } 2>/dev/null || :
 }
 # exit_on_signals: on a signal the script ends by its trap EXIT.
 exit_on_signals() {
