@@ -5,7 +5,8 @@ usage: client.py attach SOCKET USER TOKEN                      this terminal as 
        client.py window SOCKET USER TOKEN [COMMAND [WORD..]]   a program (default: $SHELL) as a window
        client.py command SOCKET USER TOKEN LINE [WINDOW]       a command, for the window with that number
 
-TOKEN is the file of the user's token.  muxd(8), "The protocol", describes the bytes on the socket.  Status: 0 after
+TOKEN is the file of the user's token.  muxd(8), "The protocol", describes the bytes on the socket.  Attach only to a
+server of your own: unlike mux attach, this writes what comes as a draw to the terminal, whatever it is.  Status: 0 after
 detach, quit and the end of a window; 1 for a refusal or another end, with a message; 2 for invalid arguments.
 """
 import fcntl

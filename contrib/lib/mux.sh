@@ -85,6 +85,10 @@ find_session() {
     [ -n "$token" ] || token=$config/$user.token
 }
 
+need_mux() {
+    command -v -- "$mux" >/dev/null || fault "no program $mux: set MUX or PATH"
+}
+
 # find_users_file: the users' file, where nothing says which.
 find_users_file() {
     users=$config/users
