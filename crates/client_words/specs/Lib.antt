@@ -1,3 +1,4 @@
+pub mod Asking
 pub mod Beginning
 pub mod Ending
 pub mod Leaving

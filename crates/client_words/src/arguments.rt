@@ -1,18 +1,52 @@
 //! The arguments of `mux`, and the first message that they make.
 
-ghost use Rattle.std.specs.Prelude.{◌≡◌, ◌↔◌, IsTrue, IfOk, Err, Some};
+ghost use Rattle.std.specs.Prelude.{◌≡◌, ◌↔◌, IsTrue, IfErr, IfOk, IfSome, Err, None, Some, map};
+ghost use Rattle.std.specs.String.{string_bytes};
 ghost use Rattle.attach_proto.specs.declared.fault.WriteFault.TheVariants as fault;
 ghost use Rattle.attach_proto.specs.declared.message.Message.TheVariants as message;
+ghost use Rattle.clap.specs.Words.{found_of, subcommand_rows_of};
+ghost use Rattle.client_words.specs.Asking.{AreAsked, AreFound, AreOf, AreRefused, IsNumberAt, again_name};
+ghost use Rattle.client_words.specs.Asking.{subcommand_of, text_at};
 ghost use Rattle.client_words.specs.Beginning.{first_message, IsFrameOf, HasNoFrame};
 ghost use Rattle.client_words.specs.declared.arguments.Subcommand.TheVariants.{Attach, Window, Command, Ping};
 
 use crate::scripts::tell_mistake;
 use attach_proto::{Bytes, Message, Text, Token, WriteFault, write_message};
-use clap::ArgMatches;
+use clap::{ArgMatches, Error};
 use program_words::of_client;
 use std::alloc::{AllocError, Global};
 use std::fmt;
 use std::io::Write;
+
+/// A runtime that understands the arguments of `mux`. Each relation is shown by a call of its function alone.
+pub trait ClientHost: AllocGlobal {
+    ghost use Rattle.std.specs.Prelude.{ℕ, IfErr, IfOk, List, map};
+    ghost use Rattle.std.specs.String.{string_bytes};
+    ghost use Rattle.clap.specs.Words.{kind_of};
+    ghost use Rattle.clap.specs.declared.error.kind.ErrorKind.{ErrorKind};
+    ghost use Rattle.clap.specs.declared.parser.matches.ArgMatches.{ArgMatches as Matches};
+
+    // The arguments, and what they were understood as.
+    ghost means: { Self → List (List ℕ) → Matches → Type 0 };
+    // The arguments, and why they aren't understood.
+    ghost refuses: { Self → List (List ℕ) → ErrorKind → Type 0 };
+
+    /// The arguments as they were understood; the first one is the program's name.
+    fn matches_of<'a>(&self, words: &'a [String]) -> Result<ArgMatches<'a>, Error>
+        ensures ok { IfOk result (means self.now (map string_bytes words.entry.now)) }
+        ensures err { IfErr result (λ error. refuses self.now (map string_bytes words.entry.now) (kind_of error)) };
+}
+
+impl<R: AllocGlobal> ClientHost for R {
+    // Which arguments are understood, no clause can say.
+    ghost means = { λ host words matches. Unit {0} };
+
+    ghost refuses = { λ host words kind. Unit {0} };
+
+    fn matches_of<'a>(&self, words: &'a [String]) -> Result<ArgMatches<'a>, Error> {
+        of_client(self.alloc(), words)
+    }
+}
 
 /// What a peer is to the server.
 #[derive(Clone, Copy)]
@@ -25,12 +59,24 @@ pub enum Subcommand {
 }
 
 impl Subcommand {
-    fn of(name: &str) -> Subcommand {
+    fn of(name: &str) -> Subcommand
+        ensures { result ≡ subcommand_of name.now }
+    {
         match name {
             "attach" => Subcommand::Attach,
             "window" => Subcommand::Window,
             "ping" => Subcommand::Ping,
             _ => Subcommand::Command,
+        }
+    }
+
+    // The argument that says for how long a peer tries to come back.
+    fn again_name(self) -> &'static str
+        ensures { result.now ≡ again_name self }
+    {
+        match self {
+            Subcommand::Window => "stay",
+            _ => "again",
         }
     }
 
@@ -90,17 +136,23 @@ pub struct Arguments<'a> {
     pub line: &'a str,
 }
 
-fn text<'a>(matches: &ArgMatches<'a>, name: &str) -> &'a str {
+fn text<'a>(matches: &ArgMatches<'a>, name: &str) -> &'a str
+    ensures { result.now ≡ text_at (found_of matches.now) name.now }
+{
     matches.get_str(name).unwrap_or("")
 }
 
-fn number(matches: &ArgMatches, name: &str) -> u16 {
+fn number(matches: &ArgMatches, name: &str) -> u16
+    ensures { IsNumberAt (found_of matches.now) name.now result }
+{
     matches.get_one::<u16>(name).unwrap_or(0)
 }
 
 impl<'a> Arguments<'a> {
     // Whatever the subcommand needs is there: without it there would be no matches.
-    fn of_subcommand(subcommand: Subcommand, matches: &ArgMatches<'a>) -> Arguments<'a> {
+    fn of_subcommand(subcommand: Subcommand, matches: &ArgMatches<'a>) -> Arguments<'a>
+        ensures { AreOf subcommand (found_of matches.now) result }
+    {
         Arguments {
             subcommand,
             socket: text(matches, "socket"),
@@ -113,10 +165,7 @@ impl<'a> Arguments<'a> {
             leave: matches.get_one::<u8>("leave"),
             fit: matches.get_flag("fit"),
             assist: matches.get_flag("assist"),
-            again: match subcommand {
-                Subcommand::Window => number(matches, "stay"),
-                _ => number(matches, "again"),
-            },
+            again: number(matches, subcommand.again_name()),
             wait: number(matches, "wait"),
             title: text(matches, "title"),
             keep: number(matches, "keep"),
@@ -126,7 +175,10 @@ impl<'a> Arguments<'a> {
     }
 
     /// None if no subcommand is named.
-    fn of(matches: &ArgMatches<'a>) -> Option<Arguments<'a>> {
+    fn of(matches: &ArgMatches<'a>) -> Option<Arguments<'a>>
+        ensures some { IfSome result (AreFound matches.now) }
+        ensures none { result ≡ None → subcommand_rows_of matches.now ≡ None }
+    {
         let (name, matches) = matches.subcommand()?;
         Some(Arguments::of_subcommand(Subcommand::of(name), matches))
     }
@@ -167,7 +219,9 @@ impl<'a> Arguments<'a> {
     }
 
     /// The user and the socket.
-    pub fn place(&self) -> PeerPlace<'a> {
+    pub fn place(&self) -> PeerPlace<'a>
+        ensures { result ≡ record { user = self.now.user; socket = self.now.socket } }
+    {
         PeerPlace {
             user: self.user,
             socket: self.socket,
@@ -235,14 +289,17 @@ pub fn frame_of(alloc: Global, message: &Message) -> Result<Vec<u8>, WriteFault>
 
 /// The values of the arguments, which begin with the program's name. If they are invalid, writes why and
 /// returns the exit status.
-pub fn arguments_of<'a, O: Write, E: Write>(
-    alloc: Global,
+pub fn arguments_of<'a, R: ClientHost, O: Write, E: Write>(
+    rt: &R,
     words: &'a [String],
     output: &mut O,
     errors: &mut E,
-) -> Result<Arguments<'a>, u8> {
-    match of_client(alloc, words) {
+) -> Result<Arguments<'a>, u8>
+    ensures ok { IfOk result (AreAsked (R.means rt.now) (map string_bytes words.entry.now)) }
+    ensures err { IfErr result (AreRefused (R.means rt.now) (R.refuses rt.now) (map string_bytes words.entry.now)) }
+{
+    match rt.matches_of(words) {
         Ok(matches) => Arguments::of(&matches).ok_or(2),
-        Err(error) => Err(tell_mistake(alloc, &error, words, output, errors)),
+        Err(error) => Err(tell_mistake(rt.alloc(), &error, words, output, errors)),
     }
 }

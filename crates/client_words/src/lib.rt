@@ -10,7 +10,7 @@ mod scripts;
 mod size_lines;
 mod visible;
 
-pub use arguments::{Arguments, Subcommand, arguments_of, frame_of};
+pub use arguments::{Arguments, ClientHost, Subcommand, arguments_of, frame_of};
 pub use fault::{PeerFault, RefusedPart, ToldFault, gone, status_after};
 pub use leaving::{InputStage, LeaveReader};
 pub use refusals::explain;

@@ -104,7 +104,7 @@ pub fn client<R: PeerHost + Threads + Wait + Files<File = File>, I: Source, O: S
 ) -> u8 {
     let mut output = output;
     let mut asked = Vec::new(rt.alloc());
-    let arguments = match arguments_of(rt.alloc(), words, &mut asked, errors) {
+    let arguments = match arguments_of(rt, words, &mut asked, errors) {
         Ok(arguments) => arguments,
         Err(status) => return print(&asked, status, &mut output, errors),
     };

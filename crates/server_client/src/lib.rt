@@ -13,14 +13,15 @@ mod writing;
 
 pub use attach::client;
 pub use beside::Connects;
+use client_words::ClientHost;
 use std::io::{Read, Write};
 use std::time::Clock;
 
 /// A runtime with what a peer's threads ask for, except to wait and to start threads: a function says
 /// these two itself, as they let it never return.
-pub trait PeerHost: Connects + AllocGlobal + Clock + Copy + Send + 'static {}
+pub trait PeerHost: Connects + ClientHost + AllocGlobal + Clock + Copy + Send + 'static {}
 
-impl<R: Connects + AllocGlobal + Clock + Copy + Send + 'static> PeerHost for R {}
+impl<R: Connects + ClientHost + AllocGlobal + Clock + Copy + Send + 'static> PeerHost for R {}
 
 /// What a peer reads its input from, in a thread of its own.
 pub trait Source: Read + Send + Drop + 'static {}
