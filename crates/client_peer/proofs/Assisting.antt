@@ -1,15 +1,16 @@
 -- What a client with keys of its own sends.
-use Rattle.std.proofs.Common.{◌≡◌, ◌∙◌, ℕ, ◌-◌, List, [], true, false, refl, sym, ap, subst, Result, Ok, Err}
+use Rattle.std.proofs.Common.{◌≡◌, ◌∙◌, ℕ, ◌-◌, List, [], true, false, refl, sym, ap, subst, Option, Result, Ok, Err}
 use Rattle.std.specs.Prelude.{OnOk}
 use Rattle.attach_proto.specs.declared.kind.Kind.TheVariants.{Keys}
 use Rattle.client_notice.specs.Notices.{IsNew, scrolled}
 use Rattle.client_typing.specs.Assisting.{Assists, Makes, at}
 use Rattle.client_typing.specs.declared.typing.Typing.{Typing}
-use Rattle.client_peer.specs.declared.looking.Timers.{Timers}
+use Rattle.client_typing.specs.Following.{IsSet}
+use Rattle.client_words.specs.declared.leaving.LeaveReader.{LeaveReader}
 use Rattle.client_peer.specs.declared.peer.Peer.{Peer}
 use Rattle.client_typing.specs.Framing.{Sends}
 use Rattle.client_peer.specs.Showing.{IsUncovered, ShowsHelp, helping}
-use Rattle.client_peer.specs.Typing.{SendsAssisted, TellsScrolled, Presses}
+use Rattle.client_peer.specs.Typing.{SendsAssisted, TellsScrolled, pressing, reading}
 use Rattle.client_peer.proofs.Passing.{passes_keeps, passes_then}
 
 -- the help is shown after what put nothing down for the terminal
@@ -77,31 +78,18 @@ sends_assisted (Ok x) old second third new t keys sent out a first sends is told
           subst (λ (p : Peer). IsUncovered p new) whole (other (asks ∙ e));
     }
 
--- keys are pressed after they were read
-pub presses_read : (old new : Peer) (t : Typing) (reads : ℕ) (times : Timers) (typed : List ℕ)
-    → t ≡ record old.typing { leave = t.leave; reads = reads }
-    → Presses (record old { typing = t; times = times }) new typed → Presses old new typed
-presses_read old new t reads times typed same p =
-    let middle : Peer = record old { typing = record old.typing { leave = t.leave; reads = reads }; times = times } in
-    let q : Presses middle new typed =
-    subst (λ (s : Typing). Presses (record old { typing = s; times = times }) new typed) same p in record {
-      sends = λ seat none. q.sends (record { client = seat.client; here = seat.here; shown = seat.shown }) none;
-      follows = λ seat none fits.
-          q.follows (record { client = seat.client; here = seat.here; shown = seat.shown }) none fits;
-      assisted = λ seat is.
-          let a : SendsAssisted middle new typed =
-          q.assisted (record { client = seat.client; here = seat.here; shown = seat.shown }) is in record {
-            sent = a.sent;
-            frames = a.frames;
-            makes = a.makes;
-            sends = a.sends;
-            tells = record { same = a.tells.same; end = a.tells.end; back = a.tells.back };
-            helps = λ asks. shows_after old middle new (a.helps asks);
-            other = a.other;
-          };
-      plain = q.plain;
-      lost = q.lost;
-      ends = q.ends;
-      lasts = q.lasts;
-      helped = q.helped;
-    }
+-- what was read stays as it is while keys are pressed
+read_is : (old new t : Typing) (reads : ℕ) → t ≡ record old { leave = t.leave; reads = reads } → IsSet t new
+    → t ≡ record old { leave = new.leave; reads = new.reads }
+read_is old new t reads same set =
+    same ∙ ap (λ (l : Option LeaveReader). record old { leave = l; reads = reads }) (sym set.0)
+    ∙ ap (λ (n : ℕ). record old { leave = new.leave; reads = n }) (sym (set.2 ∙ ap (λ (s : Typing). s.reads) same))
+
+module _ (old new : Peer) (t : Typing) (reads : ℕ) (same : t ≡ record old.typing { leave = t.leave; reads = reads })
+    (set : IsSet t new.typing) where
+  pub reading_is : record old { typing = t } ≡ reading old new
+  reading_is = ap (λ (s : Typing). record old { typing = s }) (read_is old.typing new.typing t reads same set)
+
+  pub pressing_is : record old { typing = t; times = record old.times { has_typed = true } } ≡ pressing old new
+  pressing_is = ap (λ (s : Typing). record old { typing = s; times = record old.times { has_typed = true } })
+      (read_is old.typing new.typing t reads same set)
