@@ -1,7 +1,10 @@
 -- What a client with keys of its own sends.
-use Rattle.std.proofs.Common.{◌≡◌, ◌∙◌, ℕ, ◌-◌, List, [], true, false, refl, sym, ap, subst, Option, Result, Ok, Err}
+use Rattle.std.proofs.Common.{◌≡◌, ◌∙◌, ℕ, ◌-◌, ◌<◌, List, [], ◌++◌, length, true, false, refl, sym, ap, subst, arith}
+use Rattle.std.proofs.Common.{Option, None, Result, Ok, Err}
 use Rattle.std.specs.Prelude.{OnOk}
 use Rattle.attach_proto.specs.declared.kind.Kind.TheVariants.{Keys}
+use Rattle.attach_proto.specs.declared.message.Message.TheVariants.{Resize}
+use Rattle.attach_proto.specs.Spelling.{spelling}
 use Rattle.client_notice.specs.Notices.{IsNew, scrolled}
 use Rattle.client_typing.specs.Assisting.{Assists, Makes, at}
 use Rattle.client_typing.specs.declared.typing.Typing.{Typing}
@@ -10,8 +13,9 @@ use Rattle.client_words.specs.declared.leaving.LeaveReader.{LeaveReader}
 use Rattle.client_peer.specs.declared.peer.Peer.{Peer}
 use Rattle.client_typing.specs.Framing.{Sends}
 use Rattle.client_peer.specs.Showing.{IsUncovered, ShowsHelp, helping}
-use Rattle.client_peer.specs.Typing.{SendsAssisted, TellsScrolled, pressing, reading}
+use Rattle.client_peer.specs.Typing.{Presses, SendsAssisted, TellsScrolled, Types, longest_key, pressing, reading}
 use Rattle.client_peer.proofs.Passing.{passes_keeps, passes_then}
+use Rattle.client_peer.proofs.Waiting.{not_none}
 
 -- the help is shown after what put nothing down for the terminal
 shows_after : (old other new : Peer) → ShowsHelp
@@ -93,3 +97,24 @@ module _ (old new : Peer) (t : Typing) (reads : ℕ) (same : t ≡ record old.ty
   pub pressing_is : record old { typing = t; times = record old.times { has_typed = true } } ≡ pressing old new
   pressing_is = ap (λ (s : Typing). record old { typing = s; times = record old.times { has_typed = true } })
       (read_is old.typing new.typing t reads same set)
+
+-- keys are typed after the help was taken away, or at once
+pub presses : {T E : Type 0} (r : Result T E) (old page new : Peer) (typed : List ℕ) → old.loss ≡ None
+    → (new.is_final ≡ old.is_final) × (new.end ≡ old.end) → (old.is_helping ≡ false → page ≡ old)
+    → (old.is_helping ≡ true → (page.frames.items ≡ old.frames.items ++ spelling (Resize old.rows old.columns))
+    × (page ≡ record old { frames = page.frames; is_helping = false; is_covered = old.is_cut })
+    × (longest_key < length typed)) → OnOk r (Types page new typed) → OnOk r (Presses old new typed)
+presses (Err e) old page new typed here lasts free helped t = tt
+presses (Ok x) old page new typed here lasts free helped t = record {
+  types = λ h shown. subst (λ (p : Peer). Types p new typed) (free shown) t;
+  helped = λ h is. record {
+    page = page;
+    asks = (helped is).0;
+    goes = (helped is).1;
+    key = λ few. absurd (omega (arith, few, (helped is).2));
+    more = λ many. t;
+  };
+  lost = λ some. absurd (not_none old.loss here some);
+  ends = λ some c. absurd (not_none old.loss here some);
+  lasts = λ no. lasts;
+}

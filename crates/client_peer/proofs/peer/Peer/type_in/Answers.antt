@@ -25,8 +25,13 @@ returns-clause-types c = λ more.
       presses = λ client some. (
         subst (λ (p : Peer). Presses p new c.read.new.out.items)
             (pressing_is old new c.read.new.self _ c.read.ensures.same c.press.ensures.set)
-            (subst (λ (l : List ℕ). Presses (record old { typing = c.read.new.self; times = record old.times { has_typed
-            = true } }) new l) c.deref-2.ensures.value c.in_ok-press.ensures.presses),
+            (subst (λ (l : List ℕ). Presses (record old {
+              typing = c.read.new.self;
+              times = record old.times {
+                has_typed
+                    = true;
+              };
+            }) new l) c.deref-2.ensures.value c.in_ok-press.ensures.presses),
         ap (λ (p : Peer). p.times.has_typed) c.press.ensures.same,
       );
     }
