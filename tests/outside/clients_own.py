@@ -144,7 +144,7 @@ def slow_program():
 
 
 def helped():
-    """C-a ? shows the keys, any key comes back, and the session hears of neither; the prompt and C-a C-a stay."""
+    """C-a ? shows the keys, any key comes back, the session hears of neither; pastes, the prompt and C-a C-a stay."""
     with Fake(WELCOME + frame(b"d", b"\x1bcpage")) as fake, Client(fake.words("--assist")) as it:
         it.shows(b"page")
         it.type(b"\x01")
@@ -161,6 +161,14 @@ def helped():
         check("and draws are shown again", it.shows(b"\x1bcagain"))
         it.type(b"\x01\x01?\x01:?\r\x01a?\x01d", 0.3)
         equal("in the prompt, after C-a C-a and after C-a a it is a key", fake.typed(), b"\x01\x01?\x01:?\r\x01a?\x01d")
+        size = (b"R", two(24) + two(80))
+        for what, keys, sent in (("a paste is typed", b"rm -r old/copy\r", [size, (b"K", b"rm -r old/copy\r")]),
+                                 ("a function key isn't", b"\x1b[24;8~", [size])):
+            before, shown = len(fake.frames()), it.out.count(b"Any key comes back.")
+            it.type(b"\x01?", 0.3)
+            check("the keys are shown again", it.out.count(b"Any key comes back.") == shown + 1, str(it.out))
+            it.type(keys, 0.3)
+            equal(f"over them {what}", fake.frames()[before:], sent)
     with Fake(WELCOME) as fake, Client(fake.words()) as it:
         it.type(b"\x01?")
         check("without --assist it is sent", once(lambda: fake.typed() == b"\x01?", 5), str(fake.typed()))

@@ -1,16 +1,21 @@
 -- What a client with keys of its own sends.
-use Rattle.std.proofs.Common.{◌≡◌, ◌∙◌, ℕ, ◌-◌, List, [], true, false, refl, sym, ap, subst, Result, Ok, Err}
+use Rattle.std.proofs.Common.{◌≡◌, ◌∙◌, ℕ, ◌-◌, ◌<◌, List, [], ◌++◌, length, true, false, refl, sym, ap, subst, arith}
+use Rattle.std.proofs.Common.{Option, None, Result, Ok, Err}
 use Rattle.std.specs.Prelude.{OnOk}
 use Rattle.attach_proto.specs.declared.kind.Kind.TheVariants.{Keys}
+use Rattle.attach_proto.specs.declared.message.Message.TheVariants.{Resize}
+use Rattle.attach_proto.specs.Spelling.{spelling}
 use Rattle.client_notice.specs.Notices.{IsNew, scrolled}
 use Rattle.client_typing.specs.Assisting.{Assists, Makes, at}
 use Rattle.client_typing.specs.declared.typing.Typing.{Typing}
-use Rattle.client_peer.specs.declared.looking.Timers.{Timers}
+use Rattle.client_typing.specs.Following.{IsSet}
+use Rattle.client_words.specs.declared.leaving.LeaveReader.{LeaveReader}
 use Rattle.client_peer.specs.declared.peer.Peer.{Peer}
 use Rattle.client_typing.specs.Framing.{Sends}
 use Rattle.client_peer.specs.Showing.{IsUncovered, ShowsHelp, helping}
-use Rattle.client_peer.specs.Typing.{SendsAssisted, TellsScrolled, Presses}
+use Rattle.client_peer.specs.Typing.{Presses, SendsAssisted, TellsScrolled, Types, longest_key, pressing, reading}
 use Rattle.client_peer.proofs.Passing.{passes_keeps, passes_then}
+use Rattle.client_peer.proofs.Waiting.{not_none}
 
 -- the help is shown after what put nothing down for the terminal
 shows_after : (old other new : Peer) → ShowsHelp
@@ -77,31 +82,39 @@ sends_assisted (Ok x) old second third new t keys sent out a first sends is told
           subst (λ (p : Peer). IsUncovered p new) whole (other (asks ∙ e));
     }
 
--- keys are pressed after they were read
-pub presses_read : (old new : Peer) (t : Typing) (reads : ℕ) (times : Timers) (typed : List ℕ)
-    → t ≡ record old.typing { leave = t.leave; reads = reads }
-    → Presses (record old { typing = t; times = times }) new typed → Presses old new typed
-presses_read old new t reads times typed same p =
-    let middle : Peer = record old { typing = record old.typing { leave = t.leave; reads = reads }; times = times } in
-    let q : Presses middle new typed =
-    subst (λ (s : Typing). Presses (record old { typing = s; times = times }) new typed) same p in record {
-      sends = λ seat none. q.sends (record { client = seat.client; here = seat.here; shown = seat.shown }) none;
-      follows = λ seat none fits.
-          q.follows (record { client = seat.client; here = seat.here; shown = seat.shown }) none fits;
-      assisted = λ seat is.
-          let a : SendsAssisted middle new typed =
-          q.assisted (record { client = seat.client; here = seat.here; shown = seat.shown }) is in record {
-            sent = a.sent;
-            frames = a.frames;
-            makes = a.makes;
-            sends = a.sends;
-            tells = record { same = a.tells.same; end = a.tells.end; back = a.tells.back };
-            helps = λ asks. shows_after old middle new (a.helps asks);
-            other = a.other;
-          };
-      plain = q.plain;
-      lost = q.lost;
-      ends = q.ends;
-      lasts = q.lasts;
-      helped = q.helped;
-    }
+-- what was read stays as it is while keys are pressed
+read_is : (old new t : Typing) (reads : ℕ) → t ≡ record old { leave = t.leave; reads = reads } → IsSet t new
+    → t ≡ record old { leave = new.leave; reads = new.reads }
+read_is old new t reads same set =
+    same ∙ ap (λ (l : Option LeaveReader). record old { leave = l; reads = reads }) (sym set.0)
+    ∙ ap (λ (n : ℕ). record old { leave = new.leave; reads = n }) (sym (set.2 ∙ ap (λ (s : Typing). s.reads) same))
+
+module _ (old new : Peer) (t : Typing) (reads : ℕ) (same : t ≡ record old.typing { leave = t.leave; reads = reads })
+    (set : IsSet t new.typing) where
+  pub reading_is : record old { typing = t } ≡ reading old new
+  reading_is = ap (λ (s : Typing). record old { typing = s }) (read_is old.typing new.typing t reads same set)
+
+  pub pressing_is : record old { typing = t; times = record old.times { has_typed = true } } ≡ pressing old new
+  pressing_is = ap (λ (s : Typing). record old { typing = s; times = record old.times { has_typed = true } })
+      (read_is old.typing new.typing t reads same set)
+
+-- keys are typed after the help was taken away, or at once
+pub presses : {T E : Type 0} (r : Result T E) (old page new : Peer) (typed : List ℕ) → old.loss ≡ None
+    → (new.is_final ≡ old.is_final) × (new.end ≡ old.end) → (old.is_helping ≡ false → page ≡ old)
+    → (old.is_helping ≡ true → (page.frames.items ≡ old.frames.items ++ spelling (Resize old.rows old.columns))
+    × (page ≡ record old { frames = page.frames; is_helping = false; is_covered = old.is_cut })
+    × (longest_key < length typed)) → OnOk r (Types page new typed) → OnOk r (Presses old new typed)
+presses (Err e) old page new typed here lasts free helped t = tt
+presses (Ok x) old page new typed here lasts free helped t = record {
+  types = λ h shown. subst (λ (p : Peer). Types p new typed) (free shown) t;
+  helped = λ h is. record {
+    page = page;
+    asks = (helped is).0;
+    goes = (helped is).1;
+    key = λ few. absurd (omega (arith, few, (helped is).2));
+    more = λ many. t;
+  };
+  lost = λ some. absurd (not_none old.loss here some);
+  ends = λ some c. absurd (not_none old.loss here some);
+  lasts = λ no. lasts;
+}

@@ -1,5 +1,5 @@
 -- What a look does, step after step.
-use Rattle.std.proofs.Common.{◌≡◌, ◌∙◌, refl, sym, ap, subst, inl, inr, ◌⊎◌, ℕ, ◌≤◌, ◌-◌, true, false, [], ◌++◌}
+use Rattle.std.proofs.Common.{◌≡◌, ◌∙◌, refl, sym, ap, subst, inl, inr, ◌⊎◌, ℕ, ◌≤◌, ◌-◌, true, false}
 use Rattle.std.proofs.Common.{Option, Some, None, IsSome, Result, Ok, Err}
 use Rattle.std.specs.Prelude.{IfOk, IsSomeAnd}
 use Rattle.client_notice.specs.declared.notice.NoticeTask.{NoticeTask}

@@ -13,6 +13,7 @@ use Rattle.draw_check.specs.Functions.{BeginDraws}
 use Rattle.draw_check.specs.Places.{place_after}
 use Rattle.client_peer.specs.declared.peer.Peer.{Peer}
 use Rattle.client_peer.specs.Hearing.{HearsAll}
+use Rattle.client_peer.specs.Sending.{HasMoreFrames}
 
 -- all that came, and these bytes after it, don't begin functions that draws use
 abbrev pub IsNoDraw : Peer → List ℕ → PeerFault → Type 0
@@ -23,9 +24,12 @@ IsNoDraw p bytes e =
 abbrev pub IsNotShown : Peer → List ℕ → PeerFault → Type 0
 IsNotShown p bytes e = (p.is_covered ≡ false) × IsNoDraw p bytes e
 
--- Typing fails for want of memory, or if the help isn't what draws use. Then nothing is put down for the terminal.
+-- Typing fails for want of memory, or if the help isn't what draws use. Then nothing is put down for the terminal, and
+-- no part of a frame for the server.
 abbrev pub FailsTyping : Peer → Peer → PeerFault → Type 0
-FailsTyping old new e = ((e ≡ NoMemory) ⊎ (e ≡ NoDraw)) × (new.bytes.items ≡ old.bytes.items)
+FailsTyping old new e =
+    ((e ≡ NoMemory) ⊎ (e ≡ NoDraw)) × (new.bytes.items ≡ old.bytes.items)
+    × HasMoreFrames old.frames.items new.frames.items
 
 -- a server of ours sends it to another kind of peer
 abbrev pub IsForeign : Subcommand → Message → Type 0

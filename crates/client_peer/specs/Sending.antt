@@ -1,9 +1,15 @@
 -- What a peer has for its server, and what is on its way there.
-use Rattle.std.specs.Prelude.{◌≡◌, ◌≢◌, ℕ, ◌<◌, true, false, Option, None, List, [], ◌++◌, ◌⊎◌, length, drop}
+use Rattle.std.specs.Prelude.{◌≡◌, ◌≢◌, ℕ, ◌<◌, true, false, Option, None, Some, IsSome, Err, List, [], ◌++◌, ◌⊎◌}
+use Rattle.std.specs.Prelude.{length, drop}
 use Rattle.std.specs.Io.KnownBytes.{Appends}
+use Rattle.std.specs.List.{flat_map}
+use Rattle.std.specs.Option.{option_or}
 use Rattle.attach_proto.specs.declared.kind.Kind.TheVariants.{Output}
+use Rattle.attach_proto.specs.declared.message.Message.{Message}
+use Rattle.attach_proto.specs.Spelling.{spelling}
 use Rattle.client_page.specs.Held.{Holds}
 use Rattle.client_page.specs.Kept.{ReadsAll}
+use Rattle.client_words.specs.declared.fault.PeerFault.TheVariants.{NoMemory}
 use Rattle.client_peer.specs.declared.outgoing.Batch.{Batch}
 use Rattle.client_peer.specs.declared.peer.Peer.{Peer}
 use Rattle.client_typing.specs.Framing.{Sends}
@@ -19,6 +25,10 @@ left b = drop b.sent b.frames.items
 -- bytes come after those that waited
 abbrev pub IsMore : List ℕ → List ℕ → Type 0
 IsMore old new = (more : List ℕ) × (new ≡ old ++ more)
+
+-- whole frames come after those that waited, or none
+abbrev pub HasMoreFrames : List ℕ → List ℕ → Type 0
+HasMoreFrames old new = (messages : List Message) × (new ≡ old ++ flat_map spelling messages)
 
 -- these bytes come after those that waited, and nothing else changes
 pub record Puts (old new : Peer) (bytes : List ℕ) : Type 0 where
@@ -44,6 +54,7 @@ pub record HasBack (old : Peer) (batch : Batch) (new : Peer) : Type 0 where
   pub back : batch.connection ≡ old.connection → old.sent ≡ 0 → unsent new ≡ left batch ++ unsent old
   pub shut : batch.connection ≡ old.connection → new.is_shut ≡ batch.is_shut
   pub stuck : batch.connection ≡ old.connection → new.is_stuck ≡ false → left batch ≡ []
+  pub free : batch.connection ≡ old.connection → left batch ≡ [] → new.is_stuck ≡ false
   pub other : (batch.connection ≡ old.connection → ⊥) → new ≡ record old { is_sending = false }
   pub rest : new ≡ record old {
     frames = new.frames;
@@ -51,6 +62,18 @@ pub record HasBack (old : Peer) (batch : Batch) (new : Peer) : Type 0 where
     is_sending = false;
     is_shut = new.is_shut;
     is_stuck = new.is_stuck;
+  }
+
+-- Memory for what comes back was refused: it is lost, and the peer has ended, since a part of a frame may be sent. What
+-- was put down meanwhile still waits.
+pub record LosesBack (old : Peer) (batch : Batch) (new : Peer) : Type 0 where
+  pub connection : batch.connection ≡ old.connection
+  pub ends : IsSome new.end
+  pub rest : new ≡ record old {
+    is_sending = false;
+    is_shut = batch.is_shut;
+    is_stuck = true;
+    end = option_or old.end (Some (Err NoMemory));
   }
 
 -- The connection has taken the first of the bytes that weren't sent, in order and each once. The others are left.

@@ -195,7 +195,7 @@ impl Peer {
         requires { self.now.times.left_at ≡ Some left }
         ensures { DoesNext self.now now result }
     {
-        if self.end.is_some() || self.is_lost() || now.saturating_sub(left) >= ANSWER {
+        if self.end.is_some() || self.loss.is_some() || now.saturating_sub(left) >= ANSWER {
             PeerTask::End
         } else if self.can_send() {
             PeerTask::Send
@@ -209,7 +209,7 @@ impl Peer {
         ensures { AtLoss self.old now self.new }
     {
         let (again, waited) = (self.times.again, now.saturating_sub(self.times.lost_at));
-        let gives_up = self.is_lost() && again < u16::MAX && waited >= u64::from(again) * 1000;
+        let gives_up = self.loss.is_some() && again < u16::MAX && waited >= u64::from(again) * 1000;
         self.is_final |= gives_up;
         if gives_up || self.is_final && self.end.is_none() {
             self.end = self.loss;
@@ -229,7 +229,7 @@ impl Peer {
         let ended = self.times.ended_at.unwrap_or(now);
         self.times.ended_at = Some(ended);
         let is_written = !self.is_writing && !self.has_output();
-        if is_written || self.is_lost() {
+        if is_written || self.loss.is_some() {
             PeerTask::End
         } else if !self.subcommand.is_window() {
             PeerTask::Wait
@@ -322,6 +322,6 @@ impl Peer {
             || is_asked
             || self.times.paired.is_some()
             || self.times.wants_fit && self.typing.is_at_rest()
-            || self.is_lost()
+            || self.loss.is_some()
     }
 }

@@ -11,7 +11,6 @@ use client_words::PeerFault;
 use std::alloc::AllocError;
 
 impl Peer {
-    /// Puts the text down.
     pub(crate) fn put_notice(&mut self) -> Result<(), AllocError>
         ensures shows { OnOk result (ShowsNotice self.old self.new) }
         ensures err { OnErr result (Keeps self.old self.new) }

@@ -1,12 +1,14 @@
 //! Frames for the server, in their order and whole.
 
 ghost use Rattle.std.specs.Prelude.{◌≡◌, ◌≤◌, ◌<◌, ◌++◌, ◌↔◌, length, drop, [], IsTrue};
-ghost use Rattle.std.specs.Prelude.{OnOk, OnErr, IfErr, IfSome, IsNone, IsSome};
+ghost use Rattle.std.specs.Prelude.{OnOk, OnErr, IfErr, IfSome, IsNone, Some, Err};
+ghost use Rattle.std.specs.Option.{option_or};
 ghost use Rattle.attach_proto.specs.Spelling.{frame, spelling};
-ghost use Rattle.attach_proto.specs.declared.kind.Kind.TheVariants.{Detach, Keys};
+ghost use Rattle.attach_proto.specs.declared.kind.Kind.TheVariants.{Detach};
 ghost use Rattle.client_peer.specs.Failing.{FailsTyping};
 ghost use Rattle.client_typing.specs.Framing.{Sends};
-ghost use Rattle.client_peer.specs.Sending.{HandsOut, HasBack, HasServer, IsFull, MaySend, Prints, Puts, SendsSome, unsent};
+ghost use Rattle.client_peer.specs.Sending.{HandsOut, HasBack, HasServer, IsFull, LosesBack, MaySend, Prints, Puts};
+ghost use Rattle.client_peer.specs.Sending.{SendsSome, unsent};
 
 use crate::peer::Peer;
 use attach_proto::{Kind, Message, head_of, write_message};
@@ -24,9 +26,7 @@ pub struct Batch {
     frames: Vec<u8>,
     // How many of their bytes were sent.
     sent: usize,
-    // The connection that they are for.
     connection: u32,
-    // The connection takes no more.
     is_shut: bool,
 }
 
@@ -61,28 +61,30 @@ impl Batch {
 }
 
 impl Peer {
-    /// Puts down what was typed.
-    pub(crate) fn put_keys(&mut self, keys: &[u8]) -> Result<(), AllocError>
-        ensures sends { OnOk result (Sends self.old.frames.items self.new.frames.items Keys keys.now) }
+    /// Puts down what was typed or printed: all of it, or nothing.
+    pub(crate) fn put_frames(&mut self, kind: Kind, bytes: &[u8]) -> Result<(), AllocError>
+        ensures sends { OnOk result (Sends self.old.frames.items self.new.frames.items kind bytes.now) }
+        ensures err { OnErr result (self.new.frames.items ≡ self.old.frames.items) }
         ensures same { self.new ≡ record self.old { frames = self.new.frames } }
     {
-        put_frames(Kind::Keys, keys, &mut self.frames)
+        let mut frames = Vec::new(self.alloc);
+        put_frames(kind, bytes, &mut frames)?;
+        self.frames.extend_from_slice(&frames)
     }
 
     /// Puts down what a window's program printed, or holds it while no server has the window.
     pub(crate) fn print(&mut self, bytes: &[u8]) -> Result<(), AllocError>
         ensures prints { OnOk result (Prints self.old self.new bytes.now) }
+        ensures err { OnErr result (self.new.frames.items ≡ self.old.frames.items) }
         ensures same { self.new ≡ record self.old { frames = self.new.frames; page = self.new.page } }
     {
         if self.has_server() {
             self.page.read(bytes);
-            put_frames(Kind::Output, bytes, &mut self.frames)?;
-            return Ok(());
+            return self.put_frames(Kind::Output, bytes);
         }
         self.page.hold(bytes)
     }
 
-    // Whether a server has the window.
     pub(crate) fn has_server(&self) -> bool
         ensures { IsTrue result ↔ HasServer self.now }
     {
@@ -146,7 +148,7 @@ impl Peer {
     /// Takes back what wasn't sent. If the connection takes no more, what it has still to say tells why.
     pub fn end_sending(&mut self, batch: Batch) -> Result<(), AllocError>
         ensures back { OnOk result (HasBack self.old batch self.new) }
-        ensures ends { OnErr result (IsSome self.new.end) }
+        ensures ends { OnErr result (LosesBack self.old batch self.new) }
     {
         let Batch {
             frames,
@@ -172,16 +174,18 @@ impl Peer {
         ensures back { OnOk result ((self.old.sent ≡ 0
             → unsent self.new ≡ drop sent frames.items ++ unsent self.old)
             × (self.new ≡ record self.old { frames = self.new.frames; sent = self.new.sent })) }
-        ensures ends { OnErr result (IsSome self.new.end) }
+        ensures ends { OnErr result (self.new ≡ record self.old {
+          end = option_or self.old.end (Some (Err PeerFault.NoMemory));
+        }) }
     {
         let mut frames = frames;
         let kept = frames.extend_from_slice(&self.frames);
-        if kept.is_err() {
+        if kept.is_ok() {
+            self.frames = frames;
+            self.sent = sent;
+        } else {
             self.end_by(Err(PeerFault::NoMemory));
-            return kept;
         }
-        self.frames = frames;
-        self.sent = sent;
         kept
     }
 }

@@ -1,6 +1,6 @@
 //! The state of a peer.
 
-ghost use Rattle.std.specs.Prelude.{◌≡◌, ◌↔◌, ◌++◌, [], false, true, Some, None, IfSome, IsSome, IsTrue, OnOk};
+ghost use Rattle.std.specs.Prelude.{◌≡◌, ◌↔◌, ◌++◌, [], false, true, Some, None, IfSome, IsSome, OnErr, OnOk};
 ghost use Rattle.std.specs.Option.{option_or};
 ghost use Rattle.attach_proto.specs.Spelling.{spelling};
 ghost use Rattle.client_peer.specs.Beginning.{IsBegun};
@@ -38,7 +38,6 @@ pub struct Peer {
     pub columns: u16,
     /// Whether the window in focus follows the terminal's size.
     pub(crate) fits: bool,
-    /// Bytes for standard output.
     pub(crate) bytes: Vec<u8>,
     /// Input for the program of a window that comes back: it waits until the window is opened again.
     pub(crate) early: Vec<u8>,
@@ -53,21 +52,16 @@ pub struct Peer {
     /// The help is asked for.
     pub(crate) is_helping: bool,
     pub(crate) notice: Notice,
-    /// Lines for the sizes' file.
     pub(crate) sizes: Vec<u8>,
-    /// A thread is writing to standard output.
     pub(crate) is_writing: bool,
-    /// Frames for the server.
     pub(crate) frames: Vec<u8>,
     /// How many of their bytes were sent.
     pub(crate) sent: usize,
-    /// A thread is sending frames.
     pub(crate) is_sending: bool,
     /// The connection took nothing for a while: who waits for the time sends the rest.
     pub is_stuck: bool,
     /// The connection takes no more frames.
     pub(crate) is_shut: bool,
-    /// Counts the connections.
     pub(crate) connection: u32,
     /// The page of a window that stays, and what its program printed while no server was there.
     pub(crate) page: KeptPage,
@@ -215,18 +209,12 @@ impl Peer {
         }
     }
 
-    /// Whether the server is gone, and another one is waited for.
-    pub(crate) fn is_lost(&self) -> bool
-        ensures { IsTrue result ↔ IsSome self.now.loss }
-    {
-        self.loss.is_some()
-    }
-
     /// Takes a new size of the terminal, even if it is the old one: then all is drawn anew.
     pub fn resize(&mut self, size: TerminalSize) -> Result<(), PeerFault>
         ensures size { (self.new.rows ≡ size.rows) × (self.new.columns ≡ size.columns) }
         ensures asks { OnOk result (self.new.frames.items ≡ self.old.frames.items
             ++ spelling (Message.Resize size.rows size.columns)) }
+        ensures err { OnErr result (self.new.frames.items ≡ self.old.frames.items) }
         ensures same { self.new ≡ record self.old {
           rows = size.rows;
           columns = size.columns;

@@ -8,7 +8,7 @@ ghost use Rattle.client_peer.specs.Ending.{end_for};
 ghost use Rattle.client_peer.specs.Hearing.{Shows, Says, LetsIn, Delivers, Hears, HearsFirst, IsSized, TakesInput};
 ghost use Rattle.client_peer.specs.Hearing.{HearsRead, gone_in, size_line, sized};
 ghost use Rattle.client_peer.specs.Failing.{FailsAfter, FailsAt, FailsBy, FailsRead, IsNoDraw, IsNotShown};
-ghost use Rattle.client_peer.specs.Meeting.{IsToOpen, Meets, Opens, StaysClosed, WaitsToOpen};
+ghost use Rattle.client_peer.specs.Meeting.{IsToOpen, Meets, Opens, StaysClosed};
 ghost use Rattle.client_peer.specs.Sending.{IsBehind};
 ghost use Rattle.client_peer.specs.Showing.{Keeps, Adds, PassesOn, StopsAt};
 ghost use Rattle.client_peer.specs.declared.meeting.Meeting.TheVariants.{Same};
@@ -145,7 +145,8 @@ impl Peer {
         ensures stays { IfOk result (λ met. (met ≡ Same → ⊥) → self.new ≡ self.old) }
         ensures fault { OnErr result (Meets self.old mark.now Same) }
     {
-        if !self.is_to_open() || !is_here {
+        let waits = self.is_welcome && self.is_reopening && self.end.is_none();
+        if !waits || !is_here {
             return Ok(Meeting::Older);
         }
         let met = self.meets(mark);
@@ -153,13 +154,6 @@ impl Peer {
             self.open(is_hidden)?;
         }
         Ok(met)
-    }
-
-    // Whether a server has let the window in, which isn't opened again yet.
-    fn is_to_open(&self) -> bool
-        ensures { IsTrue result ↔ WaitsToOpen self.now }
-    {
-        self.is_welcome && self.is_reopening && self.end.is_none()
     }
 
     fn open(&mut self, is_hidden: bool) -> Result<(), AllocError>
@@ -178,7 +172,6 @@ impl Peer {
         self.put_size(self.rows, self.columns)
     }
 
-    // Takes a window's new size.
     fn resize_window(&mut self, rows: u16, columns: u16) -> Result<(), AllocError>
         ensures keeps { Keeps self.old self.new }
         ensures closed { StaysClosed self.old self.new }
@@ -289,10 +282,9 @@ impl Peer {
         self.bytes.len() > MOST_WAITING || self.early.len() > MOST_WAITING
     }
 
-    /// Sorts what a read gave; nothing means the stream's end. Returns how the peer ended, if it
-    /// did. All that a client passes on from one connection to its terminal, together, consists of the
-    /// functions that draws use. What a server sends beyond that is a fault, and of that frame nothing
-    /// is passed on. CAN comes before what the next connection draws (`begin`).
+    /// Sorts what a read gave; nothing means the stream's end. Returns how the peer ended, if it did. All that a client
+    /// passes on to its terminal from one connection, together, consists of functions that draws use. More is a fault:
+    /// of that frame nothing is passed on. CAN comes before what the next connection draws (`begin`).
     pub fn take_read(
         &mut self,
         reader: &mut Reader,

@@ -6,17 +6,21 @@ ghost use Rattle.attach_proto.specs.declared.kind.Kind.TheVariants.{Detach};
 ghost use Rattle.attach_proto.specs.Spelling.{frame};
 ghost use Rattle.client_peer.specs.Ending.{without_input};
 ghost use Rattle.client_peer.specs.Failing.{FailsTyping};
-ghost use Rattle.client_peer.specs.Typing.{TypesIn, Presses, SendsAssisted, TellsScrolled, typed_in};
+ghost use Rattle.client_peer.specs.Typing.{TypesIn, Presses, SendsAssisted, TellsScrolled, Types, typed_in};
 ghost use Rattle.client_peer.specs.Typing.{assisted_in, pressed_in};
 ghost use Rattle.client_typing.specs.Following.{IsSet};
 
 use crate::peer::Peer;
+use attach_proto::Kind;
 use client_notice::NoticeStage;
 use client_words::PeerFault;
 use std::alloc::AllocError;
 use std::io::{self, Read};
 
 const ETX: u8 = 0x03;
+
+// No key has more bytes: neither a function key's sequence nor a character.
+const LONGEST_KEY: usize = 8;
 
 /// What one read of a stream gave. It can't be copied, let go or made in another way: what was read is taken once.
 pub struct ReadPiece<'b> {
@@ -64,14 +68,14 @@ impl Peer {
         Ok(true)
     }
 
-    // Takes keys. They are dropped while no server is there, and one takes the help away.
+    // Takes keys. They are dropped while no server is there. They take the help away; what can be no key is typed then.
     fn press(&mut self, keys: &[u8]) -> Result<(), PeerFault>
         ensures presses { OnOk result (Presses self.old self.new keys.now) }
         ensures fault { IfErr result (FailsTyping self.old self.new) }
         ensures set { IsSet self.old.typing self.new.typing }
         ensures same { self.new ≡ pressed_in self.old self.new }
     {
-        if self.is_lost() {
+        if self.loss.is_some() {
             if keys.contains(&ETX) {
                 self.is_final = true;
                 self.end = self.loss;
@@ -81,16 +85,29 @@ impl Peer {
         if self.is_helping {
             self.is_helping = false;
             self.is_covered = self.is_cut;
-            return self.redraw();
-        }
-        if !self.typing.assists {
-            if self.fits {
-                self.typing.follow_all(keys);
+            self.redraw()?;
+            if keys.len() <= LONGEST_KEY {
+                return Ok(());
             }
-            self.put_keys(keys)?;
-            return Ok(());
         }
-        self.assist(keys)
+        self.type_keys(keys)
+    }
+
+    // Takes keys of a client that knows a server and shows no help.
+    fn type_keys(&mut self, keys: &[u8]) -> Result<(), PeerFault>
+        ensures types { OnOk result (Types self.old self.new keys.now) }
+        ensures fault { IfErr result (FailsTyping self.old self.new) }
+        ensures set { IsSet self.old.typing self.new.typing }
+        ensures same { self.new ≡ assisted_in self.old self.new }
+    {
+        if self.typing.assists {
+            return self.assist(keys);
+        }
+        if self.fits {
+            self.typing.follow_all(keys);
+        }
+        self.put_frames(Kind::Keys, keys)?;
+        Ok(())
     }
 
     // Takes keys of a client that has its own.
@@ -104,7 +121,7 @@ impl Peer {
         let before = self.typing.back;
         self.typing
             .assist(keys, self.rows.saturating_sub(3), &mut out)?;
-        self.put_keys(&out)?;
+        self.put_frames(Kind::Keys, &out)?;
         self.tell_scrolled(before)?;
         self.help()
     }
@@ -134,7 +151,7 @@ impl Peer {
         if fault.is_some() {
             self.fault = fault;
         }
-        self.is_final |= self.is_lost();
+        self.is_final |= self.loss.is_some();
         self.times.again = 0;
         self.detach()
     }

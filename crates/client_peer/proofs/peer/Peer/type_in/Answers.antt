@@ -4,15 +4,13 @@ use Rattle.client_typing.specs.Following.{LetsThrough}
 use Rattle.client_typing.specs.declared.typing.Typing.{Typing}
 use Rattle.client_peer.specs.declared.peer.Peer.{Peer}
 use Rattle.client_peer.specs.Typing.{Presses}
-use Rattle.client_peer.proofs.Assisting.{presses_read}
+use Rattle.client_peer.proofs.Assisting.{pressing_is}
 use Rattle.client_peer.proofs.peer.Peer.type_in.Goals as goal
 
 pub returns-clause-types : goal.returns-clause-types
 returns-clause-types c = λ more.
     let old : Peer = c.args.self.now in
     let new : Peer = c.press.new.self in
-    let middle : Peer =
-    record old { typing = c.read.new.self; times = record c.args.self.now.times { has_typed = true } } in
     record {
       typed = c.read.new.out.items;
       through =
@@ -25,9 +23,15 @@ returns-clause-types c = λ more.
       prints = λ window. search rules;
       none = λ client none. search rules;
       presses = λ client some. (
-        presses_read old new c.read.new.self _ (record c.args.self.now.times { has_typed = true }) c.read.new.out.items
-            c.read.ensures.same
-            (subst (λ (l : List ℕ). Presses middle new l) c.deref-2.ensures.value c.in_ok-press.ensures.presses),
+        subst (λ (p : Peer). Presses p new c.read.new.out.items)
+            (pressing_is old new c.read.new.self _ c.read.ensures.same c.press.ensures.set)
+            (subst (λ (l : List ℕ). Presses (record old {
+              typing = c.read.new.self;
+              times = record old.times {
+                has_typed
+                    = true;
+              };
+            }) new l) c.deref-2.ensures.value c.in_ok-press.ensures.presses),
         ap (λ (p : Peer). p.times.has_typed) c.press.ensures.same,
       );
     }
