@@ -41,7 +41,7 @@ over (Some bytes) None line c = absurd c
 over (Some bytes) (Some rest) line c = c.0
 
 -- one entry's line more
-one_more : (first p : ℕ) (entries : List Entry) (e : Entry) (bytes rest more : List ℕ) (ms : ℕ)
+pub one_more : (first p : ℕ) (entries : List Entry) (e : Entry) (bytes rest more : List ℕ) (ms : ℕ)
     → p ≡ first + length entries → AreLines first entries bytes rest
     → rest ≡ line_of (p, ms, e) ++ 0x0A ∷ more → AreLines first (entries ++ e ∷ []) bytes more
 one_more first p [] e bytes rest more ms at a is =
