@@ -2,7 +2,9 @@
 use Rattle.std.specs.Prelude.{◌≡◌, ◌⊎◌, ℕ, Bool, true, false, List, [], Option, Some, None, Result, Ok, Err}
 use Rattle.std.specs.Prelude.{IfSome, codes}
 use Rattle.std.specs.IoError.{error_kind}
+use Rattle.std.specs.Option.{option_flatten}
 use Rattle.std.specs.Path.{path_buf_bytes, path_parent}
+use Rattle.std.specs.Result.{result_ok}
 use Rattle.std.specs.String.{string_bytes}
 use Rattle.std.specs.declared.alloc.Global.{Global}
 use Rattle.std.specs.declared.io.Error.{Error}
@@ -106,3 +108,8 @@ module _ {R A B C : Type 0} (system : Ghosts R A B C) (host : R) where
   IsLookedFile path (Ok found) = (may_pass found ≡ true → IsHeldFile path) × IfSome found (IsOpenAtFile path)
   IsLookedFile path (Err why) = IsUntold path why ⊎ system.leads host path (Err why)
       ⊎ ((there : PathBuf Global) × system.leads host path (Ok there) × IsUntold (path_buf_bytes there) why)
+
+  -- the open folder that was found among those that hold what is at a path, if that is told
+  abbrev pub IsSeen : List ℕ → Option OpenFolder → Type 0
+  IsSeen path seen = (told : Result (Option OpenFolder) Error) × IsLooked path told
+      × (seen ≡ option_flatten (result_ok told))

@@ -1,6 +1,7 @@
 //! What can be wrong with a socket or with a users' file, and what to do about it.
 
 ghost use Rattle.std.specs.Prelude.{◌≡◌};
+ghost use Rattle.server_system.specs.declared.fault.SocketCause.TheVariants as cause;
 ghost use Rattle.server_system.specs.declared.fault.UsersFileFault.TheVariants as fault;
 
 use crate::folders::OpenFolder;
@@ -33,6 +34,8 @@ pub enum SocketCause {
 }
 
 impl From<io::Error> for SocketCause {
+    ghost from_gives = { λ error why. why ≡ cause.NotMade (record { 0 = error }) };
+
     fn from(error: io::Error) -> SocketCause {
         SocketCause::NotMade(SystemError(error))
     }

@@ -4,7 +4,6 @@ use crate::host::Host;
 use crate::log::LastLoop;
 use crate::socket::SocketPath;
 use std::sync::Wait;
-use std::{fs, io};
 
 impl SocketPath<'_> {
     /// Removes the socket after the last loop, as `end` does.
@@ -18,8 +17,8 @@ impl SocketPath<'_> {
     }
 
     fn remove<F: Host>(&self, rt: &impl Wait, files: &F) {
-        if let Some((path, _lock)) = self.take(rt) {
-            let _: io::Result<()> = fs::remove_file(files, path);
+        if let Some((path, lock)) = self.take(rt) {
+            let _ = files.remove(path, &lock);
         }
     }
 }

@@ -15,10 +15,8 @@ use std::time::{Clock, Duration};
 
 // The most bytes that wait for the reader of standard error.
 const MOST: usize = 65_536;
-
 // How many seconds the writer sleeps at most if nothing comes.
 const LOOK: u64 = 3_600;
-
 // How many seconds the reader of standard error has for the last lines.
 const PATIENCE: u32 = 5;
 

@@ -67,15 +67,12 @@ pub trait SharedLooks {
 
     // The number of the look that was asked for.
     ghost asks: { Self → ℕ → Self → Type 0 };
-
     // The look that begins, if somebody may still ask for one.
     ghost begins: { Self → Option Begun → Self → Type 0 };
 
     ghost idles: { Self → Bool → Type 0 };
-
     // The owner of the session, and the look that ends.
     ghost ends: { User → Found → Self → Self → Type 0 };
-
     // The count of the users that a loop has, and what it learns.
     ghost tells: { Self → ℕ → Option Known → Type 0 };
 

@@ -1,12 +1,14 @@
 //! The socket that a server listens on.
 
-ghost use Rattle.std.specs.Prelude.{◌≡◌, IfOk, IfSome, true};
-ghost use Rattle.server_system.specs.Paths.{ListensAt, socket_path};
+ghost use Rattle.std.specs.Prelude.{◌≡◌, IfErr, IfOk, IfSome};
+ghost use Rattle.server_system.specs.Folders.{IsSeen};
+ghost use Rattle.server_system.specs.Paths.{IsSocketFault, IsThere, IsUnheard, LetsIn, ListensAt, socket_path};
 
 use crate::fault::{SocketCause, SocketFault};
 use crate::folders::{OpenFolder, open_folder};
 use crate::host::Host;
-use mio::net::{UnixListener, UnixStream};
+use crate::users_file::KIND;
+use mio::net::UnixListener;
 use std::alloc::Global;
 use std::fs::{self, File, Files, OpenOptions, TryLockError};
 use std::io::{self, ErrorKind};
@@ -15,6 +17,8 @@ use std::sync::{Mutex, Wait};
 
 // The longest path of a socket, in bytes.
 const LONGEST: usize = 107;
+// The kind of a socket, among the bits of a mode.
+const SOCKET: u32 = 0o140000;
 
 /// The path of a server's socket. Only the server that holds the lock beside it makes, replaces and removes the socket.
 #[derive(Drop)]
@@ -26,23 +30,14 @@ pub struct SocketPath<'a> {
 
 // Whether there is a socket. Another file is a fault.
 fn is_there<R: Host>(rt: &R, path: &str) -> Result<bool, SocketCause>
-    ensures { IfOk result (λ is. is ≡ true → R.Host.sockets rt.now path.now true) }
+    ensures there { IfOk result (IsThere R.Host rt.now path.now) }
+    ensures fault { IfErr result (IsUnheard R.Host rt.now path.now) }
 {
-    match rt.is_socket(path) {
-        Ok(true) => Ok(true),
-        Ok(false) => Err(SocketCause::NoSocket),
+    match rt.own_stamp(path) {
+        Ok(found) if found.access().mode & KIND == SOCKET => Ok(true),
+        Ok(_) => Err(SocketCause::NoSocket),
         Err(error) if error.kind() == ErrorKind::NotFound => Ok(false),
         Err(error) => Err(SocketCause::from(error)),
-    }
-}
-
-// Whether a server listens, even if it lets nobody in at the moment.
-fn is_served<R: Host>(rt: &R, path: &str) -> io::Result<bool> {
-    match UnixStream::connect(rt, path) {
-        Ok(_) => Ok(true),
-        Err(error) if error.kind() == ErrorKind::WouldBlock => Ok(true),
-        Err(error) if error.kind() == ErrorKind::ConnectionRefused => Ok(false),
-        Err(error) => Err(error),
     }
 }
 
@@ -89,7 +84,8 @@ pub fn lock<R: Files<File = File>>(rt: &R, name: String) -> Result<File, SocketC
 
 // Takes the lock beside the path, and makes a new socket there. One that nobody listens on is removed.
 fn listen<R: Host>(rt: &R, alloc: Global, path: &str) -> Result<(File, UnixListener), SocketCause>
-    ensures { IfOk result (λ made. ListensAt R.Host rt.now path.now made.1) }
+    ensures listens { IfOk result (λ made. ListensAt R.Host rt.now path.now made.1) }
+    ensures fault { IfErr result (IsUnheard R.Host rt.now path.now) }
 {
     // Without a path the system would choose an abstract name, which any account can connect to.
     if path.is_empty() {
@@ -108,12 +104,13 @@ fn listen<R: Host>(rt: &R, alloc: Global, path: &str) -> Result<(File, UnixListe
     };
     let lock = rt.lock(name)?;
     if is_there(rt, path)? {
-        if is_served(rt, path)? {
+        if rt.is_served(path)? {
             return Err(SocketCause::Taken);
         }
-        fs::remove_file(rt, path)?;
+        rt.remove(path, &lock)?;
     }
-    Ok((lock, rt.listen(path)?))
+    let listener = rt.listen(path, &lock)?;
+    Ok((lock, listener))
 }
 
 impl SocketPath<'_> {
@@ -125,6 +122,7 @@ impl SocketPath<'_> {
     ) -> Result<(SocketPath<'a>, UnixListener), SocketFault>
         ensures path { IfOk result (λ made. socket_path made.0 ≡ path.entry.now) }
         ensures listens { IfOk result (λ made. ListensAt R.Host rt.now path.entry.now made.1) }
+        ensures fault { IfErr result (IsSocketFault R.Host rt.now path.entry.now) }
     {
         match listen(rt, alloc, path) {
             Ok((lock, listener)) => {
@@ -139,13 +137,17 @@ impl SocketPath<'_> {
     }
 
     /// The first folder above the socket's own in which others could replace what is there.
-    pub fn open_folder<R: Host>(&self, rt: &R) -> Option<OpenFolder> {
+    pub fn open_folder<R: Host>(&self, rt: &R) -> Option<OpenFolder>
+        ensures { IsSeen R.Host rt.now (socket_path self.now) result }
+    {
         open_folder(rt, self.path).ok().flatten()
     }
 
     /// Whether the socket's mode lets everybody on the machine connect.
-    pub fn is_open<R: Host>(&self, rt: &R) -> bool {
-        fs::symlink_metadata(rt, self.path).is_ok_and(|found| found.mode() & 0o002 != 0)
+    pub fn is_open<R: Host>(&self, rt: &R) -> bool
+        ensures { LetsIn R.Host rt.now (socket_path self.now) result }
+    {
+        matches!(rt.own_stamp(self.path), Ok(found) if found.access().mode & 0o002 != 0)
     }
 
     /// The path, with the lock that lets its holder remove the socket; None after that was taken.

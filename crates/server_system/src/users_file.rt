@@ -23,9 +23,8 @@ use std::rt::HostRuntime;
 
 // A file of more bytes isn't read.
 const MOST: usize = 1_048_576;
-
 // The bits of a mode that tell the kind of a file, and their value for a plain one.
-const KIND: u32 = 0o170000;
+pub(crate) const KIND: u32 = 0o170000;
 
 const PLAIN: u32 = 0o100000;
 
@@ -115,7 +114,6 @@ pub trait UsersSource {
 
     // Its stamp; None if there is no file.
     ghost finds: { Self → Option Stamped → Type 0 };
-
     // Its users, or why they can't be read.
     ghost reads: { Self → Result (List Entry) Faulty → Type 0 };
 

@@ -16,10 +16,8 @@ use std::os::fd::AsRawFd;
 // Of more bytes that wait, as a page of 200 by 300 can have, the system keeps what it can: a connection for which more
 // than 1 MiB waits in the server is told to go.
 const LARGE: usize = 1_048_576;
-
 // The system takes the least that it allows, which is some 4.5 KB on Linux.
 const LEAST: i32 = 1;
-
 // The system takes the most that it allows, which is some 400 KB on Linux.
 const MOST: i32 = 1_048_576;
 

@@ -1,6 +1,6 @@
 -- The bytes that are written after those that were there, and the bytes that a reader has left.
 use Rattle.std.proofs.Common.{◌≡◌, ℕ, ◌+◌, ◌<◌, List, [], ◌∷◌, ◌++◌, length, take, drop, Option}
-use Rattle.std.proofs.Common.{Some, None, refl, sym, ◌∙◌, ap, subst, arith, append_assoc}
+use Rattle.std.proofs.Common.{Some, None, refl, sym, ◌∙◌, ap, subst, arith}
 use Rattle.std.specs.Prelude.{slice_get}
 use Rattle.std.specs.Io.KnownBytes.{Appends}
 use Rattle.std.proofs.KnownBytes.{Appends-trans}
@@ -41,7 +41,7 @@ over (Some bytes) None line c = absurd c
 over (Some bytes) (Some rest) line c = c.0
 
 -- one entry's line more
-one_more : (first p : ℕ) (entries : List Entry) (e : Entry) (bytes rest more : List ℕ) (ms : ℕ)
+pub one_more : (first p : ℕ) (entries : List Entry) (e : Entry) (bytes rest more : List ℕ) (ms : ℕ)
     → p ≡ first + length entries → AreLines first entries bytes rest
     → rest ≡ line_of (p, ms, e) ++ 0x0A ∷ more → AreLines first (entries ++ e ∷ []) bytes more
 one_more first p [] e bytes rest more ms at a is =

@@ -41,7 +41,7 @@ or_none : (a : Option (List ℕ)) → or_else a None ≡ a
 or_none None = refl
 or_none (Some x) = refl
 
-stays : (put : List Placed) (p : Placed) (q : ℕ) → IsSome (line_for put q)
+pub stays : (put : List Placed) (p : Placed) (q : ℕ) → IsSome (line_for put q)
     → line_for (put ++ p ∷ []) q ≡ line_for put q
 stays put p q h = after put p q ∙ or_some (line_for put q) (line_for (p ∷ []) q) h
 
@@ -65,7 +65,7 @@ pub text_more : (put : List Placed) (n : ℕ)
 unfolding text_below
 text_more put n = rw add-one refl
 
-text_stays : (put : List Placed) (p : Placed) (n : ℕ)
+pub text_stays : (put : List Placed) (p : Placed) (n : ℕ)
     → ((q : ℕ) → q < n → IsSome (line_for put q)) → text_below (put ++ p ∷ []) n ≡ text_below put n
 unfolding text_below
 text_stays put p zero w = refl

@@ -4,3 +4,4 @@ pub mod Faults
 pub mod Stopping
 pub mod Journals
 pub mod Waiting
+pub mod Runs

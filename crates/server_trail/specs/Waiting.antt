@@ -9,7 +9,7 @@ use Rattle.server_trail.specs.declared.waiting.PutLine.{PutLine}
 pub record IsOfEntry (place ms : ℕ) (entry : Option Entry) (line : EntryLine) : Type 0 where
   pub place_is : line.place ≡ place
   pub entry_is : entry ≡ Some line.source.now
-  pub text : line.text.items ≡ line_of (place, ms, line.source.now) ++ 0x0A ∷ []
+  pub text : line.text.items ≡ line_of (line.place, ms, line.source.now) ++ 0x0A ∷ []
 
 -- what was put down is the line of this entry at its place
 pub record IsEntrys (place : ℕ) (entry : Option Entry) (put : PutLine) : Type 0 where

@@ -60,12 +60,10 @@ impl JournalFault {
     // The fault of a file that can't be made.
     fn of_making(error: io::Error) -> JournalFault {
         match error.kind() {
-            ErrorKind::NotFound => JournalFault::NoFolder,
-            ErrorKind::AlreadyExists => JournalFault::Exists,
-            ErrorKind::StorageFull | ErrorKind::QuotaExceeded => JournalFault::NoRoom(SystemError(
-                error,
-            )),
-            _ => JournalFault::NotMade(SystemError(error)),
+            ErrorKind::NotFound => Self::NoFolder,
+            ErrorKind::AlreadyExists => Self::Exists,
+            ErrorKind::StorageFull | ErrorKind::QuotaExceeded => Self::NoRoom(SystemError(error)),
+            _ => Self::NotMade(SystemError(error)),
         }
     }
 }
@@ -122,8 +120,7 @@ impl<'a, F: TrailFile + Drop> Journal<'a, F> {
         self.begun.made().remove(server);
     }
 
-    /// Writes the lines of entries as they come, until all loops have ended, and tells what becomes of
-    /// the file.
+    /// Writes the lines of entries as they come, until all loops have ended, and tells what becomes of the file.
     pub fn write<R: Clock + Wait, W: DiskWatch>(
         &self,
         rt: &R,

@@ -75,6 +75,7 @@ impl Merge {
         ensures text { result.items ≡ self.old.ready.items }
         ensures taken { (put : List Placed) (taken : List ℕ) → HasMerged put taken self.old
             → HasMerged put (taken ++ result.items) self.new }
+        ensures next { self.new.next ≡ self.old.next }
     {
         let none = Vec::new(*self.ready.allocator());
         std::mem::replace(&mut self.ready, none)
@@ -87,8 +88,7 @@ impl Merge {
         self.ready.len()
     }
 
-    /// How many bytes wait, at most `usize::MAX`: the bytes that are ready, and those of the early
-    /// lines.
+    /// How many bytes wait, at most `usize::MAX`: the bytes that are ready, and those of the early lines.
     pub fn waiting(&self) -> usize
         ensures { (put : List Placed) (taken : List ℕ) → HasMerged put taken self.now
             → result ≡ min (vec_len self.now.ready + early_bytes self.now) (2 ^ 64 - 1) }

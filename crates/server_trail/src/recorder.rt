@@ -2,6 +2,7 @@
 
 ghost use Rattle.std.specs.Prelude.{◌≡◌, IfOk};
 ghost use Rattle.std.specs.Option.{option_copied};
+ghost use Rattle.server_trail.specs.Runs.{IsLine};
 ghost use Rattle.server_trail.specs.Stopping.{stop_cause};
 ghost use Rattle.server_trail.specs.Waiting.{IsEntrys};
 
@@ -82,6 +83,7 @@ impl Recorder {
 
     // Puts a line down, unless the file has stopped meanwhile.
     fn put_line<'e>(&self, rt: &impl Wait, line: EntryLine<'e>) -> Result<PutLine<'e>, Stopped>
+        requires { IsLine (line.place, line.text.items) }
         ensures { IfOk result (λ put. (put.place ≡ line.entry.place) × (put.source.now ≡ line.entry.source.now)) }
     {
         let mut waiting = self.waiting.lock(rt);

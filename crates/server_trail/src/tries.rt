@@ -1,17 +1,9 @@
-//! How often a write is tried that a trail's file refuses. Only what stands here says that a write was refused, and
-//! that no more are tried.
+//! How often a write is tried that a trail's file refuses. Only what stands here says that no more are tried.
 
-ghost use Rattle.std.specs.Prelude.{◌≡◌, ◌≤◌, ◌<◌, ◌+◌, ◌&&◌, [], true, false, IfOk, OnErr};
-ghost use Rattle.std.specs.Prelude.{is_some, length, nat_le, take};
-ghost use Rattle.std.specs.Io.KnownBytes.{Appends};
+ghost use Rattle.std.specs.Prelude.{◌≡◌, ◌+◌, ◌&&◌, true, false, is_some, nat_le};
 
 use crate::waiting::Ready;
-use std::io::Write;
-use trail_disk::LAST_TRIES;
-
-/// Shows that a file took nothing of a write.
-#[derive(Drop)]
-pub struct Refused(());
+use trail_disk::{LAST_TRIES, Refused};
 
 /// Shows that a file refused a write after all loops had ended, and as many before it as are tried then.
 #[derive(Clone, Copy, Debug)]
@@ -22,20 +14,6 @@ pub struct GaveUp(());
 pub struct Tries {
     // How many it refused after all loops had ended.
     last: u32,
-}
-
-/// Writes once. The answer is how many of the bytes were taken, or that none was.
-pub fn write_some<F: Write>(file: &mut F, bytes: &[u8]) -> Result<usize, Refused>
-    requires { 0 < length bytes.now }
-    ensures bound { IfOk result (λ count. count ≤ length bytes.now) }
-    ensures writes { IfOk result (λ count. Appends (F.contents file.old) (F.contents file.new)
-        (take count bytes.now)) }
-    ensures refused { OnErr result (Appends (F.contents file.old) (F.contents file.new) []) }
-{
-    match file.write(bytes).unwrap_or(0) {
-        0 => Err(Refused(())),
-        count => Ok(count),
-    }
 }
 
 impl Tries {

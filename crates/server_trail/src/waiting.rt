@@ -1,14 +1,14 @@
 //! Lines that wait for the writer of a trail's file. Only what stands here says that a line was put down, that
 //! the file can't go on, that text was written, and that a loop has ended.
 
-ghost use Rattle.std.specs.Prelude.{◌≡◌, ◌==◌, ◌+◌, ◌-◌, ◌<◌, ◌&&◌, ◌||◌, ◌++◌, ◌∷◌, []};
-ghost use Rattle.std.specs.Prelude.{true, ℕ, List, Err, IfOk, IfSome, OnOk, OnErr, nat_le, nat_lt, vec_len};
-ghost use Rattle.std.specs.Prelude.{is_none, is_ok, is_some};
+ghost use Rattle.std.specs.Prelude.{◌≡◌, ◌==◌, ◌+◌, ◌-◌, ◌<◌, ◌&&◌, ◌||◌, ◌++◌, ◌∷◌, [], true, ℕ, List, Err, IfOk};
+ghost use Rattle.std.specs.Prelude.{IfSome, OnErr, OnOk, is_none, is_ok, is_some, nat_le, nat_lt, vec_len};
 ghost use Rattle.std.specs.List.{list_any};
 ghost use Rattle.std.specs.Option.{option_copied};
 ghost use Rattle.hub.specs.Legal.{asks_for_command};
 ghost use Rattle.server_trail.specs.Files.{HasWritten};
 ghost use Rattle.server_trail.specs.Merging.{HasMerged, Placed, early_bytes};
+ghost use Rattle.server_trail.specs.Runs.{AreRun, HasPut, IsLine};
 ghost use Rattle.server_trail.specs.Stopping.{wakes};
 ghost use Rattle.server_trail.specs.Waiting.{IsOfEntry};
 ghost use Rattle.server_trail.specs.declared.file.StopCause.TheVariants.{Disk, Memory};
@@ -28,7 +28,6 @@ use trail_lines::print_line;
 
 /// A line is taken as long as at most this number of bytes wait.
 pub const MOST: usize = 16_777_216;
-
 // With this number of bytes ready, the writer waits for no more.
 const BLOCK: usize = 65_536;
 
@@ -64,6 +63,8 @@ pub struct Left(());
 /// Text that was taken to be written. It isn't dropped.
 pub struct ReadyText {
     bytes: Vec<u8>,
+    // It has the lines of the places below this one.
+    next: usize,
 }
 
 /// Shows that text wasn't written to its end. Whoever says how much was written takes it.
@@ -80,10 +81,14 @@ pub struct Written {
 #[derive(Drop)]
 pub struct WaitingLines {
     merge: Merge,
+    // The lines of the places below this one were taken.
+    taken: usize,
     // How many loops haven't ended.
     loops: usize,
     // A line that waits tells of a change: it is written as soon as all before it are there.
     is_urgent: bool,
+    // Each line that was put down is that of an entry at its place.
+    ghost lines: { ∥ HasPut taken merge ∥₁ },
 }
 
 /// What is there for the writer. Only a look at the lines that wait gives it.
@@ -218,6 +223,7 @@ impl WaitingLines {
     {
         WaitingLines {
             merge: Merge::new(alloc),
+            taken: 0,
             loops,
             is_urgent: false,
         }
@@ -225,6 +231,7 @@ impl WaitingLines {
 
     // Puts a line down. Returns whether the writer must be woken. Bytes that the writer has taken don't wait.
     fn put(&mut self, place: usize, line: Vec<u8>) -> Result<bool, StopCause>
+        requires { IsLine (place, line.items) }
         ensures ok { (put : List Placed) (taken : List ℕ) → HasMerged put taken self.old.merge
             → OnOk result (HasMerged (put ++ (place, line.items) ∷ []) taken self.new.merge) }
         ensures err { (put : List Placed) (taken : List ℕ) → HasMerged put taken self.old.merge
@@ -234,7 +241,7 @@ impl WaitingLines {
             → result ≡ Err Disk → 16777216 < vec_len self.old.merge.ready + early_bytes self.old.merge }
         ensures wakes { IfOk result (λ is_news.
             is_news ≡ wakes (vec_len self.old.merge.ready) (vec_len self.new.merge.ready)) }
-        ensures others { self.new ≡ record self.old { merge = self.new.merge } }
+        ensures others { (lines : _) × (self.new ≡ record self.old { merge = self.new.merge; lines = lines }) }
     {
         if self.merge.waiting() > MOST {
             return Err(StopCause::Disk);
@@ -248,6 +255,7 @@ impl WaitingLines {
 
     /// Puts the line of an entry down.
     pub fn take_in<'e>(&mut self, line: EntryLine<'e>) -> Result<PutLine<'e>, Stopped>
+        requires { IsLine (line.place, line.text.items) }
         ensures put { (put : List Placed) (taken : List ℕ) → HasMerged put taken self.old.merge
             → OnOk result (HasMerged (put ++ (line.entry.place, line.entry.text.items) ∷ []) taken self.new.merge) }
         ensures line { IfOk result (λ put.
@@ -305,17 +313,24 @@ impl WaitingLines {
         self.merge.waiting()
     }
 
-    /// Takes the text that is ready. Lines that wait for earlier ones stay urgent.
-    pub fn take(&mut self) -> ReadyText
-        ensures all { self.new.merge.ready.items ≡ [] }
-        ensures text { result.bytes.items ≡ self.old.merge.ready.items }
+    /// Takes the text that is ready, if it follows this many lines. Lines that wait for earlier ones stay urgent.
+    pub fn take(&mut self, sent: usize) -> Option<ReadyText>
+        ensures some { is_some result ≡ (sent == self.old.taken) }
+        ensures all { IfSome result (λ text. self.new.merge.ready.items ≡ []) }
+        ensures text { IfSome result (λ text. text.bytes.items ≡ self.old.merge.ready.items) }
+        ensures lines { IfSome result (λ text. ∥ AreRun sent text.next text.bytes.items ∥₁) }
         ensures taken { (put : List Placed) (taken : List ℕ) → HasMerged put taken self.old.merge
-            → HasMerged put (taken ++ result.bytes.items) self.new.merge }
+            → IfSome result (λ text. HasMerged put (taken ++ text.bytes.items) self.new.merge) }
         ensures loops { self.new.loops ≡ self.old.loops }
     {
+        if sent != self.taken {
+            return None;
+        }
         let bytes = self.merge.take();
+        let next = self.merge.next();
+        self.taken = next;
         self.is_urgent = self.is_urgent && self.merge.waiting() > 0;
-        ReadyText { bytes }
+        Some(ReadyText { bytes, next })
     }
 
     /// A loop has ended.
@@ -327,12 +342,18 @@ impl WaitingLines {
     }
 
     /// How much was written, from what was torn and what shows that the file stopped. If nothing was torn, it is
-    /// None until all loops have ended and no text is ready. It isn't whole if text was torn or, unless the file
-    /// stopped, if a line still waits for an earlier one that never came.
-    pub fn written(&self, torn: Option<Torn>, stopped: Option<Stopped>) -> Option<Written>
-        ensures over { is_some result
-            ≡ (is_some torn || (self.now.loops == 0) && (vec_len self.now.merge.ready == 0)) }
+    /// None until all loops have ended, no text is ready, and this many lines were sent. It isn't whole if text was
+    /// torn or, unless the file stopped, if a line still waits for an earlier one that never came.
+    pub fn written(
+        &self,
+        torn: Option<Torn>,
+        stopped: Option<Stopped>,
+        sent: usize,
+    ) -> Option<Written>
+        ensures over { is_some result ≡ (is_some torn
+            || (self.now.loops == 0) && (vec_len self.now.merge.ready == 0) && (sent == self.now.merge.next)) }
         ensures entries { IfSome result (λ written. written.entries ≡ self.now.merge.next) }
+        ensures sent { IfSome result (λ w. w.is_whole ≡ true → (is_none torn ≡ true) × (sent ≡ w.entries)) }
         ensures whole { (put : List Placed) (taken : List ℕ) → HasMerged put taken self.now.merge →
             IfSome result (λ written. written.is_whole ≡ (is_none torn && (is_some stopped
             || (vec_len self.now.merge.ready + early_bytes self.now.merge == 0)))) }
@@ -341,29 +362,31 @@ impl WaitingLines {
             Some(Torn(_)) => false,
             None => true,
         };
-        if is_written && (self.loops > 0 || self.merge.ready() > 0) {
+        let next = self.merge.next();
+        if is_written && (self.loops > 0 || self.merge.ready() > 0 || sent != next) {
             return None;
         }
         Some(Written {
-            entries: self.merge.next() as u64,
+            entries: next as u64,
             is_whole: is_written && (stopped.is_some() || self.merge.waiting() == 0),
         })
     }
 }
 
 impl ReadyText {
-    /// Writes the text, as `write_bytes` does.
+    /// Writes the text, as `write_bytes` does. The answer is how many lines were sent with it in all.
     pub fn write<R: Clock + Wait, F: Write>(
         self,
         rt: &R,
         waiting: &Mutex<WaitingLines>,
         file: &mut F,
-    ) -> Result<(), Torn>
-        ensures { HasWritten (F.contents file.old) (F.contents file.new) self.bytes.items (is_ok result) }
+    ) -> Result<usize, Torn>
+        ensures writes { HasWritten (F.contents file.old) (F.contents file.new) self.bytes.items (is_ok result) }
+        ensures next { IfOk result (λ next. next ≡ self.next) }
     {
-        let ReadyText { bytes } = self;
+        let ReadyText { bytes, next } = self;
         match write_bytes(rt, waiting, file, &bytes) {
-            Ok(()) => Ok(()),
+            Ok(()) => Ok(next),
             Err(gave_up) => Err(Torn(gave_up)),
         }
     }

@@ -1,20 +1,21 @@
 //! The thread that writes a trail's file.
 
-ghost use Rattle.std.specs.Prelude.{◌≡◌, Some, None, is_ok};
+ghost use Rattle.std.specs.Prelude.{◌≡◌, Some, None, is_none, is_ok};
 ghost use Rattle.std.specs.Io.KnownBytes.{Keeps};
 ghost use Rattle.trail_disk.specs.Disks.{SyncsOnce};
 ghost use Rattle.server_trail.specs.Files.{EndsAs, EndsSynced, HasWritten};
+ghost use Rattle.server_trail.specs.Runs.{HasSent, IsWritten};
 
 use crate::file::{NoLine, last_line};
 use crate::recorder::Recorder;
-use crate::tries::{GaveUp, Tries, write_some};
-use crate::waiting::{WaitingLines, Written};
+use crate::tries::{GaveUp, Tries};
+use crate::waiting::{Ready, Torn, WaitingLines, Written};
 use std::io::Write;
 use std::sync::atomic::Ordering;
 use std::sync::{Mutex, Wait};
 use std::thread;
 use std::time::{Clock, Duration};
-use trail_disk::{Syncing, TrailFile, sync_last};
+use trail_disk::{Syncing, TrailFile, sync_last, write_some};
 use trail_lines::Cause;
 
 // How many milliseconds the writer waits for more if few bytes are ready.
@@ -71,13 +72,38 @@ fn sync_end<R: Clock, F: TrailFile>(rt: &R, file: &mut F) -> bool
 }
 
 impl Recorder {
-    /// Writes the lines as they come, until all loops have ended. It sleeps as long as no line is ready,
-    /// and waits a tenth of a second for more if few are and none tells of a change. A refused write is
-    /// tried again each second, and for five seconds at the end. The file is synced in each second in
-    /// which something was written.
-    pub fn write_all<R: Clock + Wait, F: TrailFile>(&self, rt: &R, file: &mut F) -> Written {
+    // Writes the text that is ready, if there is some, after this many lines, which grow unless it is torn.
+    fn write_ready<R: Clock + Wait, F: Write>(
+        &self,
+        rt: &R,
+        ready: Ready,
+        file: &mut F,
+        sent: &mut usize,
+    ) -> Option<Torn>
+        ensures { ∥ HasSent sent.old sent.new (F.contents file.old) (F.contents file.new) (is_none result) ∥₁ }
+    {
+        if ready.bytes() == 0 {
+            return None;
+        }
+        let text = self.waiting.lock(rt).take(*sent)?;
+        match text.write(rt, &self.waiting, file) {
+            Ok(next) => {
+                *sent = next;
+                None
+            }
+            Err(torn) => Some(torn),
+        }
+    }
+
+    /// Writes the lines as they come, until all loops have ended. It sleeps as long as no line is ready, and waits a
+    /// tenth of a second for more if few are and none tells of a change. A refused write is tried again each second,
+    /// and for five seconds at the end. The file is synced in each second in which something was written.
+    pub fn write_all<R: Clock + Wait, F: TrailFile>(&self, rt: &R, file: &mut F) -> Written
+        ensures { ∥ IsWritten result (F.contents file.old) (F.contents file.new) ∥₁ }
+    {
         let mut syncing = Syncing::new();
-        for _ in rt.forever() {
+        let mut sent = 0;
+        'writes: for _ in rt.forever() {
             let seen = self.news.notifications();
             let ready = self.waiting.lock(rt).look();
             if !ready.is_due() {
@@ -87,16 +113,12 @@ impl Recorder {
                 };
                 self.news.sleep(rt, seen, pause);
             }
-            let torn = match ready.bytes() {
-                0 => None,
-                _ => {
-                    syncing.note_write();
-                    let text = self.waiting.lock(rt).take();
-                    text.write(rt, &self.waiting, file).err()
-                }
-            };
+            if ready.bytes() > 0 {
+                syncing.note_write();
+            }
+            let torn = self.write_ready(rt, ready, file, &mut sent);
             let stopped = self.stop();
-            if let Some(written) = self.waiting.lock(rt).written(torn, stopped) {
+            if let Some(written) = self.waiting.lock(rt).written(torn, stopped, sent) {
                 return written;
             }
             syncing.sync(rt.monotonic().ok(), file);

@@ -4,7 +4,9 @@
 mod disk;
 mod file;
 mod syncing;
+mod writing;
 
 pub use disk::{Disk, DiskNews, DiskWatch, WatchedDisk};
 pub use file::{FileMaker, MadeFile, NeverReady, TrailFile};
 pub use syncing::{LAST_TRIES, Syncing, sync_last};
+pub use writing::{Refused, write_some};
