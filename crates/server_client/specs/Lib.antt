@@ -1,3 +1,4 @@
+pub mod Asking
 pub mod Comebacks
 pub mod Lines
 pub mod Marks

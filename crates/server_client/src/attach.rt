@@ -1,7 +1,10 @@
 //! Runs `mux`: a client, a window, a command, or a question whether the server answers.
 
-ghost use Rattle.std.specs.Prelude.{◌≡◌, ◌⊎◌};
+ghost use Rattle.std.specs.Prelude.{◌≡◌, ◌⊎◌, map};
 ghost use Rattle.std.specs.Io.KnownBytes.{Appends};
+ghost use Rattle.std.specs.String.{string_bytes};
+ghost use Rattle.client_words.specs.Asking.{IsAsked};
+ghost use Rattle.server_client.specs.Asking.{ExitsBy};
 
 use crate::beside::warn_of_mark;
 use crate::ending::{PeerEnding, tell_end, tell_fault, tell_unseen};
@@ -56,11 +59,13 @@ fn run<R: PeerHost + Threads + Wait + Files<File = File>, I: Source, O: Sink>(
     arguments: &Arguments<'_>,
     input: I,
     output: O,
-) -> Result<PeerEnding, PeerFault> {
+) -> Result<PeerEnding, PeerFault>
+    requires { IsAsked (R.means rt.now) arguments.now }
+{
     let alloc = rt.alloc();
     let mut kept = Vec::new(alloc);
     let (door, files) = prepare(rt, arguments, &mut kept)?;
-    let shared = Arc::new(alloc, SharedPeer::new(alloc, arguments))?;
+    let shared = Arc::new(alloc, SharedPeer::new(rt, arguments))?;
     let (mut output, mut told) = (output, files.told);
     start_thread(
         rt,
@@ -101,7 +106,9 @@ pub fn client<R: PeerHost + Threads + Wait + Files<File = File>, I: Source, O: S
     input: I,
     output: O,
     errors: &mut E,
-) -> u8 {
+) -> u8
+    ensures { ExitsBy (R.means rt.now) (R.refuses rt.now) (map string_bytes words.now) result }
+{
     let mut output = output;
     let mut asked = Vec::new(rt.alloc());
     let arguments = match arguments_of(rt, words, &mut asked, errors) {

@@ -2,6 +2,7 @@
 
 ghost use Rattle.std.specs.Prelude.{◌≡◌, true, IfOk, OnOk};
 ghost use Rattle.attach_proto.specs.Texts.{token_of};
+ghost use Rattle.client_words.specs.Asking.{IsAsked};
 ghost use Rattle.server_client.specs.Opening.{Begins, BeginsWith, IsAtSession, IsOpened, IsTokenOf, LeadsAtOnce};
 ghost use Rattle.server_client.specs.Opening.{LeadsBack, line_of};
 
@@ -232,6 +233,7 @@ pub fn prepare<R: PeerHost + fs::Files<File = File>>(
     arguments: &Arguments<'_>,
     kept: &mut Vec<File>,
 ) -> Result<(Door, SizesFiles), PeerFault>
+    requires { IsAsked (R.means rt.now) arguments.now }
     ensures { IfOk result (λ made. LeadsAtOnce (R.disk rt.now) arguments.now made.0) }
 {
     fill_closed(rt, kept)?;

@@ -3,6 +3,7 @@
 ghost use Rattle.std.specs.Prelude.{◌≡◌, Bool};
 ghost use Rattle.client_peer.specs.Meeting.{Learns, Meets};
 ghost use Rattle.client_peer.specs.declared.meeting.Meeting.TheVariants.{Same};
+ghost use Rattle.client_words.specs.Asking.{IsAsked};
 ghost use Rattle.server_client.specs.Comebacks.{BeginsAgain};
 ghost use Rattle.server_client.specs.Marks.{IsHere, IsMarkOf};
 
@@ -78,7 +79,10 @@ pub struct SharedPeer {
 }
 
 impl SharedPeer {
-    pub fn new(alloc: Global, arguments: &Arguments<'_>) -> SharedPeer {
+    pub fn new<R: PeerHost>(rt: &R, arguments: &Arguments<'_>) -> SharedPeer
+        requires { IsAsked (R.means rt.now) arguments.now }
+    {
+        let alloc = rt.alloc();
         SharedPeer {
             alloc,
             seat: Mutex::new(PeerSeat {

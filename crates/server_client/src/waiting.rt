@@ -3,6 +3,8 @@
 ghost use Rattle.std.specs.Prelude.{◌≡◌, ◌++◌, Bool, IfOk, OnErr};
 ghost use Rattle.client_peer.specs.Meeting.{Meets};
 ghost use Rattle.client_peer.specs.declared.meeting.Meeting.TheVariants.{Older, Same};
+ghost use Rattle.client_words.specs.Asking.{IsAsked};
+ghost use Rattle.server_client.specs.Asking.{LeadsAsAsked};
 ghost use Rattle.server_client.specs.Comebacks.{HasPlace, IsSeen, Judges, LetsPass, OpensAgain, Returns, WaitsForMark};
 ghost use Rattle.server_client.specs.Lines.{IsHidden, has_line};
 ghost use Rattle.server_client.specs.Marks.{IsMarkOf};
@@ -88,7 +90,9 @@ impl Comeback {
     }
 
     // Tries to open the window again by the mark as it is now. While it may be an earlier server's, it rests a moment.
-    fn open<R: PeerHost + Wait>(&mut self, rt: &R, shared: &SharedPeer, arguments: &Arguments<'_>) {
+    fn open<R: PeerHost + Wait>(&mut self, rt: &R, shared: &SharedPeer, arguments: &Arguments<'_>)
+        requires { IsAsked (R.means rt.now) arguments.now }
+    {
         let Ok(mark) = mark_of(rt, arguments.socket) else {
             return thread::sleep(rt, Duration::from_millis(PAUSE));
         };
@@ -161,7 +165,9 @@ pub fn start<R: PeerHost + Threads + Wait>(
     rt: &R,
     shared: &Arc<SharedPeer, Global>,
     door: Door,
-) -> Result<(), PeerFault> {
+) -> Result<(), PeerFault>
+    requires { LeadsAsAsked (R.means rt.now) (R.disk rt.now) door }
+{
     start_thread(rt, shared, move |rt, shared| serve(rt, shared, &door))?;
     Ok(())
 }
@@ -214,7 +220,9 @@ fn learn<R: PeerHost + Wait>(
     shared: &SharedPeer,
     arguments: &Arguments<'_>,
     tries: u32,
-) -> bool {
+) -> bool
+    requires { IsAsked (R.means rt.now) arguments.now }
+{
     for _ in 0..tries {
         if let Ok(mark) = mark_of(rt, arguments.socket)
             && (arguments.subcommand.is_attach() || mark.is_current || mark.name.is_empty())
@@ -233,7 +241,9 @@ fn come_back<R: PeerHost + Threads + Wait>(
     shared: &Arc<SharedPeer, Global>,
     arguments: &Arguments<'_>,
     comeback: &mut Comeback,
-) -> Result<(), PeerFault> {
+) -> Result<(), PeerFault>
+    requires { IsAsked (R.means rt.now) arguments.now }
+{
     thread::sleep(rt, Duration::from_millis(PAUSE));
     let is_pending = arguments.subcommand.is_attach()
         && is_beside(rt, arguments.socket, ".pending")?;
@@ -281,7 +291,9 @@ fn ask<R: PeerHost + Threads + Wait>(
     arguments: &Arguments<'_>,
     time: u64,
     comeback: &mut Comeback,
-) {
+)
+    requires { IsAsked (R.means rt.now) arguments.now }
+{
     let Ok(seen) = look_around(rt, arguments) else {
         return thread::sleep(rt, Duration::from_millis(PAUSE));
     };
@@ -304,7 +316,9 @@ pub fn wait<R: PeerHost + Threads + Wait, I: Source>(
     shared: &Arc<SharedPeer, Global>,
     arguments: &Arguments<'_>,
     sources: Sources<I>,
-) -> PeerEnding {
+) -> PeerEnding
+    requires { IsAsked (R.means rt.now) arguments.now }
+{
     let began = Instant::now(rt).ok();
     let mut sources = sources;
     let mut comeback = Comeback::new();
