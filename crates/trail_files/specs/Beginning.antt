@@ -1,13 +1,15 @@
--- What a file's first line says, and which entry was the last one at a time.
+-- What a file's first line says, and which entry was the last one at a time; and why neither is known.
 use Rattle.std.specs.Prelude.{ℕ, zero, suc, ◌≡◌, ◌^◌, nat_le, if◌then◌else◌, List, Option, Some, None, option_map}
 use Rattle.line_fields.specs.Cutting.{◌>>=◌}
 use Rattle.line_fields.specs.Numbers.{number_at}
 use Rattle.line_fields.specs.Parts.{blank}
 use Rattle.trail_lines.specs.Heading.{read_header}
-use Rattle.trail_lines.specs.Lines.{ComesAs}
+use Rattle.trail_lines.specs.Lines.{ComesAs, OfKnown}
 use Rattle.trail_lines.specs.declared.halt.NextLine.{NextLine}
 use Rattle.trail_lines.specs.declared.halt.NextLine.TheVariants as came
 use Rattle.trail_lines.specs.declared.header.Header.{Header}
+use Rattle.trail_files.specs.declared.fault.TrailFault.{TrailFault}
+use Rattle.trail_files.specs.declared.fault.TrailFault.TheVariants as fault
 use Rattle.trail_files.specs.declared.heading.Heading.{Heading}
 
 abbrev pub heading_of : Header → Heading
@@ -20,6 +22,28 @@ heading_in line = option_map heading_of (read_header line)
 -- the bytes begin with a first line that says this
 abbrev pub BeginsAs : Heading → List ℕ → List ℕ → Type 0
 BeginsAs heading bytes rest = (line : List ℕ) × ComesAs came.Whole line bytes rest × (heading_in line ≡ Some heading)
+
+-- why nothing is known of a first line: line 1 says nothing, or memory was refused
+abbrev pub IsNoHeading : TrailFault → List ℕ → Type 0
+IsNoHeading (fault.NoHeader n) line = (n ≡ 1) × (heading_in line ≡ None)
+IsNoHeading (fault.Io e) line = Unit {0}
+IsNoHeading other line = ⊥
+
+-- what the line says that comes; nothing if it has no line feed, or if there is none
+abbrev pub coming_heading : NextLine → List ℕ → Option Heading
+coming_heading came.Whole line = heading_in line
+coming_heading other line = None
+
+-- no first line of a trail comes
+abbrev pub BeginsAsNone : List ℕ → List ℕ → Type 0
+BeginsAsNone bytes rest =
+    (came : NextLine) × (line : List ℕ) × ComesAs came line bytes rest × (coming_heading came line ≡ None)
+
+-- why no heading is known: line 1 is no first line; or the reading failed, or memory was refused
+abbrev pub IsUnheaded : TrailFault → Option (List ℕ) → Option (List ℕ) → Type 0
+IsUnheaded (fault.NoHeader n) old new = (n ≡ 1) × OfKnown old new BeginsAsNone
+IsUnheaded (fault.Io e) old new = Unit {0}
+IsUnheaded other old new = ⊥
 
 -- the place and the time of an entry's line
 abbrev pub moment_of : List ℕ → Option (ℕ × ℕ)
@@ -55,3 +79,9 @@ LastBy time last bytes = (n : ℕ) × LastIs time n None bytes last
 abbrev pub LastOf : ℕ → Option ℕ → List ℕ → Type 0
 LastOf time last bytes = (came : NextLine) × (line : List ℕ) × (rest : List ℕ) × ComesAs came line bytes rest
     × LastBy time last rest
+
+-- why no place is known: there is no entry yet, or the reading failed, or memory was refused
+abbrev pub IsUnplaced : TrailFault → Type 0
+IsUnplaced fault.NoEntryYet = Unit {0}
+IsUnplaced (fault.Io e) = Unit {0}
+IsUnplaced other = ⊥

@@ -1,8 +1,9 @@
 //! The first line of a file, and its last entry at a time.
 
-ghost use Rattle.std.specs.Prelude.{ℕ, ◌≡◌, IfErr, IfOk, IfSome, None, Some};
-ghost use Rattle.trail_files.specs.Beginning.{BeginsAs, ComesBy, LastBy, LastOf, heading_in, moment_of, place_by};
-ghost use Rattle.trail_files.specs.declared.fault.TrailFault.TheVariants.{NoEntryYet, NoHeader};
+ghost use Rattle.std.specs.Prelude.{◌≡◌, IfErr, IfOk, IfSome, MatchResult, None, Some};
+ghost use Rattle.trail_files.specs.Beginning.{BeginsAs, ComesBy, IsNoHeading, IsUnheaded, IsUnplaced, LastBy, LastOf};
+ghost use Rattle.trail_files.specs.Beginning.{heading_in, moment_of, place_by};
+ghost use Rattle.trail_files.specs.declared.fault.TrailFault.TheVariants.{NoEntryYet};
 ghost use Rattle.trail_lines.specs.Lines.{OfKnown};
 
 use crate::fault::TrailFault;
@@ -21,10 +22,10 @@ pub struct Heading {
     pub ms: u64,
 }
 
-/// What a first line says.
+/// What a first line says. `NoHeader` if no first line is printed so.
 fn heading_in(alloc: Global, line: &[u8]) -> Result<Heading, TrailFault>
     ensures ok { IfOk result (λ heading. heading_in line.now ≡ Some heading) }
-    ensures err { IfErr result (λ fault. (n : ℕ) → fault ≡ NoHeader n → heading_in line.now ≡ None) }
+    ensures err { IfErr result (λ fault. IsNoHeading fault line.now) }
 {
     match read_header(alloc, line) {
         Ok(header) => Ok(Heading {
@@ -37,9 +38,12 @@ fn heading_in(alloc: Global, line: &[u8]) -> Result<Heading, TrailFault>
     }
 }
 
-/// What the first line of a reader says.
+/// What the first line of a reader says. `NoHeader` if there is no line, if it has no line feed, or if no first line is
+/// printed so; `Io` if reading fails, or if memory is refused.
 pub fn heading_of<R: BufRead>(alloc: Global, reader: &mut R) -> Result<Heading, TrailFault>
-    ensures { IfOk result (λ heading. OfKnown (R.remaining reader.old) (R.remaining reader.new) (BeginsAs heading)) }
+    ensures { MatchResult result
+        (λ heading. OfKnown (R.remaining reader.old) (R.remaining reader.new) (BeginsAs heading))
+        (λ fault. IsUnheaded fault (R.remaining reader.old) (R.remaining reader.new)) }
 {
     let mut line = Vec::new(alloc);
     match next_line(reader, &mut line)? {
@@ -102,10 +106,11 @@ fn last_of<R: BufRead>(alloc: Global, time: u64, reader: &mut R) -> io::Result<O
 }
 
 /// The place of the last entry of a reader before the first one that is later than the time. `NoEntryYet` if the first
-/// one is.
+/// one is; `Io` if reading fails, or if memory is refused.
 pub fn place_at<R: BufRead>(alloc: Global, time: u64, reader: &mut R) -> Result<u64, TrailFault>
     ensures ok { IfOk result (λ place. IfSome (R.remaining reader.old) (LastOf time (Some place))) }
     ensures err { IfErr result (λ fault. fault ≡ NoEntryYet → IfSome (R.remaining reader.old) (LastOf time None)) }
+    ensures others { IfErr result (λ fault. IsUnplaced fault) }
 {
     match last_of(alloc, time, reader) {
         Ok(Some(place)) => Ok(place),

@@ -8,6 +8,7 @@ mod heading;
 mod json;
 mod show;
 mod tell;
+mod words;
 
 pub use check::{Finish, check_lines, finish_at, finish_of};
 pub use fault::TrailFault;

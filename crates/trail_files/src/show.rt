@@ -1,34 +1,23 @@
 //! A trail's lines, with times that are read.
 
-ghost use Rattle.std.specs.Prelude.{◌≡◌, IfOk, IfSome, option_map};
-ghost use Rattle.trail_files.specs.Showing.{ShowsAs, ShowsFrom, kind_in, kind_of, times_of};
-ghost use Rattle.trail_lines.specs.Entries.{read_line};
+ghost use Rattle.std.specs.Prelude.{◌≡◌, ◌++◌, IfOk, IfSome, OnOk};
+ghost use Rattle.std.specs.Io.KnownBytes.{Appends};
+ghost use Rattle.line_fields.specs.Meaning.{in_parentheses};
+ghost use Rattle.trail_files.specs.Showing.{Shows, ShowsFrom, json_text, kind_in, kind_of, plain_entry, plain_text};
+ghost use Rattle.trail_files.specs.Showing.{shown_of, shown_text, shown_time, text_of, told_text};
 ghost use Rattle.trail_lines.specs.Lines.{OfKnown};
-ghost use Rattle.trail_lines.specs.Unreadable.{Gives};
 
-use crate::json::{write_end, write_entry};
-use hub::Kept;
-use line_fields::{cut, push_escaped, push_means};
+use crate::json::{push_end, push_entry};
+use crate::words::{behind_words, means_of};
+use line_fields::push_when;
 use std::alloc::{AllocError, Global};
 use std::io::{self, BufRead, Write};
 use trail_lines::{Ended, EntryLine, NextLine, UnreadLine, next_line, read_end, read_line};
-use trail_rights::write_when;
-
-/// What an entry's line says, as it is shown.
-#[derive(Drop)]
-pub struct Said {
-    pub place: u64,
-    pub ms: u64,
-    /// How many words its event has.
-    pub words: usize,
-    /// What the number of its refusal means. Empty if it has none.
-    pub means: Vec<u8>,
-}
 
 /// A line after the first one.
 #[derive(Drop)]
 enum ShownLine {
-    Entry(Said),
+    Entry(EntryLine),
     End(Ended),
     /// A line that isn't a line of a trail.
     Nothing,
@@ -56,53 +45,12 @@ impl ShownLine {
     }
 }
 
-/// How many words an event has.
-fn count_words(event: &Kept) -> usize {
-    match event {
-        Kept::Attach { .. } | Kept::Command { .. } => 4,
-        Kept::Open { .. } => 6,
-        Kept::Detach { .. } | Kept::Keys { .. } | Kept::Closed { .. } => 2,
-    }
-}
-
-/// The line of a command. Empty for other events.
-fn line_of(event: &Kept) -> &[u8] {
-    match event {
-        Kept::Command { line, .. } => line.as_slice(),
-        _ => &[],
-    }
-}
-
-/// What the number of an entry's refusal means, in bytes of 20 to 7E. Empty if it has none.
-fn means_of(alloc: Global, line: &EntryLine) -> Result<Vec<u8>, AllocError> {
-    let mut means = Vec::new(alloc);
-    if let Err(refusal) = line.entry.ending() {
-        push_means(&refusal, line_of(line.entry.event()), &mut means)?;
-    }
-    let mut text = Vec::new(alloc);
-    push_escaped(0x20, means.as_slice(), &mut text)?;
-    Ok(text)
-}
-
-/// What an entry's line says.
-fn read_said(alloc: Global, text: &[u8]) -> Result<Said, UnreadLine>
-    ensures { Gives (λ said. (said.place, said.ms)) result (option_map times_of (read_line text.now)) }
-{
-    let line = read_line(alloc, text)?;
-    Ok(Said {
-        place: line.place,
-        ms: line.ms,
-        words: count_words(line.entry.event()),
-        means: means_of(alloc, &line)?,
-    })
-}
-
 /// What a line is.
 fn read_told(alloc: Global, text: &[u8]) -> Result<ShownLine, AllocError>
-    ensures { IfOk result (λ told. kind_in told ≡ kind_of text.now) }
+    ensures { IfOk result (λ told. told ≡ shown_of text.now) }
 {
-    match read_said(alloc, text) {
-        Ok(said) => return Ok(ShownLine::Entry(said)),
+    match read_line(alloc, text) {
+        Ok(line) => return Ok(ShownLine::Entry(line)),
         Err(UnreadLine::NoMemory) => return Err(AllocError),
         Err(UnreadLine::Malformed) => {}
     }
@@ -122,54 +70,78 @@ pub enum LineFormat {
     Json,
 }
 
-/// Writes a place and a time.
-fn write_times<W: Write>(alloc: Global, place: u64, ms: u64, output: &mut W) -> io::Result<()> {
-    write!(output, "{place} ")?;
-    if !write_when(alloc, &[], ms, output)? {
-        write!(output, "{ms}")?;
+/// Appends a time in the form of RFC 3339, or its milliseconds since 1970 if its year has more than four digits.
+fn push_time(ms: u64, out: &mut Vec<u8>) -> io::Result<()>
+    ensures { OnOk result (out.new.items ≡ out.old.items ++ shown_time ms) }
+{
+    let mut time = Vec::new(*out.allocator());
+    push_when(&[], ms, &mut time)?;
+    match time.as_slice() {
+        [] => write!(out, "{ms}"),
+        text => Ok(out.extend_from_slice(text)?),
     }
-    output.write_all(b" ")
 }
 
-/// Writes what the number of a refusal means, if it has one.
-fn show_means<W: Write>(means: &[u8], output: &mut W) -> io::Result<()> {
-    if means.is_empty() {
-        return Ok(());
+/// Appends what the number of a refusal means in parentheses after a blank, if it has one.
+fn push_means(means: &[u8], out: &mut Vec<u8>) -> Result<(), AllocError>
+    ensures { OnOk result (out.new.items ≡ out.old.items ++ in_parentheses means.now) }
+{
+    match means {
+        [] => Ok(()),
+        [_, ..] => {
+            out.extend_from_slice(b" (")?;
+            out.extend_from_slice(means)?;
+            out.extend_from_slice(b")")
+        }
     }
-    output.write_all(b" (")?;
-    output.write_all(means)?;
-    output.write_all(b")")
 }
 
-/// Writes an entry as the file has it, but with its time in the form of RFC 3339. What the number of its
+/// Appends an entry as its line has it, but with its time in the form of RFC 3339. What the number of its
 /// refusal means is at the end.
-fn show_entry<W: Write>(alloc: Global, said: &Said, text: &[u8], output: &mut W) -> io::Result<()> {
-    write_times(alloc, said.place, said.ms, output)?;
-    output.write_all(behind_words(text, 2))?;
-    show_means(said.means.as_slice(), output)?;
-    output.write_all(b"\n")
+fn push_plain_entry(line: &EntryLine, text: &[u8], out: &mut Vec<u8>) -> io::Result<()>
+    ensures { OnOk result (out.new.items ≡ out.old.items ++ plain_entry line.now text.now) }
+{
+    let means = means_of(*out.allocator(), &line.entry)?;
+    write!(out, "{} ", line.place)?;
+    push_time(line.ms, out)?;
+    out.extend_from_slice(b" ")?;
+    out.extend_from_slice(behind_words(text, 2))?;
+    push_means(means.as_slice(), out)?;
+    Ok(out.extend_from_slice(b"\n")?)
 }
 
-/// Writes a last line as the file has it.
-fn show_end<W: Write>(text: &[u8], output: &mut W) -> io::Result<()> {
-    output.write_all(text)?;
-    output.write_all(b"\n")
+/// Appends a line, by what it is, as the file has it.
+fn push_plain(told: &ShownLine, text: &[u8], out: &mut Vec<u8>) -> io::Result<()>
+    ensures { OnOk result (out.new.items ≡ out.old.items ++ plain_text told.now text.now) }
+{
+    match told {
+        ShownLine::Entry(line) => push_plain_entry(line, text, out),
+        ShownLine::End(_) => {
+            out.extend_from_slice(text)?;
+            Ok(out.extend_from_slice(b"\n")?)
+        }
+        ShownLine::Nothing => Ok(()),
+    }
 }
 
-/// Writes a line, by what it is.
-fn show_told<W: Write>(
-    alloc: Global,
-    form: LineFormat,
-    told: &ShownLine,
-    text: &[u8],
-    output: &mut W,
-) -> io::Result<()> {
-    match (told, form) {
-        (ShownLine::Entry(said), LineFormat::Plain) => show_entry(alloc, said, text, output),
-        (ShownLine::Entry(said), LineFormat::Json) => write_entry(alloc, said, text, output),
-        (ShownLine::End(_), LineFormat::Plain) => show_end(text, output),
-        (ShownLine::End(ended), LineFormat::Json) => write_end(alloc, *ended, output),
-        (ShownLine::Nothing, _) => Ok(()),
+/// Appends a line, by what it is, as an object of JSON.
+fn push_json(told: &ShownLine, text: &[u8], out: &mut Vec<u8>) -> io::Result<()>
+    ensures { OnOk result (out.new.items ≡ out.old.items ++ json_text told.now text.now) }
+{
+    match told {
+        ShownLine::Entry(line) => push_entry(line, text, out),
+        ShownLine::End(ended) => push_end(*ended, out),
+        ShownLine::Nothing => Ok(()),
+    }
+}
+
+/// Appends a line, by what it is. Appends nothing if it isn't a line of a trail.
+fn push_told(form: LineFormat, told: &ShownLine, text: &[u8], out: &mut Vec<u8>) -> io::Result<()>
+    ensures { OnOk result (out.new.items ≡ out.old.items ++ told_text form told.now text.now) }
+{
+    match form {
+        LineFormat::Plain => push_plain(told, text, out),
+        LineFormat::Json => push_json(told, text, out),
     }
 }
 
@@ -180,10 +152,13 @@ fn show_text<W: Write>(
     text: &[u8],
     output: &mut W,
 ) -> io::Result<LineKind>
-    ensures { IfOk result (λ kind. kind ≡ kind_of text.now) }
+    ensures { IfOk result (λ kind. (kind ≡ kind_of text.now)
+        × Appends (W.contents output.old) (W.contents output.new) (text_of form text.now)) }
 {
     let told = read_told(alloc, text)?;
-    show_told(alloc, form, &told, text, output)?;
+    let mut shown = Vec::new(alloc);
+    push_told(form, &told, text, &mut shown)?;
+    output.write_all(shown.as_slice())?;
     output.flush()?;
     Ok(told.kind())
 }
@@ -196,7 +171,8 @@ fn show_next<R: BufRead, W: Write>(
     text: &mut Vec<u8>,
     output: &mut W,
 ) -> io::Result<LineKind>
-    ensures { IfOk result (λ kind. OfKnown (R.remaining reader.old) (R.remaining reader.new) (ShowsAs kind)) }
+    ensures { IfOk result (λ kind. OfKnown (R.remaining reader.old) (R.remaining reader.new)
+        (Shows form (W.contents output.old) (W.contents output.new) kind)) }
 {
     match next_line(reader, text)? {
         NextLine::Whole => show_text(alloc, form, text.as_slice(), output),
@@ -212,7 +188,9 @@ pub fn show_lines<R: BufRead, W: Write>(
     reader: &mut R,
     output: &mut W,
 ) -> io::Result<Option<u64>>
-    ensures { IfOk result (λ stopped. IfSome (R.remaining reader.old) (ShowsFrom 2 stopped)) }
+    ensures stops { IfOk result (λ stopped. IfSome (R.remaining reader.old) (ShowsFrom 2 stopped)) }
+    ensures text { OnOk result (IfSome (R.remaining reader.old)
+        (λ bytes. Appends (W.contents output.old) (W.contents output.new) (shown_text form bytes))) }
 {
     let mut text = Vec::new(alloc);
     'lines: for number in 2..u64::MAX {
@@ -224,21 +202,4 @@ pub fn show_lines<R: BufRead, W: Write>(
     }
     // No file has 2^64 lines.
     Err(io::Error::from(AllocError))
-}
-
-/// The first word of a text, and what follows its blank.
-pub fn first_word(text: &[u8]) -> (&[u8], &[u8]) {
-    match cut(text, b' ') {
-        Some(parts) => parts,
-        None => (text, &[]),
-    }
-}
-
-/// What follows the first words of a text.
-pub fn behind_words(text: &[u8], count: usize) -> &[u8] {
-    let mut rest = text;
-    for _ in 0..count {
-        rest = first_word(rest).1;
-    }
-    rest
 }

@@ -68,11 +68,12 @@ impl LogWriter {
     }
 
     /// Appends the line that is held, if there is one, and returns its time in milliseconds since
-    /// 1970. Nothing is joined to it any more.
+    /// 1970. Nothing is joined to it any more. After an `Err` it is still held.
     pub fn end(&mut self, out: &mut Vec<u8>) -> Result<Option<u64>, AllocError>
         ensures text { OnOk result (out.new.items ≡ out.old.items ++ held_text self.old.held) }
         ensures ms { IfOk result (λ ms. ms ≡ held_ms self.old.held) }
         ensures held { OnOk result (self.new.held ≡ None) }
+        ensures stays { IfErr result (λ refused. self.new ≡ self.old) }
         ensures logged { (edition : Edition) (owner : UserId) (said : List Said) →
             HasLogged self.old edition owner said → HasLogged self.new edition owner said }
     {
