@@ -2,7 +2,9 @@
 use Rattle.std.specs.Prelude.{◌≡◌, ◌<◌, ◌≤◌, ◌++◌, ◌∷◌, ◌^◌, ◌+◌, ◌-◌, ◌/◌, ◌%◌, ℕ, Bool, true, false, []}
 use Rattle.std.specs.Prelude.{IfSome, Option, Some, None, if◌then◌else◌, min, option_map, unwrap_or, vec_capacity, vec_len}
 use Rattle.std.specs.Duration.{as_nanos}
+use Rattle.std.specs.declared.alloc.Global.{Global}
 use Rattle.std.specs.declared.time.Duration.{Duration}
+use Rattle.std.specs.declared.vec.Vec.{Vec}
 use Rattle.acl.specs.History.{without_user}
 use Rattle.acl.specs.declared.user_id.UserId.{UserId}
 use Rattle.server_seat.specs.declared.seat.GuestKind.{GuestKind}
@@ -10,10 +12,11 @@ use Rattle.server_seat.specs.declared.seat.GuestKind.TheVariants as kind
 use Rattle.server_users.specs.Accounts.{account_of, guests_of, judged}
 use Rattle.server_users.specs.Allowances.{MayPay, Purse, fresh, paid, settled, stands_at}
 use Rattle.server_users.specs.declared.allowance.Outcome.{Outcome}
-use Rattle.server_users.specs.declared.tally.Tally.{Tally}
 use Rattle.server_session.specs.Loading.{IsFull, SameBut, typed_into}
 use Rattle.server_session.specs.declared.books.Books.{Books}
 use Rattle.server_session.specs.declared.books.Calls.{Calls}
+use Rattle.server_session.specs.declared.books.Limits.{Limits}
+use Rattle.server_session.specs.declared.seated.Accounts.{Accounts}
 
 -- one call more
 abbrev pub once_more : Calls → Calls
@@ -53,33 +56,35 @@ pub record HasSettled (old : Books) (user : UserId) (cost : ℕ) (outcome : Outc
 
 -- ---- clients and windows
 
+-- the users of the clients, or of the windows, of a session
+abbrev pub Guests : Type 0
+Guests = Vec UserId Global
+
+-- the limits by which these accounts count
+abbrev pub limits_of : {B T : Type 0} → Accounts B T → Limits
+limits_of accounts = accounts.limits
+
 -- One more was counted, below the bound if there is one; or the user has as many as a user may have, or there was no
 -- room for one more.
-pub record HasAdded (old : Tally) (user : UserId) (most : Option ℕ) (new : Tally) : Type 0 where
-  pub unbounded : old.most ≡ None → (most ≡ None) × (new.guests.items ≡ old.guests.items)
-  pub counted : (bound : ℕ) → old.most ≡ Some bound → most ≡ None
-      → (guests_of old.guests.items user < bound) × (new.guests.items ≡ old.guests.items ++ user ∷ [])
-  pub refused : IfSome most (λ bound. (old.most ≡ Some bound) × (new.guests.items ≡ old.guests.items))
-  pub full : IfSome most
-      (λ bound. vec_len old.guests < vec_capacity old.guests → bound ≤ guests_of old.guests.items user)
-  pub bound_is : new.most ≡ old.most
+pub record HasAdded (old : Guests) (user : UserId) (most refused : Option ℕ) (new : Guests) : Type 0 where
+  pub unbounded : most ≡ None → (refused ≡ None) × (new.items ≡ old.items)
+  pub counted : (bound : ℕ) → most ≡ Some bound → refused ≡ None
+      → (guests_of old.items user < bound) × (new.items ≡ old.items ++ user ∷ [])
+  pub same : IfSome refused (λ bound. (most ≡ Some bound) × (new.items ≡ old.items))
+  pub full : IfSome refused (λ bound. vec_len old < vec_capacity old → bound ≤ guests_of old.items user)
 
-abbrev pub Adds : Books → UserId → GuestKind → Option ℕ → Books → Type 0
-Adds old user kind.Client most new =
-    HasAdded old.clients user most new.clients × (new ≡ record old { clients = new.clients })
-Adds old user kind.Window most new =
-    HasAdded old.windows user most new.windows × (new ≡ record old { windows = new.windows })
+abbrev pub Adds : Books → UserId → GuestKind → Limits → Option ℕ → Books → Type 0
+Adds old user kind.Client limits refused new =
+    HasAdded old.clients user limits.clients refused new.clients × (new ≡ record old { clients = new.clients })
+Adds old user kind.Window limits refused new =
+    HasAdded old.windows user limits.windows refused new.windows × (new ≡ record old { windows = new.windows })
 
 -- one less was counted
-abbrev pub HasRemoved : Tally → UserId → Tally → Type 0
-HasRemoved old user new =
-    (new.guests.items ≡ without_user user old.guests.items) × (new.most ≡ old.most)
-
 abbrev pub Removes : Books → UserId → GuestKind → Books → Type 0
-Removes old user kind.Client new =
-    HasRemoved old.clients user new.clients × (new ≡ record old { clients = new.clients })
-Removes old user kind.Window new =
-    HasRemoved old.windows user new.windows × (new ≡ record old { windows = new.windows })
+Removes old user kind.Client new = (new.clients.items ≡ without_user user old.clients.items)
+    × (new ≡ record old { clients = new.clients })
+Removes old user kind.Window new = (new.windows.items ≡ without_user user old.windows.items)
+    × (new ≡ record old { windows = new.windows })
 
 -- ---- what is typed into windows
 

@@ -1,8 +1,12 @@
 //! What is counted of users and of windows, under the lock of all loops.
 
-ghost use Rattle.std.specs.Prelude.{◌≡◌, ℕ, None, [], option_map};
+ghost use Rattle.std.specs.Prelude.{◌≡◌, ◌<◌, ℕ, IfSome, None, [], length, option_map};
+ghost use Rattle.std.specs.List.{position};
+ghost use Rattle.acl.specs.History.{without_user};
+ghost use Rattle.acl.specs.Same.{same_user};
 ghost use Rattle.acl.specs.declared.user_id.UserId.{UserId as User};
-ghost use Rattle.server_session.specs.Counting.{Adds, FindsFull, HasPaid, HasSettled, IsLoaded, Removes};
+ghost use Rattle.server_users.specs.Accounts.{guests_of};
+ghost use Rattle.server_session.specs.Counting.{Adds, FindsFull, HasAdded, HasPaid, HasSettled, IsLoaded, Removes};
 ghost use Rattle.server_session.specs.Counting.{load_of, load_opened, once_more, purse_of};
 ghost use Rattle.server_session.specs.Loading.{looked_at, with_typed};
 
@@ -10,7 +14,7 @@ use crate::loads::Loads;
 use acl::UserId;
 use hub::{Begun, Seat};
 use server_seat::GuestKind;
-use server_users::{Allowances, Outcome, Tally};
+use server_users::{Allowances, Outcome};
 use std::alloc::Global;
 
 /// How many clients and windows one user may have; None if only the session bounds them.
@@ -59,6 +63,7 @@ pub trait Counting {
     ghost use Rattle.server_seat.specs.declared.seat.GuestKind.{GuestKind as Kind};
     ghost use Rattle.server_users.specs.declared.allowance.Outcome.{Outcome as CameOf};
     ghost use Rattle.server_session.specs.Counting.{once_more};
+    ghost use Rattle.server_session.specs.declared.books.Limits.{Limits as Bounds};
 
     // A user, the time in milliseconds, a cost, and whether it was paid.
     ghost pays: { Self → User → ℕ → ℕ → Bool → Self → Type 0 };
@@ -66,8 +71,8 @@ pub trait Counting {
     // A user, a cost, and what came of the step.
     ghost settles: { Self → User → ℕ → CameOf → Self → Type 0 };
 
-    // A user, a kind, and how many a user may have if one more wasn't counted.
-    ghost adds: { Self → User → Kind → Option ℕ → Self → Type 0 };
+    // A user, a kind, the limits, and how many a user may have if one more wasn't counted.
+    ghost adds: { Self → User → Kind → Bounds → Option ℕ → Self → Type 0 };
 
     ghost removes: { Self → User → Kind → Self → Type 0 };
 
@@ -95,9 +100,9 @@ pub trait Counting {
         ensures settled { settles self.old user cost outcome self.new }
         ensures once { calls.new ≡ once_more calls.old };
 
-    /// Counts one more client or window of a user, as `Tally::add` does.
-    fn add(&mut self, calls: &mut Calls, user: UserId, kind: GuestKind) -> Option<u8>
-        ensures added { adds self.old user kind result self.new }
+    /// Counts one more client or window of a user, by these limits; else the answer is how many a user may have.
+    fn add(&mut self, calls: &mut Calls, user: UserId, kind: GuestKind, by: Limits) -> Option<u8>
+        ensures added { adds self.old user kind by result self.new }
         ensures once { calls.new ≡ once_more calls.old };
 
     /// Counts one client or window less of a user.
@@ -130,29 +135,66 @@ pub trait Counting {
         ensures { finds_full self.now window result };
 }
 
-/// What each user may still try in vain, how many clients and windows they have, and how much was typed
-/// into each window.
+/// What each user may still try in vain, how many clients and windows they have and may have, and how much was
+/// typed into each window.
 #[derive(Drop)]
 pub struct Books {
+    pub(crate) limits: Limits,
     allowances: Allowances,
-    clients: Tally,
-    windows: Tally,
+    // The user of each client, and of each window. Nothing is counted that only the session bounds.
+    clients: Vec<UserId>,
+    windows: Vec<UserId>,
     loads: Loads,
+}
+
+fn count_of(guests: &[UserId], user: UserId) -> usize
+    ensures { result ≡ guests_of guests.now user }
+{
+    guests.iter().filter(|guest| user == **guest).count()
+}
+
+// The place of the first that is this user's.
+fn place_of(guests: &[UserId], user: UserId) -> Option<usize>
+    ensures place { result ≡ position (same_user user) guests.now }
+    ensures within { IfSome result (λ place. place < length guests.now) }
+{
+    guests.iter().position(|guest| user == *guest)
+}
+
+// Counts one more guest of a user, unless they have this many or memory is refused: then the answer is this many.
+fn add(guests: &mut Vec<UserId>, user: UserId, most: Option<u8>) -> Option<u8>
+    ensures { HasAdded guests.old user most result guests.new }
+{
+    let most = most?;
+    if count_of(guests, user) >= usize::from(most) || guests.push(user).is_err() {
+        return Some(most);
+    }
+    None
+}
+
+// Counts one guest less of a user.
+fn remove(guests: &mut Vec<UserId>, user: UserId)
+    ensures { guests.new.items ≡ without_user user guests.old.items }
+{
+    if let Some(place) = place_of(guests, user) {
+        let _ = guests.remove(place);
+    }
 }
 
 impl Books {
     /// Nobody has tried or opened anything yet in the session of this owner.
     pub fn new(alloc: Global, owner: UserId, limits: Limits) -> Books
-        ensures clients { (result.clients.most ≡ limits.clients) × (result.clients.guests.items ≡ []) }
-        ensures windows { (result.windows.most ≡ limits.windows) × (result.windows.guests.items ≡ []) }
+        ensures limits { result.limits ≡ limits }
+        ensures guests { (result.clients.items ≡ []) × (result.windows.items ≡ []) }
         ensures purses { (user : User) → purse_of result user ≡ None }
         ensures loads { (window : ℕ) → load_of result window ≡ None }
         ensures owner { result.allowances.owner ≡ owner }
     {
         Books {
+            limits,
             allowances: Allowances::new(alloc, owner),
-            clients: Tally::new(alloc, limits.clients),
-            windows: Tally::new(alloc, limits.windows),
+            clients: Vec::new(alloc),
+            windows: Vec::new(alloc),
             loads: Loads::new(alloc),
         }
     }
@@ -163,7 +205,7 @@ impl Counting for Books {
 
     ghost settles = { λ old user cost outcome new. HasSettled old user cost outcome new };
 
-    ghost adds = { λ old user kind most new. Adds old user kind most new };
+    ghost adds = { λ old user kind limits most new. Adds old user kind limits most new };
 
     ghost removes = { λ old user kind new. Removes old user kind new };
 
@@ -189,19 +231,19 @@ impl Counting for Books {
         self.allowances.settle(user, cost, outcome);
     }
 
-    fn add(&mut self, calls: &mut Calls, user: UserId, kind: GuestKind) -> Option<u8> {
+    fn add(&mut self, calls: &mut Calls, user: UserId, kind: GuestKind, by: Limits) -> Option<u8> {
         calls.note();
         match kind {
-            GuestKind::Client => self.clients.add(user),
-            GuestKind::Window => self.windows.add(user),
+            GuestKind::Client => add(&mut self.clients, user, by.clients),
+            GuestKind::Window => add(&mut self.windows, user, by.windows),
         }
     }
 
     fn remove(&mut self, calls: &mut Calls, user: UserId, kind: GuestKind) {
         calls.note();
         match kind {
-            GuestKind::Client => self.clients.remove(user),
-            GuestKind::Window => self.windows.remove(user),
+            GuestKind::Client => remove(&mut self.clients, user),
+            GuestKind::Window => remove(&mut self.windows, user),
         }
     }
 

@@ -12,7 +12,7 @@ mod trail_size;
 
 pub use books::{Books, Calls, Counting, Limits};
 pub use hub::{Begun, Seat, Trail};
-pub use loop_body::{LoopBody, LoopsFault, Start, keep};
+pub use loop_body::{LoopBody, LoopGone, LoopsFault, Start, keep};
 pub use seated::{Accounts, Seated};
 pub use server_trail::Recorder;
 pub use setting_up::Agreement;

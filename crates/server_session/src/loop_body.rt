@@ -7,7 +7,7 @@ ghost use Rattle.hub.specs.Seats.{StandsFor};
 ghost use Rattle.server_session.specs.SettingUp.{HasBegun, IsOwnerOf, IsUnbegun, IsUnkept, setup_of, users_of};
 
 use crate::setting_up::{Agreement, Giver, SetUp, close, set_up};
-use crate::shared_session::SharedSession;
+use crate::shared_session::{LoopSession, SharedSession};
 use acl::UserId;
 use hub::{Begun, Hub, Seat, Session, Trail};
 use program_words::SetupFault;
@@ -38,6 +38,10 @@ pub enum LoopsFault {
     },
 }
 
+/// Shows that a loop is gone: it has ended, or the system refused its thread. It is made once for each loop.
+#[derive(Drop)]
+pub struct LoopGone(());
+
 /// Runs the loops. Each is given a place of type `P` to begin with.
 pub trait LoopBody<P: Drop, R> {
     ghost use Rattle.std.specs.Prelude.{Option};
@@ -45,6 +49,9 @@ pub trait LoopBody<P: Drop, R> {
 
     // Only a call of `recorder` shows what it answered.
     ghost records: { Self → Option Lines → Type 0 } = { λ _ _. Unit {0} };
+
+    // Only a call of `fail` shows it.
+    ghost fails: { Self → Type 0 } = { λ _. Unit {0} };
 
     /// Runs one loop to its end, and gives its seat back if it ended well.
     fn run<L: Begun>(
@@ -55,8 +62,12 @@ pub trait LoopBody<P: Drop, R> {
         place: P,
     ) -> Option<Seat<L>>;
 
-    /// The system refused a thread: that of a loop, which is over then, or that in which the trail is written.
-    fn fail(&self, rt: &R, is_loop: bool);
+    /// The system refused a thread: that of a loop, or that in which the trail is written.
+    fn fail(&self, rt: &R, is_loop: bool)
+        ensures { fails self.now };
+
+    /// A loop is gone.
+    fn leave(&self, _rt: &R, _gone: LoopGone) {}
 
     /// Runs in the thread that began the loops, until they have ended.
     fn stand_by(&self, _rt: &R) {}
@@ -90,12 +101,15 @@ struct RunningSession<L: Begun> {
 }
 
 impl<L: Begun> RunningSession<L> {
-    // Takes note that a loop has ended. One that ended well gives its seat back.
-    fn leave(&self, rt: &impl Wait, seat: Option<Seat<L>>) {
+    // Takes note that a loop is gone. One that ended well gives its seat back.
+    fn leave<P: Drop, R: Wait>(&self, rt: &R, to: &impl LoopBody<P, R>, seat: Option<Seat<L>>) {
+        to.leave(rt, LoopGone(()));
         if let Some(seat) = seat {
             let _ = self.left.lock(rt).push(seat);
         }
-        self.shared.leave(rt);
+        if let Some(recorder) = &self.shared.recorder {
+            recorder.leave(rt);
+        }
     }
 }
 
@@ -120,14 +134,14 @@ where
             };
             let started = scope.spawn(move || {
                 let left = loop_body.run(rt, &running.shared, seat, place);
-                running.leave(rt, left);
+                running.leave(rt, loop_body, left);
             });
             if started.is_err() {
                 loop_body.fail(rt, true);
-                running.leave(rt, None);
+                running.leave(rt, loop_body, None);
             }
         }
-        if let Some(recorder) = running.shared.recorder() {
+        if let Some(recorder) = &running.shared.recorder {
             let writing = scope.spawn(move || loop_body.write_trail(rt, recorder));
             if writing.is_err() {
                 loop_body.fail(rt, false);
@@ -194,17 +208,16 @@ where
     let Ok((hub, mut seats)) = Hub::<L>::new(alloc, blank, session, loops) else {
         return Err(LoopsFault::NoMemory);
     };
-    let recorder = loop_body.recorder(alloc, loops);
-    if let Some(recorder) = &recorder {
-        recorder.set_time(rt);
-    }
-    let shared = SharedSession::new(hub, users, recorder);
+    let shared = SharedSession {
+        hub,
+        users,
+        recorder: loop_body.recorder(alloc, loops),
+    };
+    shared.set_time(rt);
     let first = &mut seats[0];
     first.ask_for_entries();
-    match set_up(rt, Giver { alloc, owner }, &shared, first, setup) {
-        Ok(set_up) => Ok((RunningSession { shared, left }, seats, set_up)),
-        Err(fault) => Err(fault),
-    }
+    let set_up = set_up(rt, Giver { alloc, owner }, &shared, first, setup)?;
+    Ok((RunningSession { shared, left }, seats, set_up))
 }
 
 fn keep_as<L, P, K, R>(

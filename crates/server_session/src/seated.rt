@@ -4,14 +4,14 @@ ghost use Rattle.std.specs.Prelude.{◌≡◌, ◌||◌, IfSome, Option, is_some
 ghost use Rattle.session.specs.Trace.{happening};
 ghost use Rattle.hub.specs.Seats.{Ruled};
 ghost use Rattle.server_session.specs.Loading.{closed_by, opened_by, size_of};
-ghost use Rattle.server_session.specs.Counting.{millis_of, once_more};
+ghost use Rattle.server_session.specs.Counting.{limits_of, millis_of, once_more};
 ghost use Rattle.server_session.specs.Gauging.{IsGauged};
-ghost use Rattle.server_session.specs.Outcomes.{checked, outcome_of};
+ghost use Rattle.server_session.specs.Outcomes.{outcome_of};
 ghost use Rattle.server_trail.specs.declared.waiting.Stopped.{Stopped as Stop};
 ghost use Rattle.server_session.specs.Seating.{AreClosed, IsClosed, IsCounted, Steps};
 ghost use Rattle.server_session.specs.Seating.{after_closings, calls_to_count, fault_of, if_called};
 
-use crate::books::{Calls, Counting};
+use crate::books::{Books, Calls, Counting, Limits};
 use crate::shared_session::LoopSession;
 use crate::trail_size::{SharedSum, TrailSize};
 use acl::UserId;
@@ -23,28 +23,16 @@ use std::sync::atomic::AtomicU64;
 use std::sync::{Mutex, Wait};
 use std::time::{Clock, Duration};
 
-// What came of a step that was done, from whether all its checks passed and whether one was for a command.
-fn checked(checks: Option<bool>, execute: bool) -> Outcome
-    ensures { result ≡ checked checks execute }
-{
-    let Some(passed) = checks else {
-        return Outcome::Unchecked;
-    };
-    match passed {
-        false => Outcome::Denied,
-        true if execute => Outcome::Granted,
-        true => Outcome::Typed,
-    }
-}
-
-// What came of a step, from its reply and its checks.
+// What came of a step, from its reply, from whether all its checks passed, and whether one was for a command.
 fn outcome_of(reply: &Reply, checks: Option<bool>, execute: bool) -> Outcome
     ensures { result ≡ outcome_of reply.now checks execute }
 {
-    match reply {
-        Err(Refusal::NoMemory) => Outcome::Untaken,
-        Err(_) => Outcome::Denied,
-        Ok(_) => checked(checks, execute),
+    match (reply, checks) {
+        (Err(Refusal::NoMemory), _) => Outcome::Untaken,
+        (Err(_), _) | (Ok(_), Some(false)) => Outcome::Denied,
+        (Ok(_), None) => Outcome::Unchecked,
+        (Ok(_), Some(true)) if execute => Outcome::Granted,
+        (Ok(_), Some(true)) => Outcome::Typed,
     }
 }
 
@@ -97,18 +85,22 @@ fn millis(now: Duration) -> u64
     u64::try_from(now.as_millis()).unwrap_or(u64::MAX)
 }
 
-/// What the loops count of users and windows, under a lock, and how large the trail is. What lies under
-/// a lock before and after a call isn't known to its caller, but that the call counts it, once.
+/// What the loops count of users and windows, under a lock, by which limits, and how large the trail is. What
+/// lies under a lock before and after a call isn't known to its caller, but that the call counts it, once.
 #[derive(Drop)]
 pub struct Accounts<B, T = AtomicU64> {
+    limits: Limits,
     books: Mutex<B>,
     trail: TrailSize<T>,
 }
 
-impl<B> Accounts<B> {
-    /// What is counted so by now, and a trail that takes nothing.
-    pub fn new(books: B) -> Accounts<B> {
+impl Accounts<Books> {
+    /// What is counted so by now, by the limits of these books, and a trail that takes nothing.
+    pub fn new(books: Books) -> Accounts<Books>
+        ensures { limits_of result ≡ books.limits }
+    {
         Accounts {
+            limits: books.limits,
             books: Mutex::new(books),
             trail: TrailSize::new(),
         }
@@ -131,7 +123,8 @@ impl<'a, L: Begun, S, B, T> Seated<'a, L, S, B, T> {
         accounts: &'a Accounts<B, T>,
         mut seat: Seat<L>,
     ) -> Seated<'a, L, S, B, T>
-        ensures { result.seat ≡ record seat { asks = true } }
+        ensures seat { result.seat ≡ record seat { asks = true } }
+        ensures shared { (result.shared ≡ shared.entry) × (result.accounts ≡ accounts.entry) }
     {
         seat.ask_for_entries();
         let (seat, calls) = Calls::of(seat);
@@ -157,9 +150,7 @@ impl<L: Begun, S, B: Counting, T: SharedSum> Seated<'_, L, S, B, T> {
         ensures gauged { IsGauged (T.adds self.old.accounts.now.trail.bytes) answer.now result }
         ensures once { self.new ≡ record self.old { calls = if_called answer.now.place self.old.calls } }
     {
-        let Some(place) = answer.place() else {
-            return None;
-        };
+        let place = answer.place()?;
         let trail = &self.accounts.trail;
         trail.add(&mut self.calls, place, answer.entry())
     }
@@ -241,7 +232,7 @@ impl<L: Begun, S: LoopSession<L>, B: Counting, T: SharedSum> SessionSeat
         × (was : B) × (then : B) × B.settles was user cost outcome then };
 
     ghost counts = { λ s user kind most left. (left ≡ record s { calls = once_more s.calls })
-        × (was : B) × (then : B) × B.adds was user kind most then };
+        × (was : B) × (then : B) × B.adds was user kind s.accounts.now.limits most then };
 
     ghost uncounts = { λ s user kind left. (left ≡ record s { calls = once_more s.calls })
         × (was : B) × (then : B) × B.removes was user kind then };
@@ -286,7 +277,7 @@ impl<L: Begun, S: LoopSession<L>, B: Counting, T: SharedSum> SessionSeat
 
     fn add<R: Wait>(&mut self, rt: &R, user: UserId, kind: GuestKind) -> Option<u8> {
         let mut books = self.accounts.books.lock(rt);
-        books.add(&mut self.calls, user, kind)
+        books.add(&mut self.calls, user, kind, self.accounts.limits)
     }
 
     fn remove<R: Wait>(&mut self, rt: &R, user: UserId, kind: GuestKind) {

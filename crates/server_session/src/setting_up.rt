@@ -162,12 +162,11 @@ pub fn close<L: Begun>(
     ensures differs { result.1.is_so ≡ false
         → (wrong : ℕ) × IsFirstWrong result.0.entries (receipts_of left.items) (Some wrong) }
 {
-    let SetUp { file: setup } = set_up;
-    let (hub, users) = shared.into_parts();
+    let SharedSession { hub, users, .. } = shared;
     let (trail, wrong) = hub.close(left);
     let is_so = wrong.is_none();
     let agreement = Agreement {
-        setup,
+        setup: set_up.file,
         users,
         is_so,
     };

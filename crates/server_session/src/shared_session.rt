@@ -48,9 +48,6 @@ pub trait TrailLines {
     /// What shows that no line is taken any more; None as long as lines are taken.
     fn stopped(&self) -> Option<Stopped>
         ensures { stops self.now result };
-
-    /// A loop has ended.
-    fn leave<R: Wait>(&self, rt: &R);
 }
 
 impl TrailLines for Recorder {
@@ -76,10 +73,6 @@ impl TrailLines for Recorder {
 
     fn stopped(&self) -> Option<Stopped> {
         self.stop()
-    }
-
-    fn leave<R: Wait>(&self, rt: &R) {
-        Recorder::leave(self, rt);
     }
 }
 
@@ -151,47 +144,10 @@ pub trait LoopSession<L: Begun> {
 /// The session that the loops share, who may connect, and what writes its trail to a file.
 #[derive(Drop)]
 pub struct SharedSession<L: Begun, T> {
-    hub: Hub<L>,
-    users: Users,
+    pub(crate) hub: Hub<L>,
+    pub(crate) users: Users,
     // None if no file is written.
-    recorder: Option<T>,
-}
-
-impl<L: Begun, T> SharedSession<L, T> {
-    pub(crate) fn new(hub: Hub<L>, users: Users, recorder: Option<T>) -> SharedSession<L, T>
-        ensures users { result.users ≡ users }
-        ensures recorder { result.recorder ≡ recorder }
-    {
-        SharedSession {
-            hub,
-            users,
-            recorder,
-        }
-    }
-
-    /// What takes the trail's lines, if a file is written.
-    pub(crate) fn recorder(&self) -> Option<&T> {
-        self.recorder.as_ref()
-    }
-}
-
-impl<L: Begun, T: Drop> SharedSession<L, T> {
-    /// The hub, and the users who could connect.
-    pub(crate) fn into_parts(self) -> (Hub<L>, Users)
-        ensures { result.1 ≡ self.users }
-    {
-        let SharedSession { hub, users, .. } = self;
-        (hub, users)
-    }
-}
-
-impl<L: Begun, T: TrailLines> SharedSession<L, T> {
-    // A loop has ended.
-    pub(crate) fn leave(&self, rt: &impl Wait) {
-        if let Some(recorder) = &self.recorder {
-            recorder.leave(rt);
-        }
-    }
+    pub(crate) recorder: Option<T>,
 }
 
 impl<L: Begun, T: TrailLines> LoopSession<L> for SharedSession<L, T> {
