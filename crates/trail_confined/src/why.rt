@@ -11,8 +11,7 @@ ghost use Rattle.trail_confined.specs.Reasons.{found_text, giver_text, is_listed
 ghost use Rattle.trail_confined.specs.Reasons.{mark_text, owner_text, reasons_text, yes_text};
 ghost use Rattle.trail_rights.specs.Windows.{windows_of};
 
-use acl::{Act, Bit, CommandName, Object, UserId};
-use command_lang::name_text;
+use acl::{Act, Bit, Object, UserId};
 use hub::Rights;
 use line_fields::acts::push_act;
 use line_fields::push_when;
@@ -26,46 +25,6 @@ pub struct Question {
     pub user: UserId,
     pub bit: Bit,
     pub object: Object,
-}
-
-impl Question {
-    /// The question of three words: a name, `r`, `w` or `x`, and a window's serial or a command's
-    /// name.
-    pub fn read(user: &[u8], bit: &[u8], object: &[u8]) -> Option<Question> {
-        Some(Question {
-            user: UserId::of(user)?,
-            bit: bit_of(bit)?,
-            object: object_of(object)?,
-        })
-    }
-}
-
-/// The bit of a letter.
-pub fn bit_of(word: &[u8]) -> Option<Bit> {
-    match word {
-        [b'r'] => Some(Bit::Read),
-        [b'w'] => Some(Bit::Write),
-        [b'x'] => Some(Bit::Execute),
-        _ => None,
-    }
-}
-
-/// The object of a window's serial or a command's name.
-fn object_of(word: &[u8]) -> Option<Object> {
-    match line_fields::read_u32(word) {
-        Some(window) => Some(Object::Window(window)),
-        None => Some(Object::Command(command_of(word)?)),
-    }
-}
-
-/// The command of this name.
-fn command_of(name: &[u8]) -> Option<CommandName> {
-    for command in &CommandName::ALL {
-        if name_text(*command).as_bytes() == name {
-            return Some(*command);
-        }
-    }
-    None
 }
 
 /// Whether a window is in a list.
