@@ -140,7 +140,7 @@ module _ {W : Type 0} (contents : W → Option (List ℕ)) where
       (owner : UserId) (bytes : Option (List ℕ)) : Type 0 where
     pub reading : TrailReading
     pub finish : Finish
-    pub read : IsFileRead (HasRead reading edition owner) finish limits edition owner bytes
+    pub read : IsFileRead (HasRead reading asked edition owner) finish limits edition owner bytes
     pub bad : is_bad finish ≡ true → status_of finish ≡ Some status
     pub good : is_bad finish ≡ false → IfSome limits.last (λ place. place < reading.watch.audit.next)
         × Answers asked edition reading read.taken.said status old new

@@ -1,5 +1,5 @@
-use Rattle.std.proofs.Common.{◌≡◌, ◌&&◌, ◌∙◌, ◌∷◌, [], ℕ, Bool, List, None, Option, Some, ap, lit<, refl, rules, sym, tests}
-use Rattle.std.proofs.Common.{true}
+use Rattle.std.proofs.Common.{◌≡◌, ◌&&◌, ◌∙◌, ◌∷◌, [], ℕ, Bool, List, None, Option, Some, ap, lit<, refl, rules, sym}
+use Rattle.std.proofs.Common.{tests, true}
 use Rattle.std.proofs.lemmas.Iterator.Search.{find_from_yields_List}
 use Rattle.std.proofs.lemmas.Iterator.Splits.{YieldsList-from_str_split}
 use Rattle.std.specs.List.{list_all}

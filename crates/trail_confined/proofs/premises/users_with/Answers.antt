@@ -1,5 +1,5 @@
 use Rattle.trail_confined.proofs.Vocabulary.{◌∙◌, ◌++◌, ◌∷◌, [], ap, sym, append-nil, append_assoc, not, slice_index_or}
-use Rattle.trail_confined.proofs.Vocabulary.{take, take_more, filter, is_known, users_of, take_past}
+use Rattle.trail_confined.proofs.Vocabulary.{refl, take, take_more, filter, UserId, is_known, users_of, take_past}
 use Rattle.trail_rights.proofs.Stepping.{keeps_next, leaves_next}
 use Rattle.trail_confined.proofs.premises.users_with.Goals as goal
 use Rattle.trail_confined.proofs.premises.users_with.Goals.{then-not-knows+in_ok-push, else-not-knows}
@@ -10,7 +10,7 @@ loop-user-init c = λ edition owner h stands.
 
 pub loop-user-preserved : goal.loop-user-preserved
 loop-user-preserved c = λ edition owner h stands.
-    let p = λ u. not (is_known owner h u) in
+    let p = λ (u : UserId). not (is_known owner h u) in
     let known = users_of owner h in
     let others = c.args.others.now in
     let i = c.loop-user.user-index in

@@ -6,6 +6,6 @@ pub returns-then-not-has_bit : goal.returns-then-not-has_bit
 returns-then-not-has_bit c = λ edition owner h stands.
     grind (arith, common_steps, c.has_bit.ensures edition owner h stands)
 
-pub returns-else-not-has_bit : goal.returns-else-not-has_bit
-returns-else-not-has_bit c = λ edition owner h stands.
+pub returns : goal.returns
+returns c = λ edition owner h stands.
     grind (arith, common_steps, c.has_bit.ensures edition owner h stands)

@@ -10,5 +10,5 @@ loop-window-preserved c = λ edition owner h stands.
 
 pub returns : goal.returns
 returns c = λ edition owner h stands.
-    all_told (window_text edition owner h c.args.users.now) c.args.windows.now c.loop-window.window-index _ _ c.loop-window-test.false
-    (c.loop-window.invariant edition owner h stands)
+    all_told (window_text edition owner h c.args.users.now) c.args.windows.now c.loop-window.window-index _ _
+    c.loop-window-test.false (c.loop-window.invariant edition owner h stands)
