@@ -7,6 +7,12 @@ pub returns : goal.returns
 returns c = λ edition owner said watched seen.
     let h = acts_in (marked_after [] said) in
     let stands = c.replay-replay.ensures edition owner said watched in
-    grind (arith, common_steps, seen.windows, c.in_ok-users.ensures edition owner h stands,
-    c.in_ok-push_users.ensures edition owner h stands, c.in_ok-push_windows.ensures edition owner h stands,
-    c.in_ok-push_all_commands.ensures edition owner h stands)
+    grind (
+      arith,
+      common_steps,
+      seen.windows,
+      c.in_ok-users.ensures edition owner h stands,
+      c.in_ok-push_users.ensures edition owner h stands,
+      c.in_ok-push_windows.ensures edition owner h stands,
+      c.in_ok-push_all_commands.ensures edition owner h stands,
+    )
