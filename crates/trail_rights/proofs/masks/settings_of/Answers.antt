@@ -1,6 +1,6 @@
 use Rattle.trail_rights.proofs.Vocabulary.{◌≡◌, ◌∙◌, ◌++◌, [], List, Result, Ok, Err, ap, append_assoc, map, subst, sym}
-use Rattle.trail_rights.proofs.Vocabulary.{UserId, RightsSetting, AllByRecursion, flat_map, HasSettled, first_settler}
-use Rattle.trail_rights.proofs.Vocabulary.{masks_of, setting_by}
+use Rattle.trail_rights.proofs.Vocabulary.{UserId, RightsSetting, AllByRecursion, flat_map, HasSettled, masks_of}
+use Rattle.trail_rights.proofs.Vocabulary.{setting_by}
 use Rattle.trail_rights.proofs.Settled.{first_settled, first_sought}
 use Rattle.std.specs.Prelude.{IfOk}
 use Rattle.acl.specs.declared.act.PresetKind.TheVariants as kind
