@@ -6,14 +6,16 @@ use Rattle.std.specs.Io.KnownBytes.{Appends}
 use Rattle.std.specs.List.{AllByRecursion, flat_map}
 use Rattle.acl.specs.declared.act.Object.{Object}
 use Rattle.acl.specs.declared.act.Object.TheVariants as object
+use Rattle.acl.specs.declared.bits.Bit.{Bit}
 use Rattle.acl.specs.declared.leaders.Edition.{Edition}
 use Rattle.acl.specs.declared.user_id.UserId.{UserId}
-use Rattle.acl.specs.History.{History}
+use Rattle.acl.specs.History.{History, users_of}
 use Rattle.acl.specs.Same.{same_user}
 use Rattle.client_words.specs.Visible.{visible}
-use Rattle.trail_confined.specs.Confining.{circle, failing_of}
+use Rattle.trail_confined.specs.Confining.{circle, failing_of, users_with}
 use Rattle.trail_confined.specs.Reasons.{reasons_text}
-use Rattle.trail_confined.specs.Telling.{confinement_text}
+use Rattle.trail_confined.specs.Standing.{rights_text}
+use Rattle.trail_confined.specs.Telling.{confinement_text, deciders_of_one}
 use Rattle.trail_confined.specs.declared.premises.Premise.{Premise}
 use Rattle.trail_confined.specs.declared.why.Question.{Question}
 use Rattle.trail_files.specs.Finishing.{is_bad, status_of}
@@ -22,23 +24,22 @@ use Rattle.trail_lines.specs.Entries.{Said}
 use Rattle.trail_log.specs.declared.titles.Titled.{Titled}
 use Rattle.trail_rights.specs.Deciding.{HasDecided, first_decider, sought_by}
 use Rattle.trail_rights.specs.Marks.{acts_in, marked_after}
-use Rattle.trail_rights.specs.Seeing.{HasSeen}
-use Rattle.trail_rights.specs.Settling.{HasSettled, setting_by}
+use Rattle.trail_rights.specs.Masking.{settings_of}
+use Rattle.trail_rights.specs.Seeing.{HasSeen, sought}
 use Rattle.trail_rights.specs.Watching.{HasWatched}
 use Rattle.trail_rights.specs.declared.decider.Decider.{Decider}
-use Rattle.trail_rights.specs.declared.settler.Settler.{Settler}
+use Rattle.trail_rights.specs.declared.settler.RightsSetting.{RightsSetting}
 use Rattle.trail_rights.specs.declared.sight.Sight.{Sight}
-use Rattle.trail_rights.specs.declared.watch.Watch.{Watch}
 use Rattle.trail_setup.specs.Giving.{PutsAll}
 use Rattle.trail_setup.specs.Masks.{Stands}
 use Rattle.trail_setup.specs.Setup.{setup_parts}
 use Rattle.trail_setup.specs.declared.state.SetupState.{SetupState}
+use Rattle.mux_trail.specs.Asking.{users_named}
 use Rattle.mux_trail.specs.History.{change_text, question_in}
 use Rattle.mux_trail.specs.Reading.{HasRead, IsFileRead}
 use Rattle.mux_trail.specs.declared.history.History.{History as Changes}
 use Rattle.mux_trail.specs.declared.reading.TrailReading.{TrailReading}
 use Rattle.mux_trail.specs.declared.words.Limits.{Limits}
-use Rattle.mux_trail.specs.declared.words.NamedUsers.{NamedUsers}
 use Rattle.mux_trail.specs.declared.words.RightsAsked.{RightsAsked}
 use Rattle.mux_trail.specs.declared.words.RightsAsked.TheVariants as asked
 
@@ -80,32 +81,35 @@ IsWhyTitled edition owner said (Some q) h old new = IsWhy edition owner said q h
 
 -- ---- `who`
 
--- what a sight finds that looks for settings as they are before the first act
-pub record Sees (s : Sight) (owner : UserId) (said : List Said) : Type 0 where
-  pub settlers : List Settler
-  pub sought : map setting_by s.settlers.items ≡ map setting_by settlers
-  pub seen : AllByRecursion (HasSettled []) settlers → HasSeen s owner (marked_after [] said)
+-- `title 3 TITLE`
+abbrev pub title_text : Titled → List ℕ
+title_text t = codes "title " ++ (decimal t.window ++ (codes " " ++ (visible t.title ++ codes "\n")))
+
+-- the windows' titles, and then who may do what: of the known users' masks and the presets, as they are set by then
+pub record IsWho (edition : Edition) (r : TrailReading) (said : List Said) (old new : List ℕ) : Type 0 where
+  pub sight : Sight
+  pub seen : HasSeen sight r.owner (marked_after [] said)
+  pub looked : sought sight ≡ ([], settings_of (users_of r.owner (acts_of said)))
+  pub text : new ≡ (old ++ flat_map title_text r.names.1)
+      ++ rights_text edition r.owner (acts_of said) r.watch.audit.next sight.settlers.items
+
+-- which of these users may open windows or change rights, and what is set of them
+abbrev pub looked_for : UserId → List UserId → List (UserId × Bit × Object) × List RightsSetting
+looked_for owner users = (map sought_by (flat_map (deciders_of_one owner) users), settings_of users)
 
 abbrev pub confined_status : List Premise → ℕ
 confined_status [] = 0
 confined_status failing = 4
 
--- whether the users of these names are confined: 0 if no premise fails, else 4
+-- whether the users of these names are confined: 0 if no premise fails, else 4; and the acts that decide what it tells
 pub record Confines (edition : Edition) (owner : UserId) (said : List Said) (names : List ℕ) (status : ℕ)
     (old new : List ℕ) : Type 0 where
-  pub users : NamedUsers
-  pub named : users.names.now ≡ names
   pub sight : Sight
-  pub failing : List Premise
-  pub sees : Sees sight owner said
-  pub fail : HasSeen sight owner (marked_after [] said) → failing
-      ≡ failing_of edition owner (acts_of said) users.users.items
-  pub text : new ≡ old ++ confinement_text edition owner (acts_of said) sight failing
-  pub status_is : status ≡ confined_status failing
-
--- `title 3 TITLE`
-abbrev pub title_text : Titled → List ℕ
-title_text t = codes "title " ++ (decimal t.window ++ (codes " " ++ (visible t.title ++ codes "\n")))
+  pub seen : HasSeen sight owner (marked_after [] said)
+  pub looked : sought sight ≡ looked_for owner (users_with owner (acts_of said) (users_named names))
+  pub text : new ≡ old ++ confinement_text edition owner (acts_of said) sight
+      (failing_of edition owner (acts_of said) (users_named names))
+  pub status_is : status ≡ confined_status (failing_of edition owner (acts_of said) (users_named names))
 
 -- ---- `setup`
 
@@ -118,7 +122,7 @@ IsSetup edition owner said (Some s) old new = (h : History) → Stands s edition
 -- ---- the answer
 
 abbrev pub IsText : RightsAsked → Edition → TrailReading → List Said → ℕ → List ℕ → List ℕ → Type 0
-IsText asked.Who edition r said status old new = ⊥
+IsText asked.Who edition r said status old new = (status ≡ 0) × IsWho edition r said old new
 IsText (asked.Confined names) edition r said status old new = Confines edition r.owner said names.now status old new
 IsText (asked.Why q) edition r said status old new =
     (status ≡ 0) × IsWhy edition r.owner said q r.history old new
@@ -126,26 +130,17 @@ IsText (asked.WhyTitled user bit title) edition r said status old new = (status 
     × IsWhyTitled edition r.owner said (question_in (asked.WhyTitled user bit title) r.names.1) r.history old new
 IsText asked.Setup edition r said status old new = (status ≡ 0) × IsSetup edition r.owner said r.state old new
 
-module _ {W : Type 0} (contents : W → Option (List ℕ)) (tells_rights : W → Watch → Sight → W → Type 0) where
-  -- titles, and then who may do what
-  pub record IsWho (r : TrailReading) (said : List Said) (old new : W) : Type 0 where
-    pub sight : Sight
-    pub sees : Sees sight r.owner said
-    pub between : W
-    pub titles : Appends (contents old) (contents between) (flat_map title_text r.names.1)
-    pub rights : tells_rights between r.watch sight new
-
+module _ {W : Type 0} (contents : W → Option (List ℕ)) where
   abbrev pub Answers : RightsAsked → Edition → TrailReading → List Said → ℕ → W → W → Type 0
-  Answers asked.Who edition r said status old new = (status ≡ 0) × IsWho r said old new
-  Answers other edition r said status old new =
-      (text : List ℕ) × IsText other edition r said status [] text × Appends (contents old) (contents new) text
+  Answers asked edition r said status old new =
+      (text : List ℕ) × IsText asked edition r said status [] text × Appends (contents old) (contents new) text
 
   -- The file was read up to the entry of this place. If something is wrong in it, that is told, and else the answer.
   pub record IsAsked (asked : RightsAsked) (limits : Limits) (status : ℕ) (old new : W) (edition : Edition)
       (owner : UserId) (bytes : Option (List ℕ)) : Type 0 where
     pub reading : TrailReading
     pub finish : Finish
-    pub read : IsFileRead (HasRead reading edition owner) finish limits edition owner bytes
+    pub read : IsFileRead (HasRead reading asked edition owner) finish limits edition owner bytes
     pub bad : is_bad finish ≡ true → status_of finish ≡ Some status
     pub good : is_bad finish ≡ false → IfSome limits.last (λ place. place < reading.watch.audit.next)
         × Answers asked edition reading read.taken.said status old new

@@ -1,18 +1,17 @@
 -- What the arguments ask.
 use Rattle.std.specs.Prelude.{◌≡◌, ◌^◌, ◌-◌, ℕ, ℤ, pos, Bool, true, false, if◌then◌else◌, List, [], codes, unwrap_or}
-use Rattle.std.specs.Prelude.{Option, Some, None, Ok, int_div, option_map}
+use Rattle.std.specs.Prelude.{Option, Some, None, Ok, int_div, is_some, option_map}
 use Rattle.std.specs.Borrow.{Bor}
+use Rattle.std.specs.List.{filter_map, list_all}
 use Rattle.std.specs.Str.{bytes_eq}
 use Rattle.acl.specs.Names.{named_by}
-use Rattle.acl.specs.declared.act.Object.{Object}
-use Rattle.acl.specs.declared.act.Object.TheVariants as object
-use Rattle.acl.specs.declared.bits.Bit.{Bit}
-use Rattle.acl.specs.declared.bits.Bit.TheVariants.{Read, Write, Execute}
 use Rattle.acl.specs.declared.user_id.UserId.{UserId}
 use Rattle.clap.specs.Words.{first_value, one_text}
 use Rattle.clap.specs.declared.parser.matches.Found.{Found}
 use Rattle.jiff.specs.Words.{parse_timestamp}
+use Rattle.line_fields.specs.Cutting.{words}
 use Rattle.line_fields.specs.Numbers.{number_below}
+use Rattle.line_fields.specs.Parts.{bit_in, comma, object_in}
 use Rattle.mux_trail.specs.declared.words.LastAsked.{LastAsked}
 use Rattle.mux_trail.specs.declared.words.LastAsked.TheVariants as last
 use Rattle.mux_trail.specs.declared.words.LogAsked.{LogAsked}
@@ -68,17 +67,13 @@ IsLastOf (Some word) (last.Place place) = number_below (2 ^ 64) word ≡ Some pl
 IsLastOf (Some word) (last.Time ms) = (number_below (2 ^ 64) word ≡ None) × IsTime word ms
 IsLastOf _ _ = ⊥
 
-abbrev pub bit_in : List ℕ → Option Bit
-bit_in word =
-    if bytes_eq word (codes "r") then Some Read
-    else if bytes_eq word (codes "w") then Some Write
-    else if bytes_eq word (codes "x") then Some Execute
-    else None
+-- whether each of the words between commas is a user's name
+abbrev pub are_named : List ℕ → Bool
+are_named names = list_all (λ name. is_some (named_by name)) (words comma names)
 
--- a number is a window's serial
-abbrev pub IsObjectOf : List ℕ → Object → Type 0
-IsObjectOf word (object.Window window) = number_below (2 ^ 32) word ≡ Some window
-IsObjectOf word (object.Command command) = number_below (2 ^ 32) word ≡ None
+-- the users whom the words between commas name
+abbrev pub users_named : List ℕ → List UserId
+users_named names = filter_map named_by (words comma names)
 
 -- ---- subcommands
 
@@ -89,18 +84,18 @@ pub record IsLogOf (f : Found) (log : LogAsked) : Type 0 where
   pub since : IsTimeOf (first_value f (codes "since")) 0 log.since
   pub until : IsTimeOf (first_value f (codes "until")) (2 ^ 64 - 1) log.until
 
--- `who`: with --confined whether these users are confined
+-- `who`: with --confined whether these users are confined, each of whom is named by a word between commas
 abbrev pub IsWhoOf : Option (List ℕ) → RightsAsked → Type 0
 IsWhoOf None asked.Who = Unit {0}
-IsWhoOf (Some names) (asked.Confined users) = users.now ≡ names
+IsWhoOf (Some names) (asked.Confined users) = (users.now ≡ names) × (are_named names ≡ true)
 IsWhoOf _ _ = ⊥
 
--- `why`: the bit of the user on the object, which is a window's serial, a command or a window's title
+-- `why`: the bit of the user on the object, which is a window's serial or a command's name, and else a window's title
 abbrev pub IsWhyOf : (user bit object : List ℕ) → RightsAsked → Type 0
 IsWhyOf user bit object (asked.Why q) =
-    (named_by user ≡ Some q.user) × (bit_in bit ≡ Some q.bit) × IsObjectOf object q.object
+    (named_by user ≡ Some q.user) × (bit_in bit ≡ Some q.bit) × (object_in object ≡ Some q.object)
 IsWhyOf user bit object (asked.WhyTitled u b title) =
-    (named_by user ≡ Some u) × (bit_in bit ≡ Some b) × (number_below (2 ^ 32) object ≡ None) × (title.now ≡ object)
+    (named_by user ≡ Some u) × (bit_in bit ≡ Some b) × (object_in object ≡ None) × (title.now ≡ object)
 IsWhyOf user bit object _ = ⊥
 
 pub data Way : Type 0 where

@@ -7,8 +7,8 @@ use Rattle.acl.specs.declared.bits.Bit.{Bit}
 use Rattle.acl.specs.declared.leaders.Edition.{Edition}
 use Rattle.acl.specs.declared.user_id.UserId.{UserId}
 use Rattle.acl.specs.History.{History, may, there}
-use Rattle.acl.specs.Names.{name_of}
 use Rattle.line_fields.specs.Dates.{when_text}
+use Rattle.trail_confined.specs.Reasons.{by_text, yes_text}
 use Rattle.trail_confined.specs.declared.why.Question.{Question}
 use Rattle.trail_lines.specs.Entries.{Said}
 use Rattle.trail_log.specs.declared.titles.Titled.{Titled}
@@ -83,14 +83,8 @@ pub data IsNoted (asked : RightsAsked) (edition : Edition) (owner : UserId) : Li
 
 -- ---- how they are told
 
-abbrev pub by_text : Option UserId → List ℕ
-by_text None = codes "\n"
-by_text (Some by) = codes " by " ++ (name_of by ++ codes "\n")
-
-abbrev pub yes_text : Bool → List ℕ
-yes_text has = if has then codes "yes" else codes "no"
-
 -- `yes from entry 430 at 2025-11-24T16:28:17.811Z by own`
 abbrev pub change_text : HistoryChange → List ℕ
 change_text c =
-    yes_text c.has ++ (codes " from entry " ++ (decimal c.place ++ (when_text (codes " at ") c.ms ++ by_text c.by)))
+    yes_text c.has ++ (codes " from entry " ++ (decimal c.place ++ (when_text (codes " at ") c.ms
+    ++ by_text c.by (codes "\n"))))

@@ -21,6 +21,7 @@ use Rattle.trail_setup.specs.declared.state.SetupState.{SetupState}
 use Rattle.mux_trail.specs.History.{IsNoted, noted}
 use Rattle.mux_trail.specs.declared.reading.TrailReading.{TrailReading}
 use Rattle.mux_trail.specs.declared.words.Limits.{Limits}
+use Rattle.mux_trail.specs.declared.words.RightsAsked.{RightsAsked}
 
 -- ---- of whatever takes entries: `After` says what is so after these
 
@@ -71,10 +72,12 @@ FollowsSaid _ x _ = ⊥
 
 -- a watch, names, the changes of the bit that is asked about and what a setup needs, after these entries of this
 -- owner's trail, each of which was followed
-pub record HasRead (r : TrailReading) (edition : Edition) (owner : UserId) (said : List Said) : Type 0 where
+pub record HasRead (r : TrailReading) (asked : RightsAsked) (edition : Edition) (owner : UserId) (said : List Said)
+    : Type 0 where
   pub owner_is : r.owner ≡ owner
+  pub asked_is : r.asked ≡ asked
   pub watched : HasWatched r.watch edition owner said
-  pub noted_so : IsNoted r.asked edition owner said r.names (noted r.history)
+  pub noted_so : IsNoted asked edition owner said r.names (noted r.history)
   pub first : Option SetupState
   pub is_first : IsFirst edition owner first
   pub followed : FoldsTo FollowsSaid first said r.state

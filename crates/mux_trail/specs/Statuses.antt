@@ -13,8 +13,6 @@ use Rattle.trail_files.specs.declared.fault.TrailFault.TheVariants as fault
 use Rattle.trail_files.specs.declared.heading.Heading.{Heading}
 use Rattle.clap.specs.declared.parser.matches.Found.{Found}
 use Rattle.trail_files.specs.Beginning.{LastOf}
-use Rattle.trail_rights.specs.declared.sight.Sight.{Sight}
-use Rattle.trail_rights.specs.declared.watch.Watch.{Watch}
 use Rattle.mux_trail.specs.Answers.{IsAsked}
 use Rattle.mux_trail.specs.Asking.{AreAsked}
 use Rattle.mux_trail.specs.Diary.{IsLogged}
@@ -67,13 +65,13 @@ abbrev pub IsShown : Option ℕ → Option (List ℕ) → Type 0
 IsShown stray old = Begins None old (λ edition owner rest. IfSome rest (ShowsFrom 2 stray))
 
 -- the status, and what was written, by what is asked of a file that has these bytes
-module _ {W : Type 0} (contents : W → Option (List ℕ)) (rights : W → Watch → Sight → W → Type 0) where
+module _ {W : Type 0} (contents : W → Option (List ℕ)) where
   abbrev pub TellsBy : Verb → Limits → ℕ → Option (List ℕ) → W → W → Type 0
   TellsBy verb.Check limits status bytes old new = IsChecked status limits.owner bytes
   TellsBy (verb.Show is_json) limits status bytes old new = (status ≡ 0) × IsShown None bytes
   TellsBy (verb.Log asked) limits status bytes old new = Begins limits.owner bytes (IsLogged limits status)
   TellsBy (verb.Ask asked) limits status bytes old new =
-      Begins limits.owner bytes (IsAsked contents rights asked limits status old new)
+      Begins limits.owner bytes (IsAsked contents asked limits status old new)
 
 -- a file that is followed has no end
 abbrev pub bytes_of : Bool → Option (List ℕ) → Option (List ℕ)
@@ -90,13 +88,13 @@ module _ {F : Type 0} (opens : F → Type 0) (remaining : F → Option (List ℕ
   IsPlaceOf _ _ = ⊥
 
   -- what is asked of a file that was opened
-  pub record IsRun {W : Type 0} (contents : W → Option (List ℕ)) (rights : W → Watch → Sight → W → Type 0)
-      (a : TrailArgs) (status : ℕ) (old new : W) : Type 0 where
+  pub record IsRun {W : Type 0} (contents : W → Option (List ℕ)) (a : TrailArgs) (status : ℕ) (old new : W)
+      : Type 0 where
     pub place : Option ℕ
     pub place_is : IsPlaceOf a.last place
     pub file : F
     pub opened : opens file
-    pub tells : TellsBy contents rights a.verb (record { owner = a.owner; last = place; follows = a.follows }) status
+    pub tells : TellsBy contents a.verb (record { owner = a.owner; last = place; follows = a.follows }) status
         (bytes_of a.follows (remaining file)) old new
 
 -- no subcommand or an invalid argument, or the arguments ask for the help
@@ -112,4 +110,4 @@ ExitsBy {F} {W} means refuses opens remaining contents words status =
     ⊎ ((a : TrailArgs) × AreAsked means words a
     × (((fault : TrailFault) × (status ≡ fault_status fault))
     ⊎ ((old new : Outlet W) × IsRun (opens a.path.now) remaining (λ (o : Outlet W). contents o.output.now)
-    (λ o watch sight more. Unit {0}) a status old new)))
+    a status old new)))

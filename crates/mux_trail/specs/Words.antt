@@ -9,7 +9,6 @@ pub use Rattle.clap.specs.Words.{found_of, kind_of}
 pub use Rattle.clap.specs.declared.error.kind.ErrorKind.{ErrorKind}
 pub use Rattle.clap.specs.declared.parser.matches.Found.{Found}
 pub use Rattle.hub.specs.Following.{StandsAfter}
-pub use Rattle.line_fields.specs.Numbers.{number_below}
 pub use Rattle.trail_confined.specs.Confining.{circle}
 pub use Rattle.trail_files.specs.Beginning.{LastOf}
 pub use Rattle.trail_lines.specs.Entries.{Said, said}
@@ -19,5 +18,3 @@ pub use Rattle.trail_log.specs.Logging.{HasLogged}
 pub use Rattle.trail_log.specs.Naming.{names_with}
 pub use Rattle.trail_rights.specs.Marks.{acts_in, marked_after}
 pub use Rattle.trail_rights.specs.Watching.{HasWatched}
-pub use Rattle.trail_rights.specs.declared.sight.Sight.{Sight}
-pub use Rattle.trail_rights.specs.declared.watch.Watch.{Watch}

@@ -8,39 +8,20 @@ ghost use Rattle.mux_trail.specs.Statuses.{Begins};
 
 use crate::history::question_in;
 use crate::reading::{TrailReading, take_file};
-use crate::words::{Limits, NamedUsers, RightsAsked};
+use crate::words::{Limits, RightsAsked, users_named};
 use acl::{Object, UserId};
 use client_words::put_visible;
 use session::push_decimal;
 use std::alloc::{AllocError, Global};
 use std::io::{self, BufRead, Write};
 use trail_confined::{
-    Premise, Question, failing_of, power_deciders, push_confinement, push_reasons, write_rights,
+    Premise, Question, failing_of, power_deciders, push_confinement, push_reasons, push_rights,
+    users_with,
 };
 use trail_files::{LEGAL, TrailFault, UNCONFINED, heading_of, tell_finish};
 use trail_log::Titled;
-use trail_rights::{Decider, Sight, Watch, settings_of, users_of};
+use trail_rights::{Decider, settings_of, users_of};
 use trail_setup::push_setup;
-
-/// Where rights are written.
-pub trait TellsRights: Write {
-    ghost use Rattle.std.specs.Prelude.{OnOk};
-    ghost use Rattle.mux_trail.specs.Words.{Sight, Watch};
-
-    // It was written who may do what, by a watch and a sight. Only a call of `tell_rights` shows it.
-    ghost tells_rights: { Self → Watch → Sight → Self → Type 0 };
-
-    fn tell_rights(&mut self, alloc: Global, watch: &Watch, sight: &Sight) -> io::Result<()>
-        ensures { OnOk result (tells_rights self.old watch.now sight.now self.new) };
-}
-
-impl<W: Write> TellsRights for W {
-    ghost tells_rights = { λ old watch sight new. Unit {0} };
-
-    fn tell_rights(&mut self, alloc: Global, watch: &Watch, sight: &Sight) -> io::Result<()> {
-        write_rights(alloc, watch, sight, self)
-    }
-}
 
 /// Appends the title of a window. Control characters are escaped.
 fn push_title(titled: &Titled, out: &mut Vec<u8>) -> Result<(), AllocError>
@@ -75,31 +56,18 @@ fn confined_status(failing: &[Premise]) -> u8
 
 // Each answer is the status to exit with. It is None if what it tells wasn't looked for.
 impl TrailReading<'_> {
-    /// The known users, and then the others of these users.
-    fn users_with(&self, others: &[UserId]) -> Result<Vec<UserId>, AllocError> {
-        let mut users = users_of(self.alloc, self.watch.replay())?;
-        for user in others {
-            if !users.as_slice().contains(user) {
-                users.push(*user)?;
-            }
-        }
-        Ok(users)
-    }
-
-    /// Writes who may do what.
-    fn write_who<W: TellsRights>(&self, output: &mut W) -> io::Result<Option<u8>>
+    /// Appends the windows' titles, and then who may do what.
+    fn push_who(&self, out: &mut Vec<u8>) -> io::Result<Option<u8>>
         ensures { Tells self.now result (λ edition said status. (status ≡ 0)
-            × IsWho W.contents W.tells_rights self.now said output.old output.new) }
+            × IsWho edition self.now said out.old.items out.new.items) }
     {
-        let mut text = Vec::new(self.alloc);
-        push_titles(self.names.titles(), &mut text)?;
-        let users = self.users_with(&[])?;
+        let users = users_of(self.alloc, self.watch.replay())?;
         let settlers = settings_of(self.alloc, users.as_slice())?;
         let Some(sight) = self.watch.sight(Vec::new(self.alloc), settlers)? else {
             return Ok(None);
         };
-        output.write_all(text.as_slice())?;
-        output.tell_rights(self.alloc, &self.watch, &sight)?;
+        push_titles(self.names.titles(), out)?;
+        push_rights(&self.watch, &sight, out)?;
         Ok(Some(LEGAL))
     }
 
@@ -109,14 +77,14 @@ impl TrailReading<'_> {
             Confines edition self.now.owner said names.now status out.old.items out.new.items) }
     {
         let (alloc, owner, replay) = (self.alloc, self.owner, self.watch.replay());
-        let confined = NamedUsers::of(alloc, names)?;
-        let users = self.users_with(confined.users())?;
+        let confined = users_named(alloc, names)?;
+        let users = users_with(alloc, replay, confined.as_slice())?;
         let deciders = power_deciders(alloc, owner, users.as_slice())?;
         let settlers = settings_of(alloc, users.as_slice())?;
         let Some(sight) = self.watch.sight(deciders, settlers)? else {
             return Ok(None);
         };
-        let Some(failing) = failing_of(alloc, replay, &sight, confined.users())? else {
+        let Some(failing) = failing_of(alloc, replay, &sight, confined.as_slice())? else {
             return Ok(None);
         };
         push_confinement(owner, replay, &sight, failing.as_slice(), out)?;
@@ -207,7 +175,7 @@ impl TrailReading<'_> {
             IsText asked.entry edition self.now said status out.old.items out.new.items) }
     {
         match asked {
-            RightsAsked::Who => Ok(None),
+            RightsAsked::Who => self.push_who(out),
             RightsAsked::Confined(names) => self.push_confined(names, out),
             RightsAsked::Why(question) => self.push_why(question, out),
             RightsAsked::WhyTitled { .. } => {
@@ -217,17 +185,10 @@ impl TrailReading<'_> {
         }
     }
 
-    fn answer<W: TellsRights>(
-        &self,
-        asked: RightsAsked<'_>,
-        output: &mut W,
-    ) -> io::Result<Option<u8>>
+    fn answer<W: Write>(&self, asked: RightsAsked<'_>, output: &mut W) -> io::Result<Option<u8>>
         ensures { Tells self.now result (λ edition said status.
-            Answers W.contents W.tells_rights asked.entry edition self.now said status output.old output.new) }
+            Answers W.contents asked.entry edition self.now said status output.old output.new) }
     {
-        if let RightsAsked::Who = asked {
-            return self.write_who(output);
-        }
         let mut text = Vec::new(self.alloc);
         let Some(status) = self.push(asked, &mut text)? else {
             return Ok(None);
@@ -248,7 +209,7 @@ pub fn is_there(last: Option<u64>, count: u64) -> Result<(), TrailFault>
 }
 
 /// Writes what is asked about rights, or what is wrong with the file.
-pub fn ask<R: BufRead, W: TellsRights>(
+pub fn ask<R: BufRead, W: Write>(
     alloc: Global,
     asked: RightsAsked<'_>,
     limits: Limits,
@@ -256,7 +217,7 @@ pub fn ask<R: BufRead, W: TellsRights>(
     output: &mut W,
 ) -> Result<u8, TrailFault>
     ensures { IfOk result (λ status. Begins limits.owner (R.remaining reader.old)
-        (IsAsked W.contents W.tells_rights asked.entry limits status output.old output.new)) }
+        (IsAsked W.contents asked.entry limits status output.old output.new)) }
 {
     let heading = heading_of(alloc, reader)?;
     let owner = limits.owner.unwrap_or(heading.owner);

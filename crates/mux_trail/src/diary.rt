@@ -107,7 +107,7 @@ impl<W: Write> Diary<'_, W> {
 }
 
 impl<W: Write> TakesEntries for Diary<'_, W> {
-    ghost has_taken = { λ diary edition owner said. HasLogged diary.log edition owner said };
+    ghost has_taken = { λ first diary edition owner said. HasLogged diary.log edition owner said };
 
     fn count(&self) -> u64 {
         self.log.count()

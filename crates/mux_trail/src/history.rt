@@ -3,8 +3,7 @@
 ghost use Rattle.std.specs.Prelude.{◌≡◌, ◌++◌, OnOk, [], false};
 ghost use Rattle.acl.specs.History.{History as Acts};
 ghost use Rattle.mux_trail.specs.Words.{Edition, StandsAfter, UserId, flat_map, said};
-ghost use Rattle.mux_trail.specs.History.{by_text, change_text, changed, has_asked, noted, question_in, window_titled};
-ghost use Rattle.mux_trail.specs.History.{yes_text};
+ghost use Rattle.mux_trail.specs.History.{change_text, changed, has_asked, noted, question_in, window_titled};
 
 use crate::words::RightsAsked;
 use acl::{Object, UserId};
@@ -12,7 +11,7 @@ use hub::Rights;
 use line_fields::push_when;
 use session::push_decimal;
 use std::alloc::{AllocError, Global};
-use trail_confined::Question;
+use trail_confined::{Question, push_by, yes_text};
 use trail_lines::EntryLine;
 use trail_log::Titled;
 
@@ -73,40 +72,15 @@ pub fn has_asked(asked: RightsAsked<'_>, rights: &Rights, titles: &[Titled]) -> 
     }
 }
 
-/// Appends whether the user has the bit.
-fn push_yes(has: bool, out: &mut Vec<u8>) -> Result<(), AllocError>
-    ensures { OnOk result (out.new.items ≡ out.old.items ++ yes_text has) }
-{
-    if has {
-        out.extend_from_slice(b"yes")
-    } else {
-        out.extend_from_slice(b"no")
-    }
-}
-
-/// Appends who gave an event, if a user did, and ends the line.
-fn push_by(by: Option<UserId>, out: &mut Vec<u8>) -> Result<(), AllocError>
-    ensures { OnOk result (out.new.items ≡ out.old.items ++ by_text by) }
-{
-    match by {
-        Some(by) => {
-            out.extend_from_slice(b" by ")?;
-            out.extend_from_slice(by.as_bytes())?;
-            out.extend_from_slice(b"\n")
-        }
-        None => out.extend_from_slice(b"\n"),
-    }
-}
-
 /// Appends the line of a change.
 fn push_change(change: HistoryChange, out: &mut Vec<u8>) -> Result<(), AllocError>
     ensures { OnOk result (out.new.items ≡ out.old.items ++ change_text change) }
 {
-    push_yes(change.has, out)?;
+    out.extend_from_slice(yes_text(change.has))?;
     out.extend_from_slice(b" from entry ")?;
     push_decimal(change.place, out)?;
     push_when(b" at ", change.ms, out)?;
-    push_by(change.by, out)
+    push_by(change.by, b"\n", out)
 }
 
 impl History {

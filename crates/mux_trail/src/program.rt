@@ -6,7 +6,7 @@ ghost use Rattle.mux_trail.specs.Asking.{AreAsked};
 ghost use Rattle.mux_trail.specs.Statuses.{ExitsBy, IsChecked, IsHelped, IsPlaceOf, IsRefused, IsRun, IsShown, TellsBy};
 ghost use Rattle.mux_trail.specs.Statuses.{fault_status};
 
-use crate::ask::{TellsRights, ask};
+use crate::ask::ask;
 use crate::diary::tell_log;
 use crate::host::TrailHost;
 use crate::streams::{Following, Outlet};
@@ -65,14 +65,14 @@ fn buffered<F: Read + Drop>(alloc: Global, file: F) -> io::Result<BufReader<F>>
     BufReader::new(alloc, file)
 }
 
-fn read_file<F: Read + Drop, W: TellsRights>(
+fn read_file<F: Read + Drop, W: Write>(
     alloc: Global,
     verb: Verb<'_>,
     limits: Limits,
     file: F,
     output: &mut W,
 ) -> Result<u8, TrailFault>
-    ensures { IfOk result (λ status. TellsBy W.contents W.tells_rights verb.entry limits status (F.remaining file)
+    ensures { IfOk result (λ status. TellsBy W.contents verb.entry limits status (F.remaining file)
         output.old output.new) }
 {
     let mut reader = buffered(alloc, file)?;
@@ -103,13 +103,13 @@ fn place_of<R: TrailHost>(rt: &R, path: &str, last: LastAsked) -> Result<Option<
     }
 }
 
-fn run<R: TrailHost, W: TellsRights>(
+fn run<R: TrailHost, W: Write>(
     rt: &R,
     asked: TrailArgs<'_>,
     output: &mut W,
 ) -> Result<u8, TrailFault>
     ensures { IfOk result (λ status. IsRun (R.opens rt.now asked.entry.path.now) R.Trail.remaining W.contents
-        W.tells_rights asked.entry status output.old output.new) }
+        asked.entry status output.old output.new) }
 {
     let limits = Limits {
         owner: asked.owner,

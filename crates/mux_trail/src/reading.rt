@@ -24,17 +24,18 @@ pub trait TakesEntries {
     ghost use Rattle.mux_trail.specs.Words.{Edition, Said, UserId, entries_in};
     ghost use Rattle.mux_trail.specs.Reading.{TakesNext};
 
-    // These entries of a trail of this edition and owner were taken.
-    ghost has_taken: { Self → Edition → UserId → List Said → Type 0 };
+    // What took these entries of a trail of this edition and owner: as it was before the first one, and as it is.
+    ghost has_taken: { Self → Self → Edition → UserId → List Said → Type 0 };
 
     fn count(&self) -> u64
-        ensures { (edition : Edition) (owner : UserId) (said : List Said) → has_taken self.now edition owner said
-            → result ≡ length (entries_in said) };
+        ensures { (first : Self) (edition : Edition) (owner : UserId) (said : List Said)
+            → has_taken first self.now edition owner said → result ≡ length (entries_in said) };
 
     /// Takes the line of the next entry, without its line feed. The answer is what is wrong with the line.
     fn take(&mut self, line: &[u8]) -> io::Result<Option<Wrong>>
-        ensures { (edition : Edition) (owner : UserId) (said : List Said) → has_taken self.old edition owner said
-            → IfOk result (λ wrong. TakesNext (has_taken self.new edition owner) wrong line.now edition owner said) };
+        ensures { (first : Self) (edition : Edition) (owner : UserId) (said : List Said)
+            → has_taken first self.old edition owner said → IfOk result (λ wrong.
+            TakesNext (has_taken first self.new edition owner) wrong line.now edition owner said) };
 }
 
 /// Takes the entries from the file's line 2 on, up to the place `last`. The line that halts this is left in `line`.
@@ -44,9 +45,9 @@ pub fn take_entries<T: TakesEntries, R: BufRead>(
     reader: &mut R,
     line: &mut Vec<u8>,
 ) -> io::Result<Halt>
-    ensures { (edition : Edition) (owner : UserId) → T.has_taken taker.old edition owner []
-        → IfOk result (λ halt. AreTaken (T.has_taken taker.new edition owner) halt line.new.items last edition owner
-        (R.remaining reader.old) (R.remaining reader.new)) }
+    ensures { (edition : Edition) (owner : UserId) → T.has_taken taker.old taker.old edition owner []
+        → IfOk result (λ halt. AreTaken (T.has_taken taker.old taker.new edition owner) halt line.new.items last
+        edition owner (R.remaining reader.old) (R.remaining reader.new)) }
 {
     for number in 2..u64::MAX {
         if taker.count() > last {
@@ -74,9 +75,9 @@ pub fn take_file<T: TakesEntries, R: BufRead>(
     limits: Limits,
     reader: &mut R,
 ) -> io::Result<Finish>
-    ensures { (edition : Edition) (owner : UserId) → T.has_taken taker.old edition owner []
-        → IfOk result (λ finish. IsFileRead (T.has_taken taker.new edition owner) finish limits edition owner
-        (R.remaining reader.old)) }
+    ensures { (edition : Edition) (owner : UserId) → T.has_taken taker.old taker.old edition owner []
+        → IfOk result (λ finish. IsFileRead (T.has_taken taker.old taker.new edition owner) finish limits edition
+        owner (R.remaining reader.old)) }
 {
     let mut line = Vec::new(alloc);
     let last = limits.last.unwrap_or(u64::MAX);
@@ -146,7 +147,7 @@ impl<'a> TrailReading<'a> {
         owner: UserId,
         asked: RightsAsked<'a>,
     ) -> io::Result<TrailReading<'a>>
-        ensures { IfOk result (λ reading. HasRead reading edition owner []) }
+        ensures { IfOk result (λ reading. HasRead reading asked.entry edition owner []) }
     {
         Ok(TrailReading {
             alloc,
@@ -177,7 +178,7 @@ impl<'a> TrailReading<'a> {
 }
 
 impl TakesEntries for TrailReading<'_> {
-    ghost has_taken = { HasRead };
+    ghost has_taken = { λ first r edition owner said. HasRead r first.asked edition owner said };
 
     fn count(&self) -> u64 {
         self.watch.count()

@@ -1,14 +1,14 @@
 //! What the arguments of `mux-trail` ask for.
 
-ghost use Rattle.std.specs.Prelude.{◌≡◌, ◌^◌, IfOk, IfSome, None, Some};
-ghost use Rattle.mux_trail.specs.Words.{found_of, named_by, number_below};
-ghost use Rattle.mux_trail.specs.Asking.{IsAskedBy, IsLastOf, IsLogOf, IsObjectOf, IsTime, IsTimeOf};
-ghost use Rattle.mux_trail.specs.Asking.{IsUserOf, IsVerbOf, IsWhoOf, IsWhyOf, IsWindowOf, bit_in, text_at, text_of};
-ghost use Rattle.mux_trail.specs.Asking.{way_of};
+ghost use Rattle.std.specs.Prelude.{◌≡◌, IfOk, IfSome, None, Some, true};
+ghost use Rattle.mux_trail.specs.Words.{found_of, named_by};
+ghost use Rattle.mux_trail.specs.Asking.{IsAskedBy, IsLastOf, IsLogOf, IsTime, IsTimeOf, IsUserOf, IsVerbOf, IsWhoOf};
+ghost use Rattle.mux_trail.specs.Asking.{IsWhyOf, IsWindowOf, are_named, text_at, text_of, users_named, way_of};
 
 use acl::{Bit, Object, UserId};
 use clap::ArgMatches;
 use jiff::Timestamp;
+use line_fields::parts::{read_bit, read_object};
 use line_fields::{read_u32, read_u64};
 use std::alloc::{AllocError, Global};
 use trail_confined::Question;
@@ -103,12 +103,14 @@ fn found_in<'a, T>(
     }
 }
 
+const NAME_FORM: &str =
+    "a name has 1 to 20 lower-case letters, digits and _, and begins with a letter";
+
 /// The user of a name.
 fn user_named<'a>(word: &'a str, what: &'static str) -> Result<UserId, Mistake<'a>>
     ensures { IfOk result (λ user. named_by word.entry.now ≡ Some user) }
 {
-    let advice = "a name has 1 to 20 lower-case letters, digits and _, and begins with a letter";
-    found_in(UserId::of(word.as_bytes()), word, what, advice)
+    found_in(UserId::of(word.as_bytes()), word, what, NAME_FORM)
 }
 
 /// The user of a name, if one is given.
@@ -137,6 +139,15 @@ fn last_of(word: Option<&str>) -> Result<LastAsked, Mistake<'_>>
     Ok(LastAsked::Time(ms))
 }
 
+/// The first of the words between commas that names no user.
+fn stray_in(names: &str) -> Option<&str>
+    ensures { result ≡ None → are_named names.now ≡ true }
+{
+    names
+        .split(',')
+        .find(|name| UserId::of(name.as_bytes()).is_none())
+}
+
 /// What `who` is asked. If names are given, each is a user's.
 fn who_of(names: Option<&str>) -> Result<RightsAsked<'_>, Mistake<'_>>
     ensures { IfOk result (IsWhoOf (text_of names.entry)) }
@@ -144,63 +155,24 @@ fn who_of(names: Option<&str>) -> Result<RightsAsked<'_>, Mistake<'_>>
     let Some(names) = names else {
         return Ok(RightsAsked::Who);
     };
-    for name in names.split(',') {
-        let shown = if name.is_empty() { names } else { name };
-        let _user = user_named(shown, "--confined names no user")?;
-    }
-    Ok(RightsAsked::Confined(names))
-}
-
-/// The users of a list of names with commas between them. Only `of` makes one.
-#[derive(Drop)]
-pub struct NamedUsers<'a> {
-    names: &'a str,
-    users: Vec<UserId>,
-}
-
-impl<'a> NamedUsers<'a> {
-    pub fn of(alloc: Global, names: &'a str) -> Result<NamedUsers<'a>, AllocError>
-        ensures { IfOk result (λ it. it.names.now ≡ names.entry.now) }
-    {
-        let mut users = Vec::new(alloc);
-        for name in names.split(',') {
-            if let Some(user) = UserId::of(name.as_bytes()) {
-                users.push(user)?;
-            }
-        }
-        Ok(NamedUsers { names, users })
-    }
-
-    pub fn users(&self) -> &[UserId]
-        ensures { result.now ≡ self.now.users.items }
-    {
-        self.users.as_slice()
+    match stray_in(names) {
+        None => Ok(RightsAsked::Confined(names)),
+        Some(name) => Err(Mistake {
+            what: "--confined names no user",
+            word: if name.is_empty() { names } else { name },
+            advice: NAME_FORM,
+        }),
     }
 }
 
-fn bit_in(word: &str) -> Option<Bit>
-    ensures { result ≡ bit_in word.now }
+/// The users whom the words between commas name.
+pub fn users_named(alloc: Global, names: &str) -> Result<Vec<UserId>, AllocError>
+    ensures { IfOk result (λ users. users.items ≡ users_named names.now) }
 {
-    match word {
-        "r" => Some(Bit::Read),
-        "w" => Some(Bit::Write),
-        "x" => Some(Bit::Execute),
-        _ => None,
-    }
-}
-
-/// The object of a window's serial or a command's name.
-fn object_in(word: &str) -> Option<Object>
-    ensures some { IfSome result (IsObjectOf word.now) }
-    ensures none { result ≡ None → number_below (2 ^ 32) word.now ≡ None }
-{
-    if let Some(window) = read_u32(word.as_bytes()) {
-        return Some(Object::Window(window));
-    }
-    match Question::read(b"own", b"x", word.as_bytes())?.object {
-        Object::Command(command) => Some(Object::Command(command)),
-        Object::Window(_) => None,
-    }
+    names
+        .split(',')
+        .filter_map(|name| UserId::of(name.as_bytes()))
+        .collect(alloc)
 }
 
 /// What `why` is asked: about a window's serial or a command, else about a window's title.
@@ -208,8 +180,13 @@ fn why_of<'a>(user: &'a str, bit: &'a str, object: &'a str) -> Result<RightsAske
     ensures { IfOk result (IsWhyOf user.entry.now bit.entry.now object.entry.now) }
 {
     let user = user_named(user, "USER is no user")?;
-    let bit = found_in(bit_in(bit), bit, "BIT is no bit", "give r, w or x")?;
-    match object_in(object) {
+    let bit = found_in(
+        read_bit(bit.as_bytes()),
+        bit,
+        "BIT is no bit",
+        "give r, w or x",
+    )?;
+    match read_object(object.as_bytes()) {
         Some(object) => Ok(RightsAsked::Why(Question { user, bit, object })),
         None => Ok(RightsAsked::WhyTitled {
             user,

@@ -1,4 +1,5 @@
 -- What this crate's proofs take from definitions and from other crates.
+pub use Rattle.acl.specs.command_name.TheConstants.CommandName.{ALL}
 pub use Rattle.acl.specs.History.{History, among, is_known, mask, may, there, users_of}
 pub use Rattle.acl.specs.declared.leaders.Edition.{Edition}
 pub use Rattle.acl.specs.declared.user_id.UserId.{UserId}
@@ -11,6 +12,8 @@ pub use Rattle.std.specs.Prelude.{IfOk, IfSome, OnOk, codes, cond, filter, is_so
 pub use Rattle.trail_confined.specs.Confining.{circle, circles_of, concerns, holds, is_asked, masks_by, masks_of}
 pub use Rattle.trail_confined.specs.Confining.{may_open, openers_of, powers_of, premises_of, standing_of}
 pub use Rattle.trail_confined.specs.Reasons.{decider_text, is_listed, is_there}
+pub use Rattle.trail_confined.specs.Standing.{bits_on, command_text, commands_text, leader_text, user_text}
+pub use Rattle.trail_confined.specs.Standing.{window_text}
 pub use Rattle.trail_confined.specs.Telling.{act_giver_text, any_gives, bits_text, causes_text, concerned_text}
 pub use Rattle.trail_confined.specs.Telling.{contrary_text, deciders_of_one, failing_text, givers_text}
 pub use Rattle.trail_rights.proofs.Stepping.{from_none, joins_next, take_past}

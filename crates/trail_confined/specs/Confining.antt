@@ -99,6 +99,10 @@ masks_of openers user = flat_map (masks_by user) openers
 abbrev pub openers_of : Edition → UserId → History → List UserId
 openers_of edition owner h = filter (may_open edition owner h) (users_of owner h)
 
+-- the known users, and then those of these who aren't known
+abbrev pub users_with : UserId → History → List UserId → List UserId
+users_with owner h others = users_of owner h ++ filter (λ u. not (is_known owner h u)) others
+
 abbrev pub circles_of : Edition → History → List UserId → List UserId
 circles_of edition h users = flat_map (circle edition h) users
 

@@ -1,3 +1,4 @@
 pub mod Confining
 pub mod Reasons
 pub mod Telling
+pub mod Standing

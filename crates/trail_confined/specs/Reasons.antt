@@ -16,14 +16,15 @@ use Rattle.trail_rights.specs.declared.acts.Mark.{Mark}
 use Rattle.trail_confined.specs.declared.why.Question.{Question}
 use Rattle.line_fields.specs.Dates.{when_text}
 
-abbrev pub giver_text : Option UserId → List ℕ
-giver_text None = codes ": "
-giver_text (Some giver) = codes " by " ++ (name_of giver ++ codes ": ")
+-- ` by own`, if a user gave an event, and what ends it
+abbrev pub by_text : Option UserId → List ℕ → List ℕ
+by_text None end = end
+by_text (Some giver) end = codes " by " ++ (name_of giver ++ end)
 
 -- `entry 4 at 2025-11-24T16:00:00.548Z by own: `
 abbrev pub mark_text : Mark → List ℕ
 mark_text m =
-    codes "entry " ++ (decimal m.place ++ (when_text (codes " at ") m.ms ++ giver_text m.giver))
+    codes "entry " ++ (decimal m.place ++ (when_text (codes " at ") m.ms ++ by_text m.giver (codes ": ")))
 
 -- the act that was found to decide for a user, after the entry that has it
 abbrev pub cause_text : Option (Mark × Act) → List ℕ
@@ -37,7 +38,7 @@ abbrev pub decider_text : Decider → List ℕ
 decider_text d = found_text d.user d.found
 
 abbrev pub yes_text : Bool → List ℕ
-yes_text has_bit = if has_bit then codes "yes\n" else codes "no\n"
+yes_text is = if is then codes "yes" else codes "no"
 
 abbrev pub is_owner_text : UserId → List ℕ
 is_owner_text user = name_of user ++ codes ": the owner\n"
@@ -49,7 +50,7 @@ owner_text owner user = if same_user user owner then is_owner_text user else []
 abbrev pub answer_text : UserId → UserId → Option Bool → List Decider → List ℕ
 answer_text owner user None deciders = codes "no: the window isn't open\n"
 answer_text owner user (Some has_bit) deciders =
-    yes_text has_bit ++ (owner_text owner user ++ flat_map decider_text deciders)
+    yes_text has_bit ++ (codes "\n" ++ (owner_text owner user ++ flat_map decider_text deciders))
 
 -- whether the user has the bit after these acts, if the object is there
 abbrev pub answer_of : Edition → UserId → History → Question → Option Bool

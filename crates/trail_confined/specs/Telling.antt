@@ -1,5 +1,5 @@
 -- What is printed of users who may be confined, and why they aren't.
-use Rattle.std.specs.Prelude.{ℕ, Bool, true, false, not, ◌&&◌, if◌then◌else◌, List, [], ◌∷◌, ◌++◌, codes}
+use Rattle.std.specs.Prelude.{ℕ, Bool, false, not, ◌&&◌, if◌then◌else◌, List, [], ◌∷◌, ◌++◌, codes}
 use Rattle.std.specs.Prelude.{Option, Some, None}
 use Rattle.std.specs.List.{flat_map, list_any}
 use Rattle.acl.specs.declared.act.Act.{Act}
@@ -27,7 +27,7 @@ use Rattle.trail_rights.specs.Settling.{settler_in}
 use Rattle.trail_confined.specs.declared.premises.Premise.{Premise}
 use Rattle.trail_confined.specs.declared.premises.Premise.TheVariants as premise
 use Rattle.trail_confined.specs.Confining.{circle, concerns}
-use Rattle.trail_confined.specs.Reasons.{found_text, is_owner_text}
+use Rattle.trail_confined.specs.Reasons.{found_text, is_owner_text, yes_text}
 
 -- ---- what is looked for: who may open windows, or change rights
 
@@ -42,13 +42,11 @@ deciders_of_one owner user =
 
 -- ---- bits
 
-abbrev pub confined_text : Bool → List ℕ
-confined_text is = if is then codes " yes\n" else codes " no\n"
-
 -- `confined r yes`
 abbrev pub bit_text : List Premise → Bit → List ℕ
 bit_text failing bit =
-    codes "confined " ++ (letter bit ++ confined_text (not (list_any (concerns bit) failing)))
+    codes "confined " ++ (letter bit
+    ++ (codes " " ++ (yes_text (not (list_any (concerns bit) failing)) ++ codes "\n")))
 
 abbrev pub bits_text : List Premise → List ℕ
 bits_text failing = bit_text failing Read ++ (bit_text failing Write ++ bit_text failing Execute)

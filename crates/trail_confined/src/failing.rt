@@ -8,14 +8,14 @@ ghost use Rattle.acl.specs.History.{History};
 ghost use Rattle.hub.specs.Following.{StandsAfter};
 ghost use Rattle.trail_confined.specs.Confining.{circle};
 ghost use Rattle.trail_confined.specs.Telling.{act_giver_text, any_gives, bit_text, bits_text, causes_text};
-ghost use Rattle.trail_confined.specs.Telling.{concerned_text, confined_text, confinement_text, contrary_text};
+ghost use Rattle.trail_confined.specs.Telling.{concerned_text, confinement_text, contrary_text};
 ghost use Rattle.trail_confined.specs.Telling.{deciders_of_one, failing_text, found_of, givers_text, gives};
 ghost use Rattle.trail_confined.specs.Telling.{indented_owner_text, letter_if, may_give, power_decider, power_text};
 ghost use Rattle.trail_confined.specs.Telling.{setting_text, settled_by};
 
 use crate::confined::is_confined;
 use crate::premises::{Premise, push_circle};
-use crate::why::{push_found, push_is_owner};
+use crate::why::{push_found, push_is_owner, yes_text};
 use acl::{Act, Bit, CommandName, Object, UserId};
 use command_lang::name_text;
 use hub::Rights;
@@ -63,24 +63,15 @@ pub fn power_deciders(
     Ok(deciders)
 }
 
-/// Appends whether users are confined for a bit.
-fn push_confined(is: bool, out: &mut Vec<u8>) -> Result<(), AllocError>
-    ensures { OnOk result (out.new.items ≡ out.old.items ++ confined_text is) }
-{
-    if is {
-        out.extend_from_slice(b" yes\n")
-    } else {
-        out.extend_from_slice(b" no\n")
-    }
-}
-
 /// Appends a bit, and whether users are confined for it, if these premises fail.
 fn push_bit(failing: &[Premise], bit: Bit, out: &mut Vec<u8>) -> Result<(), AllocError>
     ensures { OnOk result (out.new.items ≡ out.old.items ++ bit_text failing.now bit) }
 {
     out.extend_from_slice(b"confined ")?;
     out.extend_from_slice(letter(bit))?;
-    push_confined(is_confined(failing, bit), out)
+    out.extend_from_slice(b" ")?;
+    out.extend_from_slice(yes_text(is_confined(failing, bit)))?;
+    out.extend_from_slice(b"\n")
 }
 
 /// Appends each bit, and whether users are confined for it, if these premises fail.

@@ -12,9 +12,9 @@ mod why;
 
 pub use confined::{failing_of, is_confined};
 pub use failing::{power_deciders, push_confinement};
-pub use premises::{Premise, may_open, openers_of, premises_of};
-pub use who::write_rights;
-pub use why::{Question, bit_of, push_reasons};
+pub use premises::{Premise, may_open, openers_of, premises_of, users_with};
+pub use who::push_rights;
+pub use why::{Question, push_by, push_reasons, yes_text};
 
 /// Users are confined for a bit on windows to come exactly if no premise fails that concerns the bit.
 pub fn confinement_is_decided()

@@ -7,7 +7,7 @@ ghost use Rattle.acl.specs.declared.user_id.UserId.{UserId};
 ghost use Rattle.acl.specs.History.{History};
 ghost use Rattle.hub.specs.Following.{StandsAfter};
 ghost use Rattle.trail_confined.specs.Confining.{circles_of, concerns, masks_by, masks_of, circle, may_open};
-ghost use Rattle.trail_confined.specs.Confining.{openers_of, powers_of, premises_of, standing_of};
+ghost use Rattle.trail_confined.specs.Confining.{openers_of, powers_of, premises_of, standing_of, users_with};
 
 use acl::{Bit, CommandName, Object, UserId};
 use hub::Rights;
@@ -181,6 +181,25 @@ pub fn openers_of(alloc: Global, replay: &Rights) -> Result<Vec<UserId>, AllocEr
         }
     }
     Ok(openers)
+}
+
+/// The known users, and then those of these users who aren't known.
+pub fn users_with(
+    alloc: Global,
+    replay: &Rights,
+    others: &[UserId],
+) -> Result<Vec<UserId>, AllocError>
+    ensures { (edition : Edition) (owner : UserId) (h : History) →
+        StandsAfter replay.now edition owner h →
+        IfOk result (λ users. users.items ≡ users_with owner h others.now) }
+{
+    let mut users = users_of(alloc, replay)?;
+    for user in others {
+        if !replay.knows(*user) {
+            users.push(*user)?;
+        }
+    }
+    Ok(users)
 }
 
 /// Appends a user, and then the user's leaders.

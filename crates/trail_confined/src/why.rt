@@ -6,13 +6,12 @@ ghost use Rattle.acl.specs.declared.leaders.Edition.{Edition};
 ghost use Rattle.acl.specs.declared.user_id.UserId.{UserId};
 ghost use Rattle.acl.specs.History.{History};
 ghost use Rattle.hub.specs.Following.{StandsAfter};
-ghost use Rattle.trail_confined.specs.Reasons.{answer_of, answer_text, cause_text, decider_text};
-ghost use Rattle.trail_confined.specs.Reasons.{found_text, giver_text, is_listed, is_owner_text, is_there};
+ghost use Rattle.trail_confined.specs.Reasons.{answer_of, answer_text, by_text, cause_text, decider_text};
+ghost use Rattle.trail_confined.specs.Reasons.{found_text, is_listed, is_owner_text, is_there};
 ghost use Rattle.trail_confined.specs.Reasons.{mark_text, owner_text, reasons_text, yes_text};
 ghost use Rattle.trail_rights.specs.Windows.{windows_of};
 
-use acl::{Act, Bit, CommandName, Object, UserId};
-use command_lang::name_text;
+use acl::{Act, Bit, Object, UserId};
 use hub::Rights;
 use line_fields::acts::push_act;
 use line_fields::push_when;
@@ -26,46 +25,6 @@ pub struct Question {
     pub user: UserId,
     pub bit: Bit,
     pub object: Object,
-}
-
-impl Question {
-    /// The question of three words: a name, `r`, `w` or `x`, and a window's serial or a command's
-    /// name.
-    pub fn read(user: &[u8], bit: &[u8], object: &[u8]) -> Option<Question> {
-        Some(Question {
-            user: UserId::of(user)?,
-            bit: bit_of(bit)?,
-            object: object_of(object)?,
-        })
-    }
-}
-
-/// The bit of a letter.
-pub fn bit_of(word: &[u8]) -> Option<Bit> {
-    match word {
-        [b'r'] => Some(Bit::Read),
-        [b'w'] => Some(Bit::Write),
-        [b'x'] => Some(Bit::Execute),
-        _ => None,
-    }
-}
-
-/// The object of a window's serial or a command's name.
-fn object_of(word: &[u8]) -> Option<Object> {
-    match line_fields::read_u32(word) {
-        Some(window) => Some(Object::Window(window)),
-        None => Some(Object::Command(command_of(word)?)),
-    }
-}
-
-/// The command of this name.
-fn command_of(name: &[u8]) -> Option<CommandName> {
-    for command in &CommandName::ALL {
-        if name_text(*command).as_bytes() == name {
-            return Some(*command);
-        }
-    }
-    None
 }
 
 /// Whether a window is in a list.
@@ -90,17 +49,17 @@ fn is_there(windows: &[u32], object: Object) -> bool
     }
 }
 
-/// Appends who gave an event, if a user did.
-fn push_giver(giver: Option<UserId>, out: &mut Vec<u8>) -> Result<(), AllocError>
-    ensures { OnOk result (out.new.items ≡ out.old.items ++ giver_text giver) }
+/// Appends who gave an event, if a user did, and then this end.
+pub fn push_by(by: Option<UserId>, end: &[u8], out: &mut Vec<u8>) -> Result<(), AllocError>
+    ensures { OnOk result (out.new.items ≡ out.old.items ++ by_text by end.now) }
 {
-    match giver {
-        Some(giver) => {
+    match by {
+        Some(by) => {
             out.extend_from_slice(b" by ")?;
-            out.extend_from_slice(giver.as_bytes())?;
-            out.extend_from_slice(b": ")
+            out.extend_from_slice(by.as_bytes())?;
+            out.extend_from_slice(end)
         }
-        None => out.extend_from_slice(b": "),
+        None => out.extend_from_slice(end),
     }
 }
 
@@ -111,7 +70,7 @@ fn push_mark(mark: Mark, out: &mut Vec<u8>) -> Result<(), AllocError>
     out.extend_from_slice(b"entry ")?;
     push_decimal(mark.place, out)?;
     push_when(b" at ", mark.ms, out)?;
-    push_giver(mark.giver, out)
+    push_by(mark.giver, b": ", out)
 }
 
 /// Appends the act that was found to decide, and its entry; or that no act decides.
@@ -141,15 +100,11 @@ pub fn push_found(
     push_cause(found, out)
 }
 
-/// Appends whether a user has a bit.
-fn push_yes(has_bit: bool, out: &mut Vec<u8>) -> Result<(), AllocError>
-    ensures { OnOk result (out.new.items ≡ out.old.items ++ yes_text has_bit) }
+/// The word for whether something is so.
+pub fn yes_text(is: bool) -> &'static [u8]
+    ensures { result.now ≡ yes_text is }
 {
-    if has_bit {
-        out.extend_from_slice(b"yes\n")
-    } else {
-        out.extend_from_slice(b"no\n")
-    }
+    if is { b"yes" } else { b"no" }
 }
 
 /// Appends that a user is the owner.
@@ -196,7 +151,8 @@ fn push_answer(
 {
     match answer {
         Some(has_bit) => {
-            push_yes(has_bit, out)?;
+            out.extend_from_slice(yes_text(has_bit))?;
+            out.extend_from_slice(b"\n")?;
             push_owner(owner, user, out)?;
             push_deciders(deciders, out)
         }

@@ -3,6 +3,7 @@ use Rattle.trail_rights.proofs.Vocabulary.{◌≡◌, ◌∙◌, Bool, true, fal
 use Rattle.trail_rights.proofs.Vocabulary.{ap, sym, map, cond, is_some, unwrap_or, IfSome, AllByRecursion, and_parts}
 use Rattle.trail_rights.proofs.Vocabulary.{false≢true, Act, Bit, Read, Mark, RightsSetting, Settler, Marked, acts_in}
 use Rattle.trail_rights.proofs.Vocabulary.{settles, value_of, settling, settler_after, HasSettled, settler_in}
+use Rattle.trail_rights.proofs.Vocabulary.{first_settler, setting_by}
 use Rattle.acl.specs.declared.act.PresetKind.{PresetKind}
 use Rattle.acl.specs.declared.act.PresetKind.TheVariants as preset
 use Rattle.acl.specs.declared.bits.Bit.TheVariants.{Write, Execute}
@@ -37,6 +38,16 @@ unsettled m a none [] = refl
 unsettled m a none (s ∷ settlers) = ap (λ t. t ∷ settlers)
     (sym (unsettled_one s m a (settles s.setting a) refl (none s.setting)))
     ∙ ap (λ ts. settler_after m a s ∷ ts) (unsettled m a none settlers)
+
+-- ---- before the first act
+
+pub first_settled : (settings : List RightsSetting) → AllByRecursion (HasSettled []) (map first_settler settings)
+first_settled [] = tt
+first_settled (s ∷ settings) = (record { value = refl; found = refl }, first_settled settings)
+
+pub first_sought : (settings : List RightsSetting) → map setting_by (map first_settler settings) ≡ settings
+first_sought [] = refl
+first_sought (s ∷ settings) = ap (λ ss. s ∷ ss) (first_sought settings)
 
 -- ---- the first that looks for a setting
 

@@ -28,10 +28,10 @@ pub use Rattle.trail_rights.specs.Deciding.{DecidingIsLatest, HasDecided, IsDeci
 pub use Rattle.trail_rights.specs.Deciding.{found_in, sought_by, there_after}
 pub use Rattle.trail_rights.specs.Keeping.{HasKept, asks, is_asked, tells, told}
 pub use Rattle.trail_rights.specs.Marks.{Marked, acts_in, entries_in, mark_among, marked_after, marked_by, marked_on}
-pub use Rattle.trail_rights.specs.Masking.{masks_text, other_text, preset_text}
+pub use Rattle.trail_rights.specs.Masking.{masks_of, masks_text, other_text, preset_text}
 pub use Rattle.trail_rights.specs.Seeing.{HasSeen, sought}
-pub use Rattle.trail_rights.specs.Settling.{HasSettled, setting_by, settler_after, settler_in, settles, settling}
-pub use Rattle.trail_rights.specs.Settling.{value_of}
+pub use Rattle.trail_rights.specs.Settling.{HasSettled, first_settler, setting_by, settler_after, settler_in, settles}
+pub use Rattle.trail_rights.specs.Settling.{settling, value_of}
 pub use Rattle.trail_rights.specs.Watching.{Follows, HasWatched}
 pub use Rattle.trail_rights.specs.Windows.{OpenAreListed, windows_after, windows_of, without_window}
 pub use Rattle.trail_rights.specs.declared.acts.Mark.{Mark}

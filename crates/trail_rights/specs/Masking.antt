@@ -1,5 +1,5 @@
--- What is printed of masks, and of what a user gets who becomes known.
-use Rattle.std.specs.Prelude.{ℕ, if◌then◌else◌, List, [], ◌∷◌, ◌++◌, Option, Some, None, codes}
+-- What is printed of masks, and of what a user gets who becomes known; and what is looked for to print it.
+use Rattle.std.specs.Prelude.{ℕ, if◌then◌else◌, List, [], ◌∷◌, ◌++◌, Option, Some, None, codes, map}
 use Rattle.std.specs.List.{flat_map}
 use Rattle.acl.specs.Names.{name_of}
 use Rattle.acl.specs.Same.{same_user}
@@ -52,3 +52,19 @@ abbrev pub newcomer_text : List Settler → List ℕ
 newcomer_text settlers =
     codes "newcomer windows:" ++ (preset_text settlers kind.Windows
     ++ (codes " commands:" ++ (preset_text settlers kind.Commands ++ codes " later:rwx\n")))
+
+-- ---- what is looked for: who is known, what each user masks for each, and the presets
+
+abbrev pub masks_for : UserId → UserId → List RightsSetting
+masks_for by user = setting.Mask by user Read ∷ setting.Mask by user Write ∷ setting.Mask by user Execute ∷ []
+
+abbrev pub masks_of : List UserId → UserId → List RightsSetting
+masks_of users by = flat_map (masks_for by) users
+
+abbrev pub presets_of : PresetKind → List RightsSetting
+presets_of k = setting.Preset k Read ∷ setting.Preset k Write ∷ setting.Preset k Execute ∷ []
+
+abbrev pub settings_of : List UserId → List RightsSetting
+settings_of users =
+    map setting.Listed users
+    ++ (flat_map (masks_of users) users ++ (presets_of kind.Windows ++ presets_of kind.Commands))

@@ -81,6 +81,10 @@ pub record HasSettled (marked : Marked) (s : Settler) : Type 0 where
 abbrev pub setting_by : Settler → RightsSetting
 setting_by s = s.setting
 
+-- a settler before the first act
+abbrev pub first_settler : RightsSetting → Settler
+first_settler s = record { setting = s; value = first_value s; found = None }
+
 -- the first settler that looks for a setting
 abbrev pub settler_in : List Settler → RightsSetting → Option Settler
 settler_in [] s = None

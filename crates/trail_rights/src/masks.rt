@@ -1,8 +1,11 @@
 //! Masks, and what a user gets who becomes known.
 
-ghost use Rattle.std.specs.Prelude.{◌≡◌, ◌++◌, OnOk};
-ghost use Rattle.std.specs.List.{flat_map};
+ghost use Rattle.std.specs.Prelude.{◌≡◌, ◌++◌, [], IfOk, OnOk, map};
+ghost use Rattle.std.specs.List.{AllByRecursion, flat_map};
 ghost use Rattle.session.specs.Texts.{letter};
+ghost use Rattle.trail_rights.specs.declared.settler.RightsSetting.TheVariants.{Listed};
+ghost use Rattle.trail_rights.specs.Settling.{HasSettled, first_settler, setting_by};
+ghost use Rattle.trail_rights.specs.Masking.{masks_for, masks_of, presets_of, settings_of};
 ghost use Rattle.trail_rights.specs.Masking.{given_text, mask_letter, mask_text, masks_text};
 ghost use Rattle.trail_rights.specs.Masking.{newcomer_text, other_text, preset_letter, preset_text, setting_text};
 
@@ -10,53 +13,105 @@ use crate::settler::{RightsSetting, Settler, settler_in};
 use acl::{Bit, PresetKind, UserId};
 use std::alloc::{AllocError, Global};
 
-/// The bits, in the order in which they are told.
-const BITS: [Bit; 3] = [Bit::Read, Bit::Write, Bit::Execute];
-
-/// Looks for what an opener masks for a user.
-fn push_masks(opener: UserId, user: UserId, settlers: &mut Vec<Settler>) -> Result<(), AllocError> {
-    for bit in &BITS {
-        settlers.push(Settler::new(RightsSetting::Mask {
-            by: opener,
+/// Appends what an opener masks for a user.
+fn push_masks(by: UserId, user: UserId, settings: &mut Vec<RightsSetting>) -> Result<(), AllocError>
+    ensures { OnOk result (settings.new.items ≡ settings.old.items ++ masks_for by user) }
+{
+    settings.extend_from_slice(&[
+        RightsSetting::Mask {
+            by,
             user,
-            bit: *bit,
-        }))?;
-    }
-    Ok(())
+            bit: Bit::Read,
+        },
+        RightsSetting::Mask {
+            by,
+            user,
+            bit: Bit::Write,
+        },
+        RightsSetting::Mask {
+            by,
+            user,
+            bit: Bit::Execute,
+        },
+    ])
 }
 
-/// Looks for what an opener masks for each user.
+/// Appends what an opener masks for each user.
 fn push_all_masks(
-    opener: UserId,
+    by: UserId,
     users: &[UserId],
-    settlers: &mut Vec<Settler>,
-) -> Result<(), AllocError> {
+    settings: &mut Vec<RightsSetting>,
+) -> Result<(), AllocError>
+    ensures { OnOk result (settings.new.items ≡ settings.old.items ++ masks_of users.now by) }
+{
     for user in users {
-        push_masks(opener, *user, settlers)?;
+        push_masks(by, *user, settings)?;
     }
     Ok(())
 }
 
-/// Looks for the presets of a kind.
-fn push_presets(kind: PresetKind, settlers: &mut Vec<Settler>) -> Result<(), AllocError> {
-    for bit in &BITS {
-        settlers.push(Settler::new(RightsSetting::Preset { kind, bit: *bit }))?;
+/// Appends the presets of a kind.
+fn push_presets(kind: PresetKind, settings: &mut Vec<RightsSetting>) -> Result<(), AllocError>
+    ensures { OnOk result (settings.new.items ≡ settings.old.items ++ presets_of kind) }
+{
+    settings.extend_from_slice(&[
+        RightsSetting::Preset {
+            kind,
+            bit: Bit::Read,
+        },
+        RightsSetting::Preset {
+            kind,
+            bit: Bit::Write,
+        },
+        RightsSetting::Preset {
+            kind,
+            bit: Bit::Execute,
+        },
+    ])
+}
+
+/// Appends which of these users are known.
+fn push_listed(users: &[UserId], settings: &mut Vec<RightsSetting>) -> Result<(), AllocError>
+    ensures { OnOk result (settings.new.items ≡ settings.old.items ++ map Listed users.now) }
+{
+    for user in users {
+        settings.push(RightsSetting::Listed { user: *user })?;
     }
     Ok(())
+}
+
+/// Appends what each opener masks for each user.
+fn push_each_masks(users: &[UserId], settings: &mut Vec<RightsSetting>) -> Result<(), AllocError>
+    ensures { OnOk result (settings.new.items ≡ settings.old.items ++ flat_map (masks_of users.now) users.now) }
+{
+    for by in users {
+        push_all_masks(*by, users, settings)?;
+    }
+    Ok(())
+}
+
+/// Settlers of these settings, before the first act.
+fn settlers_of(alloc: Global, settings: &[RightsSetting]) -> Result<Vec<Settler>, AllocError>
+    ensures { IfOk result (λ settlers. settlers.items ≡ map first_settler settings.now) }
+{
+    let mut settlers = Vec::new(alloc);
+    for setting in settings {
+        settlers.push(Settler::new(*setting))?;
+    }
+    Ok(settlers)
 }
 
 /// Settlers before the first act: of who is known, what each user masks for each, and the presets.
-pub fn settings_of(alloc: Global, users: &[UserId]) -> Result<Vec<Settler>, AllocError> {
-    let mut settlers = Vec::new(alloc);
-    for user in users {
-        settlers.push(Settler::new(RightsSetting::Listed { user: *user }))?;
-    }
-    for user in users {
-        push_all_masks(*user, users, &mut settlers)?;
-    }
-    push_presets(PresetKind::Windows, &mut settlers)?;
-    push_presets(PresetKind::Commands, &mut settlers)?;
-    Ok(settlers)
+pub fn settings_of(alloc: Global, users: &[UserId]) -> Result<Vec<Settler>, AllocError>
+    ensures sought { IfOk result (λ settlers. map setting_by settlers.items ≡ settings_of users.now) }
+    ensures settled { IfOk result (λ settlers. AllByRecursion (HasSettled []) settlers.items) }
+{
+    let mut settings = Vec::new(alloc);
+    push_listed(users, &mut settings)?;
+    push_each_masks(users, &mut settings)?;
+    push_presets(PresetKind::Windows, &mut settings)?;
+    push_presets(PresetKind::Commands, &mut settings)?;
+    settlers_of(alloc, settings.as_slice())
 }
 
 /// The letter of a bit.

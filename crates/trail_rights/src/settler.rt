@@ -1,9 +1,9 @@
 //! What acts set besides rights: who is known, masks and presets.
 
-ghost use Rattle.std.specs.Prelude.{◌≡◌, ◌||◌, [], None, true, false, map};
+ghost use Rattle.std.specs.Prelude.{◌≡◌, ◌||◌, None, true, false, map};
 ghost use Rattle.acl.specs.Same.{same_user, same_bit, same_preset};
 ghost use Rattle.acl.specs.History.{decided, decides_mask, decides_preset};
-ghost use Rattle.trail_rights.specs.Settling.{HasSettled, same_setting, settler_after, settler_in, settles};
+ghost use Rattle.trail_rights.specs.Settling.{first_settler, same_setting, settler_after, settler_in, settles};
 
 use crate::acts::Mark;
 use crate::decider::decides_known;
@@ -117,8 +117,7 @@ fn is_same(setting: RightsSetting, other: RightsSetting) -> bool
 impl Settler {
     /// Before the first act.
     pub fn new(setting: RightsSetting) -> Settler
-        ensures settled { HasSettled [] result }
-        ensures setting { result.setting ≡ setting }
+        ensures { result ≡ first_settler setting }
     {
         Settler {
             setting,

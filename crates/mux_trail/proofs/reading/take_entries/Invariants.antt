@@ -9,7 +9,7 @@ use Rattle.mux_trail.proofs.reading.take_entries.Given as goal
 -- the entries before the line of this number were taken
 abbrev pub invariant-loop-number : goal.invariant-loop-number
 invariant-loop-number g l =
-    (edition : Edition) (owner : UserId) → g.T.TakesEntries.has_taken l.fn.taker edition owner []
-    → (said : List Said) × g.T.TakesEntries.has_taken l.taker edition owner said × (l.number ≡ length said + 2)
-    × (length said ≤ l.last + 1)
+    (edition : Edition) (owner : UserId) → g.T.TakesEntries.has_taken l.fn.taker l.fn.taker edition owner []
+    → (said : List Said) × g.T.TakesEntries.has_taken l.fn.taker l.taker edition owner said
+    × (l.number ≡ length said + 2) × (length said ≤ l.last + 1)
     × OfKnown (g.R.Read.remaining l.fn.reader) (g.R.Read.remaining l.reader) (AreRead said)

@@ -23,7 +23,8 @@ counted After f (halt.Stopped number w) n line edition owner said behind takes i
 
 pub returns : goal.returns
 returns g c = λ edition owner fresh.
-    let After = g.T.TakesEntries.has_taken c.take_entries.new.taker edition owner in
+    let first = c.args.taker.now in
+    let After = g.T.TakesEntries.has_taken first c.take_entries.new.taker edition owner in
     let line = c.take_entries.new.line.items in
     let rest = g.R.Read.remaining c.take_entries.new.reader in
     let f = c.in_ok-finish.finish in
@@ -38,14 +39,15 @@ returns g c = λ edition owner fresh.
       behind = None;
       taken = taken;
       finishes = counted After f c.in_ok-halt.halt c.count-count.result line edition owner taken.said None taken.takes
-          (λ after. c.count-count.ensures edition owner taken.said after ∙ count_in taken.said)
+          (λ after. c.count-count.ensures first edition owner taken.said after ∙ count_in taken.said)
           (subst (λ (h : Halt). Finishes f h c.count-count.result line None) (sym c.in-Last.is) ends);
       looked = search rules;
     }
 
 pub returns-2 : goal.returns-2
 returns-2 g c = λ edition owner fresh.
-    let After = g.T.TakesEntries.has_taken c.take_entries.new.taker edition owner in
+    let first = c.args.taker.now in
+    let After = g.T.TakesEntries.has_taken first c.take_entries.new.taker edition owner in
     let line = c.take_entries.new.line.items in
     let rest = g.R.Read.remaining c.take_entries.new.reader in
     let taken = subst (λ (last : ℕ). AreTaken After c.in_ok-halt.halt line last edition owner
@@ -57,6 +59,6 @@ returns-2 g c = λ edition owner fresh.
       behind = rest;
       taken = taken;
       finishes = counted After f c.in_ok-halt.halt c.count-count.result line edition owner taken.said rest taken.takes
-          (λ after. c.count-count.ensures edition owner taken.said after ∙ count_in taken.said) ends;
+          (λ after. c.count-count.ensures first edition owner taken.said after ∙ count_in taken.said) ends;
       looked = λ is. refl;
     }) c.finish_of.ensures

@@ -1,4 +1,4 @@
-use Rattle.trail_confined.proofs.Vocabulary.{◌≡◌, ◌∙◌, ◌++◌, [], ap, sym, append-nil, append_assoc, slice_index_or}
+use Rattle.trail_confined.proofs.Vocabulary.{◌∙◌, ◌++◌, ap, sym, append-nil, append_assoc, slice_index_or}
 use Rattle.trail_confined.proofs.Vocabulary.{take, flat_map, take_more, failing_text, joins_next, take_past}
 use Rattle.trail_confined.proofs.failing.push_each_failing.Goals as goal
 

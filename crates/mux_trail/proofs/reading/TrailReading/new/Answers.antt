@@ -6,6 +6,7 @@ use Rattle.mux_trail.proofs.reading.TrailReading.new.Goals as goal
 pub returns : goal.returns
 returns c = record {
   owner_is = refl;
+  asked_is = refl;
   watched = c.in_ok-new.ensures.watched;
   noted_so = subst (λ (n : Noted). IsNoted c.args.asked c.args.edition c.args.owner [] c.new-2.result n)
       (sym c.new-3.ensures) (subst (λ (m : Names). IsNoted c.args.asked c.args.edition c.args.owner [] m (false, []))

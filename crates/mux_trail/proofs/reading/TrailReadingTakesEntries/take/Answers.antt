@@ -28,22 +28,26 @@ noted_more asked edition owner before x names more n m named is so =
     (IsNoted.more before x names n so))
 
 pub returns-in_ok-follow-in-Ok : goal.returns-in_ok-follow-in-Ok
-returns-in_ok-follow-in-Ok c = λ edition owner before has.
+returns-in_ok-follow-in-Ok c = λ first edition owner before has.
     let t = c.in-Ok.ensures.tells edition owner before has.watched in
     let x = said c.in-Ok.said in
     let same = c.in_ok-note-in-Ok.ensures.same in
-    let asked : c.note.new.self.asked ≡ c.args.self.now.asked = ap (λ (r : TrailReading). r.asked) same in (
+    let h = acts_in (marked_after [] (before ++ x ∷ [])) in
+    let more = c.note.new.self.names in
+    let change = λ (a : RightsAsked). changed (has_asked a edition owner h more.1)
+    (giver c.args.self.now.names.0 x.2.event) x (noted c.args.self.now.history) in
+    let changed_so : noted c.note.new.self.history ≡ change first.asked =
+    c.in_ok-note-in-Ok.ensures.history edition owner (before ++ x ∷ []) t.watched ∙ ap change has.asked_is in (
       x,
       t.is,
       record {
         owner_is = ap (λ (r : TrailReading). r.owner) same ∙ has.owner_is;
         watched = subst (λ (w : Watch). HasWatched w edition owner (before ++ x ∷ []))
             (sym (ap (λ (r : TrailReading). r.watch) same)) t.watched;
-        noted_so = subst (λ (a : RightsAsked). IsNoted a edition owner (before ++ x ∷ []) c.note.new.self.names
-            (noted c.note.new.self.history)) (sym asked)
-            (noted_more c.args.self.now.asked edition owner before x c.args.self.now.names c.note.new.self.names
+        asked_is = ap (λ (r : TrailReading). r.asked) same ∙ has.asked_is;
+        noted_so = noted_more first.asked edition owner before x c.args.self.now.names more
             (noted c.args.self.now.history) (noted c.note.new.self.history) c.in_ok-note-in-Ok.ensures.names
-            (c.in_ok-note-in-Ok.ensures.history edition owner (before ++ x ∷ []) t.watched) has.noted_so);
+            changed_so has.noted_so;
         first = has.first;
         is_first = has.is_first;
         followed = folds_more FollowsSaid has.first before c.args.self.now.state x c.follow.new.state has.followed
