@@ -1,22 +1,27 @@
 -- Frames that are read one after another.
-use Rattle.std.proofs.Common.{◌≡◌, ◌⊎◌, ℕ, suc, ◌+◌, false, List, ◌++◌, take, drop, length, Option, option_map, Result}
-use Rattle.std.proofs.Common.{Ok, Err, ◌≤◌, ◌-◌, refl, sym, ap, ◌∙◌, subst, inl, inr, arith, append_assoc}
+use Rattle.std.proofs.Common.{◌≡◌, ◌⊎◌, ℕ, suc, ◌+◌, Bool, false, true, List, ◌++◌, take, drop, length, Option}
+use Rattle.std.proofs.Common.{option_map, Result, Ok, Err, ◌≤◌, ◌-◌, refl, sym, ap, ◌∙◌, subst, inl, inr, arith}
+use Rattle.std.proofs.Common.{append_assoc}
 use Rattle.std.proofs.Math.Seq.{take-append_seam}
 use Rattle.std.proofs.lemmas.List.{drop-drop, drop-take, drop_at, length-take}
 use Rattle.websocket.specs.declared.error.Error.{Error}
 use Rattle.websocket.specs.declared.protocol.context.Step.{Step}
 use Rattle.websocket.specs.declared.protocol.frame.codec.FrameStatus.{FrameStatus}
 use Rattle.websocket.specs.declared.protocol.frame.codec.FrameStatus.TheVariants.{Partial, Complete}
+use Rattle.websocket.specs.declared.protocol.frame.coding.CloseCode.TheVariants.{Policy}
 use Rattle.websocket.specs.Content.{Content, received_content}
 use Rattle.websocket.specs.Connection.{Connection, Effect, Sends}
 use Rattle.websocket.specs.View.{Returns, ReadLeaves}
 use Rattle.web_client.specs.declared.identity.Identity.{Identity}
+use Rattle.web_client.specs.declared.visitor.TheConstants.{NOT_UNDERSTOOD}
 use Rattle.web_client.specs.declared.wire.Phase.TheVariants.{Socket, Last}
+use Rattle.web_client.specs.declared.wire.Wire.{Wire}
 use Rattle.web_client.specs.declared.frame.PageFrame.{PageFrame}
 use Rattle.web_client.specs.declared.frame.PageFrame.TheVariants as frame
 use Rattle.web_client.specs.Frames.{Page, Says, SaysNothing, Closes, IsSaid, BeginsWith, IsRead, Reads, GoesOn}
 use Rattle.web_client.specs.Frames.{EndsWith, TakesMessage, answered_after, TakesFrame, TakesFrames, EndsAt, TakesSome}
-use Rattle.web_client.specs.Frames.{Replies}
+use Rattle.web_client.specs.Frames.{IsSentBy, Replies, TellsOut}
+use Rattle.web_client.specs.Rows.{Closes as ClosesBy}
 
 -- what was lent of a list from a place on, and given back
 pub behind : (n k : ℕ) (a r post rest : List ℕ) → n ≤ length a → k ≡ length a → length r ≡ length a - n
@@ -118,14 +123,28 @@ after_message watcher message count old now read next w e r s t =
         now,
         k,
         h.0,
-        inr (
-          r.0,
-          message,
-          r.1.next,
-          r.2,
-          subst (λ (v : Identity). EndsWith watcher v message next.identity) s h.1,
-        ),
+        inr (r.0, read, message, r.1, s, r.2, h.1),
       )
+    ]
+
+-- what was sent says nothing of the bytes that wait
+sent_behind : (Sent : Wire → Wire → Type 0) (old new : Page) (a b : List ℕ) → b ≡ a → IsSentBy Sent old new
+    → IsSentBy Sent (record old { waiting = a }) (record new { waiting = b })
+sent_behind Sent old new a b e h = (
+  h.0,
+  h.1,
+  ap (λ (p : Page). record p { waiting = a }) h.2,
+  ap (λ (p : Page). record p { waiting = a }) h.3 ∙ ap (λ (l : List ℕ). record new { waiting = l }) (sym e),
+  h.4,
+)
+
+ends_behind : {A : Type 0} (watcher : Option A) (message : List ℕ) (old new : Page) (a b : List ℕ) → b ≡ a
+    → EndsWith watcher message old new
+    → EndsWith watcher message (record old { waiting = a }) (record new { waiting = b })
+ends_behind watcher message old new a b e t =
+    elim t [
+      | inl h ↦ inl (h.0, h.1, sent_behind (ClosesBy Policy NOT_UNDERSTOOD.now) old new a b e h.2)
+      | inr h ↦ inr (h.0, h.1, sent_behind (TellsOut new.identity) old new a b e h.2)
     ]
 
 -- a message says nothing of the bytes that wait
@@ -142,7 +161,7 @@ shifted watcher message old new a b e t =
         output = h.output;
         identity = h.identity;
       })
-      | inr h ↦ inr h
+      | inr h ↦ inr (h.0, ends_behind watcher message old new a b e h.1)
     ]
 
 -- no frame was read any more
@@ -157,6 +176,26 @@ after_none watcher count old now next w e r s =
         now,
         k,
         inr (h.0, inl (h.1, s)),
+      )
+    ]
+
+-- the loop is over: the connection has ended, or 64 frames were taken
+pub finished : {A : Type 0} (watcher : Option A) (count : ℕ) (old now new : Page) (more : Bool)
+    → Went watcher count old now → new ≡ now → (more ≡ true → now.phase ≡ Socket) → (now.phase ≡ Socket → more ≡ true)
+    → (more ≡ true → count ≡ 64) → TakesSome watcher old new more
+finished watcher count old now new true w e on off all =
+    (count, now, going watcher count old now w (on refl), (all refl, e))
+finished watcher count old now new false w e on off all =
+    elim w [
+      | inl h ↦ absurd (let bad : false ≡ true = off h.1 in cc)
+      | inr h ↦ (
+        h.0,
+        h.1,
+        h.2,
+        inr (
+          subst (λ (p : Page). p.phase ≡ Last) (sym e) h.3,
+          subst (λ (p : Page). EndsAt watcher h.1 p) (sym e) h.4,
+        ),
       )
     ]
 

@@ -5,3 +5,4 @@ pub mod Judging
 pub mod Frames
 pub mod Rows
 pub mod Answering
+pub mod Ending

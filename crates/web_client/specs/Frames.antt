@@ -10,7 +10,7 @@ use Rattle.websocket.specs.Content.{Content, text, binary, ping, pong, close}
 use Rattle.websocket.specs.Connection.{Connection, Effect, Sends, close_step, failed_connection, read_step}
 use Rattle.websocket.specs.Connection.{StartsWithFragment, ReadAsksReply}
 use Rattle.websocket.specs.View.{Leaves as LeavesBy}
-use Rattle.websocket.specs.declared.protocol.frame.coding.CloseCode.TheVariants.{Protocol}
+use Rattle.websocket.specs.declared.protocol.frame.coding.CloseCode.TheVariants.{Policy, Protocol}
 use Rattle.web_client.specs.declared.identity.Identity.{Identity}
 use Rattle.web_client.specs.declared.identity.Identity.TheVariants.{Nobody, Own, Watching, Link, Unknown, Left}
 use Rattle.web_client.specs.declared.wire.Wire.{Wire}
@@ -27,9 +27,9 @@ use Rattle.web_requests.specs.declared.requests.Response.TheVariants as answer
 use Rattle.web_requests.specs.Serving.{AnswersBytes}
 use Rattle.web_client.specs.Asking.{IfOwn, Takes, Keeps}
 use Rattle.web_client.specs.Judging.{IsAllowed}
-use Rattle.web_client.specs.declared.visitor.TheConstants.{UNKNOWN}
+use Rattle.web_client.specs.declared.visitor.TheConstants.{NOT_UNDERSTOOD, UNKNOWN}
 use Rattle.attach_proto.specs.declared.why.Why.TheVariants.{Detached}
-use Rattle.web_client.specs.Rows.{Adds, Refuses, TellsLast, gone}
+use Rattle.web_client.specs.Rows.{Adds, Refuses, TellsLast, gone, Closes as ClosesBy}
 
 -- how far a page's connection is, its WebSocket, the bytes that came and weren't read, its identity, how many bytes of
 -- rows it has answered for, and the bytes on their way to it
@@ -167,11 +167,6 @@ IsOut Left = Unit {0}
 abbrev pub GoesOn : Identity → List ℕ → Identity → Type 0
 GoesOn before message after = Takes before message after × (IsOut after → ⊥)
 
--- a message at which the connection ends: it isn't allowed, or it is the last
-abbrev pub EndsWith : {A : Type 0} → Option A → Identity → List ℕ → Identity → Type 0
-EndsWith watcher before message after =
-    ((IsAllowed watcher before message → ⊥) × Keeps before after) ⊎ (Takes before message after × IsOut after)
-
 pub record GoesOnBy (message : List ℕ) (old new : Page) : Type 0 where
   pub phase : new.phase ≡ old.phase
   pub socket : new.socket ≡ old.socket
@@ -180,15 +175,28 @@ pub record GoesOnBy (message : List ℕ) (old new : Page) : Type 0 where
   pub output : new.output ≡ old.output
   pub identity : GoesOn old.identity message new.identity
 
-abbrev pub TakesMessage : {A : Type 0} → Option A → List ℕ → Page → Page → Type 0
-TakesMessage watcher message old new =
-    GoesOnBy message old new ⊎ ((new.phase ≡ Last) × EndsWith watcher old.identity message new.identity)
-
 -- Why a browser goes is told: it gave a name that no user can have, or has left a page that it watched.
 abbrev pub TellsOut : Identity → Wire → Wire → Type 0
 TellsOut Unknown old new = Refuses UNKNOWN.now old new
 TellsOut Left old new = TellsLast (gone Detached) old new
 TellsOut _ old new = new ≡ old
+
+-- this was sent over the wires of two pages, of which the same bytes wait
+abbrev pub IsSentBy : (Wire → Wire → Type 0) → Page → Page → Type 0
+IsSentBy Sent old new =
+    (before : Wire) × (after : Wire) × (stands before old.waiting old.identity ≡ old)
+    × (stands after old.waiting new.identity ≡ new) × Sent before after
+
+-- A message at which the connection ends: it isn't allowed, or it is the last. The page is told that, and no more.
+abbrev pub EndsWith : {A : Type 0} → Option A → List ℕ → Page → Page → Type 0
+EndsWith watcher message old new =
+    ((IsAllowed watcher old.identity message → ⊥) × Keeps old.identity new.identity
+    × IsSentBy (ClosesBy Policy NOT_UNDERSTOOD.now) old new)
+    ⊎ (Takes old.identity message new.identity × IsOut new.identity × IsSentBy (TellsOut new.identity) old new)
+
+abbrev pub TakesMessage : {A : Type 0} → Option A → List ℕ → Page → Page → Type 0
+TakesMessage watcher message old new =
+    GoesOnBy message old new ⊎ ((new.phase ≡ Last) × EndsWith watcher message old new)
 
 -- ---- any number of frames
 
@@ -203,12 +211,13 @@ unfoldable pub TakesFrames : ℕ → Page → Page → Type 0
 TakesFrames zero old new = new ≡ old
 TakesFrames (suc n) old new = (between : Page) × TakesFrames n old between × TakesFrame between new
 
--- the connection ends at the next frame, which isn't read, or whose message is the last or wrong
+-- The connection ends at the next frame: it can't be read, or it closes the connection, or its message is wrong or the
+-- last, as the page is told.
 abbrev pub EndsAt : {A : Type 0} → Option A → Page → Page → Type 0
 EndsAt watcher p new =
     (EndsAtFrame p new × (new.identity ≡ p.identity))
-    ⊎ ((f : ℕ × Effect) × (message : List ℕ) × BeginsWith p f × Says f.1.message message
-    × EndsWith watcher p.identity message new.identity)
+    ⊎ ((f : ℕ × Effect) × (read : Page) × (message : List ℕ) × IsRead f p read × (read.identity ≡ p.identity)
+    × Says f.1.message message × EndsWith watcher message read new)
 
 -- no frame is left that is whole, or the connection ended at one
 abbrev pub IsDone : {A : Type 0} → Option A → Page → Page → Type 0

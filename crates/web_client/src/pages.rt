@@ -1,6 +1,6 @@
 //! A browser's own client, and which page a browser is shown.
 
-ghost use Rattle.std.specs.Prelude.{◌≡◌, ◌↔◌, ◌≤◌, OnOk, IsTrue, false};
+ghost use Rattle.std.specs.Prelude.{◌≡◌, ◌↔◌, ◌≤◌, OnOk, IsOk, IsTrue, false};
 ghost use Rattle.web_client.specs.Asking.{AsksFor, HearsFor, ShowsFor, OnlyShows, IsOwn, IfOwn, IsWatcher};
 ghost use Rattle.web_client.specs.Rows.{Adds, IsDue, Shows, SendsAll};
 ghost use Rattle.web_client.specs.Frames.{IsWithin};
@@ -54,6 +54,8 @@ impl Visitor {
         ensures apart { (IsWatcher self.old.identity → ⊥) → (self.new ≡ self.old) × (shared.new ≡ shared.old) }
         ensures closed { (self.old.wire.phase ≡ Phase.Socket → ⊥) → (self.new ≡ self.old)
             × (shared.new ≡ shared.old) }
+        // What a page was told last is still sent.
+        ensures stays { (self.old.wire.phase ≡ Phase.Socket → ⊥) → IsOk result }
         ensures shows { self.old.wire.phase ≡ Phase.Socket → IsWatcher self.old.identity
             → IsDue shared.old.client.display self.old.wire
             → OnOk result (Shows shared.old.client.display self.old.view.since self.old.wire
@@ -83,6 +85,9 @@ impl Visitor {
     pub fn show_own(&mut self) -> Result<(), WireFault>
         ensures apart { (IsOwn self.old.identity (λ _. Unit {0}) → ⊥) → self.new ≡ self.old }
         ensures closed { (self.old.wire.phase ≡ Phase.Socket → ⊥) → self.new ≡ self.old }
+        // What a page was told last is still sent. One without a client is given up only if too much waits for it.
+        ensures stays { (self.old.wire.phase ≡ Phase.Socket → ⊥) → IsOk result }
+        ensures within { (IsOwn self.old.identity (λ _. Unit {0}) → ⊥) → IsWithin self.old.wire → IsOk result }
         ensures shows { self.old.wire.phase ≡ Phase.Socket
             → IfOwn self.old.identity (λ old. IsDue old.display self.old.wire
             → OnOk result (IsOwn self.new.identity (λ new. Shows old.display self.old.view.since self.old.wire

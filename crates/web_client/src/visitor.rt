@@ -1,6 +1,7 @@
 //! A browser's connection: its request, its messages, and who it is.
 
-ghost use Rattle.std.specs.Prelude.{◌≡◌, ◌↔◌, ◌<◌, ◌≤◌, [], IfErr, IfOk, IsTrue, OnErr, OnOk, codes, false, vec_len};
+ghost use Rattle.std.specs.Prelude.{◌≡◌, ◌↔◌, ◌<◌, ◌≤◌, [], IfErr, IfOk, IsOk, IsTrue, OnErr, OnOk, codes, false};
+ghost use Rattle.std.specs.Prelude.{vec_len};
 ghost use Rattle.web_client.specs.Asking.{Asks};
 ghost use Rattle.web_streams.specs.Streaming.{Receives, WritesOut};
 ghost use Rattle.web_client.specs.Judging.{IsAllowed};
@@ -252,8 +253,16 @@ impl Visitor {
 
     /// Answers a browser that has just opened its page with a refusal, since the bridge is full.
     pub fn turn_away(&mut self) -> Result<(), WireFault>
-        ensures { OnOk result ((self.new.wire.phase ≡ Phase.Last) × (self.new.identity ≡ Identity.Nobody)
+        ensures refuses { OnOk result ((self.new.wire.phase ≡ Phase.Last) × (self.new.identity ≡ Identity.Nobody)
             × (self.new.wire.output.items ≡ refusal (codes "503 Service Unavailable"))) }
+        ensures err { OnErr result (self.new ≡ self.old) }
+        ensures same { self.new ≡ record self.old {
+          wire = record self.old.wire {
+            phase = self.new.wire.phase;
+            output = self.new.wire.output;
+          };
+          identity = self.new.identity;
+        } }
     {
         let bytes = refusal(self.wire.alloc, "503 Service Unavailable")?;
         self.wire.output = bytes;
@@ -267,7 +276,10 @@ impl Visitor {
         ensures tells { self.old.wire.phase ≡ Phase.Socket
             → OnOk result (TellsAway reason.now self.old.wire self.new.wire) }
         ensures other { (self.old.wire.phase ≡ Phase.Socket → ⊥) → self.new ≡ self.old }
+        // What a page was told last is still sent.
+        ensures stays { (self.old.wire.phase ≡ Phase.Socket → ⊥) → IsOk result }
         ensures identity { self.new.identity ≡ self.old.identity }
+        ensures same { self.new ≡ record self.old { wire = self.new.wire } }
     {
         if self.is_open() {
             self.wire.say(reason)?;
@@ -280,6 +292,7 @@ impl Visitor {
     pub fn hand(&mut self, name: &str, token: &str) -> Result<(), WireFault>
         ensures hands { OnOk result (TellsLast (handed name.now token.now) self.old.wire self.new.wire) }
         ensures identity { self.new.identity ≡ self.old.identity }
+        ensures same { self.new ≡ record self.old { wire = self.new.wire } }
     {
         self.wire.hand(name, token)
     }

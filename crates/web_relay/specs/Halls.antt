@@ -165,10 +165,15 @@ module _ {S : Type 0} (reaches : List ℕ → ℕ → Option S → Type 0) (by :
       IsSomeAnd by.watcher (λ w. IsOpened w size by.now watched hall)
       × ReachesFor reaches woken.Hall place by.socket (Some hall.stream)
 
+  -- why no hall opens: nobody may watch, or the server's socket was tried
+  abbrev pub IsTried : ℕ → Type 0
+  IsTried place =
+      (by.watcher ≡ None) ⊎ ((reached : Option S) × ReachesFor reaches woken.Hall place by.socket reached)
+
   -- A hall opens where none was, with a serial of its own: none has it before or after. If none can be opened, nothing
   -- is there.
   pub record Opens (size : ℕ × ℕ) (old : Halls S) (opened : Option ℕ) (new : Halls S) : Type 0 where
-    pub none : opened ≡ None → SameValues old.list new.list
+    pub none : opened ≡ None → SameValues old.list new.list × IsTried old.list.vacant_key
     pub some : IfSome opened (λ place. (get old.list place ≡ None) × (hall : Hall S)
         × (hall.serial ≡ old.next) × (old.next < new.next) × OpensAt place size by.now hall
         × Updates old.list new.list place (Some hall))
@@ -184,10 +189,11 @@ module _ {S : Type 0} (reaches : List ℕ → ℕ → Option S → Type 0) (by :
     pub opens : HasNone size old.list → slab_len old.list < 8 → (opened : Option ℕ)
         × Opens size old opened new × (found ≡ number_of new.list opened)
 
-  -- a hall of the same size and place, which opens with a serial that none had before `next` and none has from `after`
+  -- a hall of the same size and place, which opens with a serial that none had before `next` and none has from `after`;
+  -- or none if it can't be opened
   abbrev pub IsNewer : (next after place : ℕ) → Option (Hall S) → Option (Hall S) → Type 0
   IsNewer next after place None new = ⊥
-  IsNewer next after place (Some old) None = IsStuck by.now old
+  IsNewer next after place (Some old) None = IsStuck by.now old × IsTried place
   IsNewer next after place (Some old) (Some new) =
       IsStuck by.now old × (next ≤ new.serial) × (new.serial < after) × OpensAt place old.size old.watched new
 

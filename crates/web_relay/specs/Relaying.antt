@@ -57,9 +57,11 @@ module _ {S : Type 0} where
   abbrev pub IsRefused : Relay S → Type 0
   IsRefused r = (HasGone r.visitor.identity × (r.is_told ≡ false)) ⊎ (r.visitor.identity ≡ Unknown)
 
-  -- a page is told why it ends, unless it isn't open; it is over if memory is refused
+  -- A page is told why it ends; it is over if memory is refused. One that isn't open stays as it is: what it was told
+  -- last is still sent.
   pub record LosesPage (reason : List ℕ) (old new : Relay S) : Type 0 where
     pub told : new.is_over ≡ false → Loses reason old.visitor new.visitor
+    pub closed : (IsOpen old.visitor → ⊥) → new ≡ old
     pub identity : new.visitor.identity ≡ old.visitor.identity
     pub over : old.is_over ≡ true → new.is_over ≡ true
     pub rest : new ≡ record old { visitor = new.visitor; is_over = new.is_over }
@@ -137,9 +139,15 @@ module _ {S : Type 0} where
   Connects reaches place socket old new =
       (reached : Option S) × ReachesFor reaches Server place socket reached × ConnectsTo reached old new
 
-  -- The connection of its client ended. The page is told that, unless the server said why.
+  -- its client has no connection any more
+  abbrev pub parted : Relay S → Relay S
+  parted r = record r { server = Lost; server_ready = false }
+
+  -- The connection of its client ended. The page is told that, unless the server said why, or it isn't open: then it
+  -- stays as it is, and what it was told last is still sent.
   pub record LosesServer (old new : Relay S) : Type 0 where
-    pub gone : HasGone old.visitor.identity → new.visitor ≡ old.visitor
+    pub gone : HasGone old.visitor.identity → new ≡ parted old
+    pub closed : (IsOpen old.visitor → ⊥) → new ≡ parted old
     pub told : (HasGone old.visitor.identity → ⊥) → new.is_over ≡ false → Loses ENDED.now old.visitor new.visitor
     pub identity : new.visitor.identity ≡ old.visitor.identity
     pub over : old.is_over ≡ true → new.is_over ≡ true

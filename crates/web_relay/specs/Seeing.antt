@@ -5,6 +5,7 @@ use Rattle.slab.specs.Slab.{with_value}
 use Rattle.web_client.specs.declared.visitor.Visitor.{Visitor}
 use Rattle.web_client.specs.declared.identity.Identity.TheVariants.{Watching}
 use Rattle.web_client.specs.Asking.{IsOwn, IfOwn, IsWatcher, OnlyShows, ShowsFor}
+use Rattle.web_client.specs.Frames.{IsWithin}
 use Rattle.web_client.specs.Rows.{IsDue, Shows, SendsAll}
 use Rattle.web_relay.specs.declared.hall.Hall.{Hall}
 use Rattle.web_relay.specs.declared.halls.Halls.{Halls}
@@ -61,8 +62,11 @@ pub record SeesOwn (old new : Visitor) : Type 0 where
   pub rest : new ≡ record old { wire = new.wire; view = new.view; identity = new.identity }
 
 module _ {S : Type 0} where
-  -- the same; it is over if memory is refused, or too much waits
+  -- The same; it is over if memory is refused, or too much waits. One that isn't open stays as it is, and so does one
+  -- without a client if little waits.
   pub record ShowsOwn (old new : Relay S) : Type 0 where
+    pub closed : (IsOpen old.visitor → ⊥) → new ≡ old
+    pub apart : (HasClient old.visitor.identity → ⊥) → IsWithin old.visitor.wire → new ≡ old
     pub sees : new.is_over ≡ false → SeesOwn old.visitor new.visitor
     pub keeps : ShowsFor old.visitor.identity new.visitor.identity
     pub over : old.is_over ≡ true → new.is_over ≡ true
@@ -79,8 +83,9 @@ module _ {S : Type 0} where
     pub closed : (IsOpen old → ⊥) → (new ≡ old) × (after.client ≡ hall.client)
     pub rest : new ≡ record old { wire = new.wire; view = new.view }
 
-  -- the same, and it counts as the hall's audience
+  -- The same, and it counts as the hall's audience. One that isn't open stays as it is.
   pub record ShowsHall (hall after : Hall S) (old new : Relay S) : Type 0 where
+    pub closed : (IsOpen old.visitor → ⊥) → new ≡ old
     pub sees : new.is_over ≡ false → SeesHall hall after old.visitor new.visitor
     pub identity : new.visitor.identity ≡ old.visitor.identity
     pub over : old.is_over ≡ true → new.is_over ≡ true

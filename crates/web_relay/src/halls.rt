@@ -4,8 +4,8 @@ ghost use Rattle.std.specs.Prelude.{◌≡◌, ◌≢◌, ◌⊎◌, ◌<◌, �
 ghost use Rattle.std.specs.String.{string_bytes};
 ghost use Rattle.slab.specs.Slab.{SameValues, Updates, get, slab_len};
 ghost use Rattle.web_relay.specs.Halls.{AtBoth, AtEach, Chooses, Closes, Enters, HallTurns, HasNone, HasSize};
-ghost use Rattle.web_relay.specs.Halls.{IsBetterOf, IsBusyHall, IsStandIn, IsStuck, IsStuckAt, Opens, OpensAt, Renews};
-ghost use Rattle.web_relay.specs.Halls.{heeds, number_at, opening};
+ghost use Rattle.web_relay.specs.Halls.{IsBetterOf, IsBusyHall, IsStandIn, IsStuck, IsStuckAt, IsTried, Opens, OpensAt};
+ghost use Rattle.web_relay.specs.Halls.{Renews, heeds, number_at, opening};
 ghost use Rattle.web_relay.specs.Places.{changed_at};
 
 use crate::hall::Hall;
@@ -189,10 +189,11 @@ impl<S: BridgeStream + Drop> Halls<S> {
         ensures next { self.old.next ≤ self.new.next }
         ensures serial { IfSome result (λ hall. (hall.serial ≡ self.old.next) × (self.old.next < self.new.next)) }
         ensures opens { IfSome result (OpensAt S.reaches (opening around.entry) place size around.entry.now) }
+        ensures none { result ≡ None → IsTried S.reaches (opening around.entry) place }
     {
         let watcher = around.site.watcher.as_ref()?;
-        let client = SharedClient::attach(self.alloc, size.0, size.1, watcher).ok()?;
         let stream = S::reach(rt, around, hall_token(place))?;
+        let client = SharedClient::attach(self.alloc, size.0, size.1, watcher).ok()?;
         let serial = self.next;
         self.next = serial.checked_add(1)?;
         Some(Hall {

@@ -87,11 +87,12 @@ impl<'a, S: Drop> Bridge<'a, S> {
         site: Site,
         options: BridgeOptions<'a>,
     ) -> Result<Bridge<'a, S>, AllocError>
-        ensures nobody { IfOk result (λ bridge. (bridge.relays.slots ≡ []) × (bridge.halls.list.slots ≡ [])) }
+        ensures nobody { IfOk result (λ bridge. (bridge.relays.slots ≡ []) × (bridge.halls.list.slots ≡ [])
+            × (bridge.refused ≡ 0)) }
         ensures comers { IfOk result (λ bridge. (bridge.has_comers ≡ true) × (bridge.is_busy ≡ false)) }
         ensures given { IfOk result (λ bridge. (bridge.site ≡ site) × (bridge.socket ≡ options.entry.socket)
             × (bridge.links ≡ options.entry.links) × (bridge.most ≡ options.entry.most)
-            × (bridge.halls.choice ≡ options.entry.choice)) }
+            × (bridge.halls.choice ≡ options.entry.choice) × (bridge.log ≡ options.entry.log)) }
     {
         let BridgeOptions {
             socket,

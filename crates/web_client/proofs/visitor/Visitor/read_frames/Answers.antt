@@ -1,10 +1,11 @@
-use Rattle.std.proofs.Common.{List, ℕ, ◌≤◌, length, drop, refl, sym, ap, subst, arith}
+use Rattle.std.proofs.Common.{◌≡◌, List, ℕ, ◌≤◌, length, drop, refl, sym, ap, subst, arith, rules, true}
 use Rattle.web_client.specs.declared.frame.PageFrame.{PageFrame}
-use Rattle.web_client.specs.Frames.{page, page_after, Reads, TakesMessage}
+use Rattle.web_client.specs.Frames.{page, page_after, stands, Reads, TakesMessage}
 use Rattle.web_client.proofs.Adding.{then_same, then_more, nothing}
 use Rattle.web_client.proofs.Answering.{leaves_all, leaves_both}
-use Rattle.web_client.proofs.Frames.{started, after_other, after_message, shifted}
+use Rattle.web_client.proofs.Frames.{started, after_other, after_message, finished, shifted}
 use Rattle.web_client.proofs.visitor.Visitor.read_frames.Goals as goal
+use Rattle.web_client.proofs.visitor.Visitor.read_frames.Goals.{else-frames-test, then-frames-test+else-count-lt-FRAMES}
 
 pub frames-init : goal.frames-init
 frames-init c = record {
@@ -57,6 +58,20 @@ frames-preserved c =
       leaves = leaves_both _ _ _ (leaves_both _ _ _ c.frames.invariant.leaves c.in_ok-read_frame.ensures.leaves)
           c.in_ok-take_message-in-Message.ensures.leaves;
     }
+
+pub returns-clause-takes : goal.returns-clause-takes
+returns-clause-takes c =
+    let v = c.frames.self in
+    let same = ap (λ (l : List ℕ). stands v.wire l v.identity) c.drop_front-2.ensures in
+    let all : c.is_open-2.result ≡ true → c.frames.count ≡ 64 = λ on.
+    elim c.frames-test.branch [
+      | then-frames-test+else-count-lt-FRAMES w ↦ omega (arith, w.if-count-lt-FRAMES.false, c.frames.invariant.few)
+      | else-frames-test w ↦ search (rules, on)
+    ] in (
+      finished c.args.site.now.watcher c.frames.count (page c.args.self.now) (page_after c.frames.taken v) _
+          c.is_open-2.result c.frames.invariant.went same c.is_open-2.ensures.0 c.is_open-2.ensures.1 all,
+      search rules,
+    )
 
 pub returns-in_err-take_message-in-Message-clause-asks : goal.returns-in_err-take_message-in-Message-clause-asks
 returns-in_err-take_message-in-Message-clause-asks c =

@@ -4,6 +4,7 @@ use Rattle.web_relay.proofs.hall.Hall.show.Goals as goal
 
 pub returns-in-Ok : goal.returns-in-Ok
 returns-in-Ok g c = record {
+  closed = λ closed. ap (λ (v : Visitor). record c.args.relay.now { visitor = v }) (c.in-Ok.ensures.closed closed).0;
   sees = λ on. record {
     shows = λ is_open due. c.in-Ok.ensures.shows is_open c.requires due;
     sends = λ is_open. c.in-Ok.ensures.sends is_open c.requires;

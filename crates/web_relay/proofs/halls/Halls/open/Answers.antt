@@ -1,7 +1,7 @@
-use Rattle.std.proofs.Common.{◌≡◌, ◌<◌, ◌∙◌, ℕ, None, Some, ap, subst, sym}
+use Rattle.std.proofs.Common.{◌≡◌, ◌<◌, ◌∙◌, ℕ, None, Some, ap, inr, subst, sym}
 use Rattle.slab.specs.Slab.{SameValues, Updates}
 use Rattle.web_relay.proofs.Vocabulary.{Slab, get, Hall, Halls}
-use Rattle.web_relay.specs.Halls.{OpensAt, opening}
+use Rattle.web_relay.specs.Halls.{IsTried, OpensAt, opening}
 use Rattle.web_relay.proofs.Turns.{some_more}
 use Rattle.web_relay.proofs.halls.Halls.open.Goals as goal
 
@@ -15,7 +15,11 @@ returns g c =
     let now = c.args.around.now in
     let same : mid ≡ old.list = ap (λ (h : Halls g.row.S.Denot). h.list) c.made.ensures.same in
     record {
-      none = λ none. subst (λ (l : Slab (Hall g.row.S.Denot)). SameValues l new) same (c.put.ensures.none none);
+      none = λ none. (
+        subst (λ (l : Slab (Hall g.row.S.Denot)). SameValues l new) same (c.put.ensures.none none),
+        subst (λ (n : ℕ). IsTried g.S.BridgeStream.reaches (opening c.args.around) n) c.vacant_key-place.ensures.value
+            (inr (Some hall.stream, c.in_ok-hall.ensures.opens.1)),
+      );
       some =
           some_more (λ (place : ℕ). (place ≡ mid.vacant_key) × (get mid place ≡ None)
           × Updates mid new place (Some hall))
