@@ -55,7 +55,7 @@ returns-then-is_bad g c =
             read = of_asked c.take_file.new.taker c.in_ok-reading.reading.asked c.args.asked edition owner
                 c.in_ok-finish.finish c.args.limits rest before.asked_is
                 (c.in_ok-finish.ensures edition owner (fresh c.in_ok-reading.reading c.args.asked edition owner before));
-            bad = λ is. c.in_ok-status.ensures;
+            bad = λ is. c.in_ok-status.ensures.status;
             good = λ is. absurd (false≢true (sym is ∙ (sym c.is_bad.ensures ∙ c.if-is_bad.true)));
           }),
     )

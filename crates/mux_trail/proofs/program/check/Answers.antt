@@ -8,5 +8,5 @@ returns g c = (
   g.R.Read.remaining c.heading_of.new.reader,
   c.in_ok-heading.ensures,
   subst (λ owner. IsJudged c.in_ok-status.status c.in_ok-heading.heading.edition owner
-      (g.R.Read.remaining c.heading_of.new.reader)) c.unwrap_or-owner.ensures c.in_ok-status.ensures,
+      (g.R.Read.remaining c.heading_of.new.reader)) c.unwrap_or-owner.ensures c.in_ok-status.ensures.judged,
 )
