@@ -89,6 +89,8 @@ sub left {
     my $typists = join ', ', $guests->typists;
     return "muxd refused to end the typing of guests, so nobody can join until it does: mux-share --end ends it\n"
         if $guests->is_pending;
+    return "muxd refused to send " . $guests->leaving . " away, and mux-share tries again: mux-share --end ends it\n"
+        if $guests->leaving ne '';
     return "$typists can type there, since another terminal of yours is attached\n" if $typists ne '';
     return ($names eq '' ? 'nobody else can see it: ' : "$names can still read it: ") . $back if $here;
     return ($names eq '' ? 'nobody else can see it: ' : "$names can still read it, and nobody types there: ") . $back;
@@ -109,6 +111,7 @@ sub list {
     my $here = $session->clients_of($session->owner);
     my $text = sprintf "%s: %d terminal%s of yours attached\n", $session->title, $here, $here == 1 ? '' : 's';
     $text .= "nobody can join until muxd takes the typing that it refused to take\n" if $guests->is_pending;
+    $text .= $guests->leaving . " may still be here: muxd refused to send them away\n" if $guests->leaving ne '';
     my @rows = (['GUEST', 'WHERE', 'MAY', 'HOW LONG', 'INVITED BY']);
     for my $guest ($guests->all) {
         my $limit = MuxShare::Guests::limit($guest);

@@ -24,9 +24,11 @@ sub mux_names {
     return grep { /^[a-z][a-z0-9_]{0,19}$/ && $_ ne 'none' } $account, $near, "u$uid";
 }
 
+# HANG_UP ends the connections of the guest with a key, as far as it can.
 sub new {
-    my ($class, $session) = @_;
-    return bless { session => $session, guests => {}, was_taken => 0, is_pending => 0 }, $class;
+    my ($class, $session, $hang_up) = @_;
+    return bless { session => $session, hang_up => $hang_up, guests => {}, leaving => {}, was_taken => 0,
+        is_pending => 0 }, $class;
 }
 
 # Returns the guest with this key, or undef: name (in the session), account, is_web, types, end, by, is_warned,
@@ -90,8 +92,7 @@ sub free_name {
     my ($self, $account, $key) = @_;
     my $guests = $self->{guests};
     return $guests->{$key}{name} if $guests->{$key};
-    my %taken = map { $_->{name} => 1 } values %$guests;
-    $taken{ $self->{session}->owner } = 1;
+    my %taken = map { $_ => 1 } $self->{session}->owner, keys %{ $self->{leaving} }, map { $_->{name} } values %$guests;
     return (grep { !$taken{$_} } $key =~ /^web / ? $account : mux_names($account, $key))[0];
 }
 
@@ -123,18 +124,32 @@ sub add {
     return '';
 }
 
-# Sends a guest away for good.
+# Returns the names of those who were sent away and may still be there, since muxd refused.
+sub leaving { my ($self) = @_; return join ', ', sort keys %{ $self->{leaving} } }
+
+# Has the session forget a name, now or later (keep_time tries again).  Returns a fault, or ''.
+sub forget {
+    my ($self, $name) = @_;
+    my ($is_done, $said) = $self->{session}->give("acldel $name");
+    return $self->{leaving}{$name} = "acldel $name: $said" unless $is_done || $said =~ /\bacl: 1\b/;
+    delete $self->{leaving}{$name};
+    return '';
+}
+
+# Sends a guest away for good.  Returns a fault, or ''.
 sub drop {
     my ($self, $key, $why) = @_;
-    my $guest = delete $self->{guests}{$key} or return;
+    my $guest = delete $self->{guests}{$key} or return '';
     # The token goes first, so that nobody comes back between the two.  Even if the file can't be written, the session
     # doesn't know the name any more.
     $self->{session}->remove_user($guest->{name});
-    $self->{session}->give("acldel $guest->{name}");
+    my $fault = $self->forget($guest->{name});
+    $self->{hang_up}->($key) if $fault ne '';
     $self->{session}->drop_typed if $guest->{types};
-    $self->{session}->tell("$guest->{account} $why");
+    $self->{session}->tell("$guest->{account} " . ($fault eq '' ? $why : 'may still be here: muxd refused to send them away'));
     $self->show_typing if $guest->{types};
     log_line("$guest->{account} $why");
+    return $fault;
 }
 
 # Sends away whoever has a link: by the time somebody opens it, its port may be that of another account, and nobody may
@@ -147,7 +162,7 @@ sub drop_browsers {
 # Takes w from all guests, with what they have typed and no program has read.  Returns a fault, or ''.
 sub take {
     my ($self) = @_;
-    my $fault = %{ $self->{guests} } ? $self->give_all('aclchg * -w #') : '';
+    my $fault = %{ $self->{guests} } || %{ $self->{leaving} } ? $self->give_all('aclchg * -w #') : '';
     return $fault if $fault ne '';
     $self->{session}->drop_typed if $self->typists;
     $_->{types} = 0 for values %{ $self->{guests} };
@@ -223,16 +238,20 @@ sub announce {
     $self->{session}->tell("$guest->{account} $what");
 }
 
-# Tries again, at most once a second, what couldn't be done: to take w, to write the users' file.  muxd makes an owner
-# wait who is refused too often.  Returns whether something is left to do.
+# Whether something couldn't be done that is tried again.
+sub is_left { my ($self) = @_; return $self->{is_pending} || %{ $self->{leaving} } || $self->{session}->is_unwritten }
+
+# Tries again, at most once a second, what couldn't be done: to take w, to send guests away, to write the users' file.
+# muxd makes an owner wait who is refused too often.  Returns whether something is left to do.
 sub try_again {
     my ($self) = @_;
-    return 0 unless $self->{is_pending} || $self->{session}->is_unwritten;
+    return 0 unless $self->is_left;
     return 1 if now() < ($self->{tried} // 0) + AGAIN;
     $self->{tried} = now();
     $self->take_unwatched if $self->{is_pending};
+    $self->forget($_) for keys %{ $self->{leaving} };
     $self->{session}->write_users if $self->{session}->is_unwritten;
-    return $self->{is_pending} || $self->{session}->is_unwritten;
+    return $self->is_left;
 }
 
 # Drops guests whose time is over, warns those whose time is nearly over, and tries again what couldn't be done.

@@ -27,13 +27,21 @@ sub new {
     my ($class, %given) = @_;
     my ($owner) = mux_names(getpwuid($>) // '', $>);
     my $session = MuxShare::Session->new(%given{qw(place scripts title keep)}, owner => $owner);
+    my $relays = {};
     return bless {
         %given{qw(place lock ready caller name)},
         session => $session,
-        guests  => MuxShare::Guests->new($session),
-        relays  => {},   # the guest's uid, by process
+        guests  => MuxShare::Guests->new($session, sub { hang_up($session, $relays, @_) }),
+        relays  => $relays,   # the guest's uid, by process
         ending  => 0,
     }, $class;
+}
+
+# Ends the connections of the guest with a key.
+sub hang_up {
+    my ($session, $relays, $key) = @_;
+    $session->end_web if $key =~ /^web /;
+    kill 'TERM', grep { $relays->{$_} eq $key } keys %$relays;
 }
 
 # Removes the files that an interrupted start or end left in the place.
@@ -354,7 +362,8 @@ sub for_guest {
     my $key = $guests->key($name) // return (nobody($self, $name, $word), '');
     my $guest = $guests->guest($key);
     return ($guests->give($key), given($self, $guest)) if $word eq 'give';
-    $guests->drop($key, 'was sent away');
+    my $fault = $guests->drop($key, 'was sent away');
+    return ("$guest->{account} may still be here, and mux-share tries again: muxd refused $fault", '') if $fault ne '';
     return ('', "$guest->{account} was sent away\n");
 }
 

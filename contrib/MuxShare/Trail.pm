@@ -5,7 +5,7 @@ use strict;
 use warnings;
 use Exporter qw(import);
 
-our @EXPORT_OK = qw(BIT bits_of text_of untext);
+our @EXPORT_OK = qw(BIT bits_of text_of untext words);
 
 # The value of each bit, and all commands.
 use constant BIT => { r => 4, w => 2, x => 1 };
@@ -28,11 +28,11 @@ sub bits_of {
     return ($plus ne '' ? "+$plus" : '') . ($minus ne '' ? "-$minus" : '');
 }
 
-# Returns the words of a command's line, which is one.
+# Returns the words of a command's line, or nothing if it has no such words.
 sub words {
     my ($line) = @_;
     my @words;
-    while ($line =~ /\G *((?:'[^']*'|"(?:[^"\\]|\\.)*"|\\.|[^ '"\\])+)/gs) {
+    while ($line =~ /\G *((?:'[^']*'|"(?:[^"\\]|\\.)*"|\\.|[^ '"\\])+)/gcs) {
         my ($part, $word) = ($1, '');
         while ($part =~ /\G(?:'([^']*)'|"((?:[^"\\]|\\.)*)"|((?:\\.|[^'"\\])+))/gs) {
             if (defined $1) { $word .= $1; next }
@@ -41,7 +41,7 @@ sub words {
         }
         push @words, $word;
     }
-    return @words;
+    return $line =~ /\G *\z/ ? @words : ();
 }
 
 # After the first line of a file.

@@ -5,7 +5,11 @@ use strict;
 use warnings;
 # With -C of these, handles don't pass bytes on.
 BEGIN { exec { $^X } $^X, $0, @ARGV if ${^UNICODE} && grep { defined delete $ENV{$_} } qw(PERL_UNICODE PERL5OPT) }
+use File::Basename qw(dirname);
 use POSIX ();
+use Cwd qw(realpath);
+use lib dirname(realpath($0)) . '/..';
+use MuxShare::Trail qw(untext words);
 
 $| = 1;
 my $pid = open(my $in, '-|', @ARGV) or die "mux-audit: can't run $ARGV[0]: $!\n";
@@ -17,12 +21,6 @@ sub list_of {
     my ($line, $name) = @_;
     my ($list) = $line =~ /"$name":\[((?:"(?:[^"\\]|\\.)*",?)*)\]/ or return;
     return map { s/\\(.)/$1/gr } $list =~ /"((?:[^"\\]|\\.)*)"/g;
-}
-
-# Returns the text of a word such as .a\20b
-sub text_of {
-    my ($word) = @_;
-    return ($word // '') =~ s/^\.//r =~ s/\\([0-9a-f]{2})/chr hex $1/ger;
 }
 
 # Controls, and what can't be seen or turns the direction of text.
@@ -40,10 +38,11 @@ sub quoted {
     return qq("$text");
 }
 
-# Returns the words of a command's line: blanks count within quotes.
+# Returns the words of a command's line, as it has them; of another line, what stands between its blanks.
 sub words_of {
     my ($line) = @_;
-    return map { s/^(['"])(.*)\1\z/$2/sr } $line =~ /((?:'[^']*'|"[^"]*"|[^\s'"])+)/g;
+    my @words = words($line);
+    return @words ? @words : split / +/, $line;
 }
 
 # Returns the window of an entry: that of its event, its checks or its acts.
@@ -58,16 +57,17 @@ sub window_of {
 }
 
 sub follow {
-    my ($event, $window, $is_done, $acts) = @_;
+    my ($event, $window, $is_done, $acts, $checks) = @_;
     for (@$acts) {
         $user_of{$1} = $2 if /^attached:([0-9]+):(.*)/;
         delete $user_of{$1} if /^parted:([0-9]+)/;
         delete $title_of{$1} if /^closed:([0-9]+)/;
-        $title_of{$1} = text_of($event->[5]) if $event->[0] eq 'open' && /^opened:[^:]*:([0-9]+)/;
+        $title_of{$1} = untext($event->[5]) if $event->[0] eq 'open' && /^opened:[^:]*:([0-9]+)/;
     }
-    return unless $is_done && defined $window && $event->[0] eq 'command';
-    my @words = words_of(text_of($event->[3]));
-    $title_of{$window} = $words[1] if @words == 2 && $words[0] eq 'title';
+    return unless $is_done && defined $window && grep { /^\w+:\+x:title$/ } @$checks;
+    # What was typed in a prompt isn't in the trail.
+    delete $title_of{$window};
+    $title_of{$window} = (words(untext($event->[3])))[1] if $event->[0] eq 'command';
 }
 
 while (my $line = <$in>) {
@@ -76,14 +76,15 @@ while (my $line = <$in>) {
     my @event = list_of($line, 'event');
     my ($more, @acts) = ('', list_of($line, 'acts'));
     if (@event) {
-        my $window = window_of(\@event, [list_of($line, 'checks')], \@acts);
+        my @checks = list_of($line, 'checks');
+        my $window = window_of(\@event, \@checks, \@acts);
         my $user = $event[0] =~ /^(?:keys|detach)$/ ? $user_of{$event[1]} : $event[0] eq 'closed' ? undef : $event[1];
-        my $title = $event[0] eq 'open' ? text_of($event[5]) : defined $window ? $title_of{$window} : undef;
+        my $title = $event[0] eq 'open' ? untext($event[5]) : defined $window ? $title_of{$window} : undef;
         $more .= ',"user":' . quoted($user) if defined $user;
         $more .= ",\"window\":$window" if defined $window;
         $more .= ',"title":' . quoted($title) if defined $title;
-        $more .= ',"words":[' . join(',', map { quoted($_) } words_of(text_of($event[3]))) . ']' if $event[0] eq 'command';
-        follow(\@event, $window, $line =~ /"reply":"ok/, \@acts);
+        $more .= ',"words":[' . join(',', map { quoted($_) } words_of(untext($event[3]))) . ']' if $event[0] eq 'command';
+        follow(\@event, $window, $line =~ /"reply":"ok/, \@acts, \@checks);
     }
     $line =~ s/"ms":[0-9]+(?:,"time":"[^"]*")?/"ms":$ms,"time":"$time"$more/;
     print($line) || print(STDERR "mux-audit: can't write to standard output: $!\n") && exit 2;

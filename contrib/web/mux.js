@@ -366,7 +366,7 @@
     else if (!isOut) press(event);
   });
   const press = (event) => {
-    if (!alive && event.key === "Escape" && user) {
+    if (!alive && event.key === "Escape" && (user || secret)) {
       end(WHY[0]);
       return;
     }
@@ -426,12 +426,16 @@
     "", "The session has ended: its trail is full."];
   // The name and the token of the user, from the login until they leave: so the page comes back by itself after a
   // break and after a reload.  They are kept for this tab alone.  `alive`: the session let this connection in.
-  // `secret` is that of a link, and `ends` when a page gives up whose session has ended.
+  // `secret` is that of a link, kept until it is used, and `ends` when a page gives up whose session has ended.
   let user = null, secret = null, alive = false, heard = 0, wait = 0, again = 0, ends = 0;
   const remember = (name, token) => {
     user = name ? { name, token } : null;
     keep("mux", user);
     if (!user) forget();
+  };
+  const keepLink = (digits) => {
+    secret = digits;
+    keep("mux link", secret);
   };
   const forget = () => {
     turn = null;
@@ -449,7 +453,7 @@
   // The session let the user go: the form is there again.
   const end = (text, isFault) => {
     drop();
-    secret = null;
+    keepLink(null);
     ends = 0;
     clearTimeout(again);
     // What is wrong with the name or the key stands there.
@@ -559,7 +563,7 @@
   document.addEventListener("visibilitychange", () => document.hidden || probe());
   // A link's secret is good for one use: the bridge hands out the user and the token that it stands for.
   const redeem = ({ user: name, token }) => {
-    secret = null;
+    keepLink(null);
     drop();
     join(name, token);
   };
@@ -604,14 +608,15 @@
   // A link has a secret behind its #, or a name and a token, which no server sees.  It leaves the address bar;
   // a browser's history may keep it.
   const link = /^#(?:([a-z][a-z0-9_]{0,19})[:=])?([0-9a-f]{64})$/.exec(location.hash);
+  const unused = link ? link[2] : kept("mux link");
   if (link) history.replaceState(null, "", location.pathname);
   const old = kept("mux"), [last, raised] = kept("mux turn") || [null, []];
   if (watching || old) [turn, hands] = [last, new Set(raised)];
   if (watching) attach();
   else if (!isSecureContext) say("This page takes no key over plain http: open it by https.", true);
   else if (link && link[1]) join(link[1], link[2]);
-  else if (link) {
-    secret = link[2];
+  else if (unused) {
+    keepLink(unused);
     say("Joining ..");
     attach();
   } else if (old) join(old.name, old.token);
