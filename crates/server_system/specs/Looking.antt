@@ -127,18 +127,6 @@ module _ {F : Type 0} (finds : F → Option Stamp → Type 0)
 
 -- ---- what is known
 
--- no look was asked for yet
-abbrev pub unlooked : Looks
-unlooked = record {
-  wanted = 0;
-  begun = 0;
-  done = 0;
-  count = 0;
-  users = None;
-  news = None;
-  is_over = false;
-}
-
 abbrev pub later : ℕ → ℕ
 later count = min (count + 1) (2 ^ 64 - 1)
 
@@ -174,4 +162,4 @@ Takes owner (Some (Err why)) old new = new ≡ record old { news = Some (news.Fa
 
 -- exactly this look is done, and what it found is taken
 abbrev pub Ends : UserId → FoundLook → Looks → Looks → Type 0
-Ends owner it old new = Takes owner it.found (record old { done = it.look.number }) new
+Ends owner it old new = Takes owner it.found (record old { done = it.look.0 }) new

@@ -26,13 +26,13 @@ const MOST: usize = 1_048_576;
 // The bits of a mode that tell the kind of a file, and their value for a plain one.
 pub(crate) const KIND: u32 = 0o170000;
 
-const PLAIN: u32 = 0o100000;
+pub(crate) const PLAIN: u32 = 0o100000;
 
 /// What tells a file from the one that was read.
 #[derive(Clone, Copy, Debug, PartialEq, Eq)]
 pub struct Stamp {
-    device: u64,
-    inode: u64,
+    pub(crate) device: u64,
+    pub(crate) inode: u64,
     size: u64,
     written: i64,
     written_nanos: i64,
@@ -107,18 +107,18 @@ fn users_of(
 
 /// What gives the users who may connect. Only a call of `find` or of `read` shows what was found or read.
 pub trait UsersSource {
-    ghost use Rattle.std.specs.Prelude.{List, Option, Result};
-    ghost use Rattle.server_users.specs.Entries.{Entry};
-    ghost use Rattle.server_system.specs.declared.users_file.Stamp.{Stamp as Stamped};
-    ghost use Rattle.server_system.specs.declared.fault.UsersFileFault.{UsersFileFault as Faulty};
+    ghost use Rattle.std.specs.Prelude.{ℕ, List, Option, Result};
+    ghost use Rattle.server_system.specs.Types.{Entry, Faulty, Stamped};
 
+    // The path at which it is.
+    ghost lies: { Self → List ℕ };
     // Its stamp; None if there is no file.
     ghost finds: { Self → Option Stamped → Type 0 };
     // Its users, or why they can't be read.
     ghost reads: { Self → Result (List Entry) Faulty → Type 0 };
 
-    /// Where it is.
-    fn path(&self) -> &str;
+    fn path(&self) -> &str
+        ensures { result.now ≡ lies self.now };
 
     fn find(&self) -> Option<Stamp>
         ensures { finds self.now result };
@@ -199,6 +199,8 @@ impl<H: Host> UsersFile<H> {
 }
 
 impl<H: Host> UsersSource for UsersFile<H> {
+    ghost lies = { λ file. users_path file };
+
     ghost finds = { λ file found. IsFoundAs H.Host file.host (users_path file) found };
 
     ghost reads = { λ file read. IsReadAs H.Host file.host (users_path file) read };
