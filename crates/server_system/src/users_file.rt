@@ -1,12 +1,12 @@
 //! The users' file, and whether it has changed.
 
-ghost use Rattle.std.specs.Prelude.{◌≡◌, Err, IfErr, IfOk, IfSome, None, OnOk, Some, false, take};
+ghost use Rattle.std.specs.Prelude.{◌≡◌, Err, IfErr, IfOk, IfSome, None, OnOk, Some, false, take, true};
 ghost use Rattle.std.specs.Fs.{metadata_len, metadata_mode};
 ghost use Rattle.std.specs.Option.{option_copied};
 ghost use Rattle.std.specs.String.{string_bytes};
 ghost use Rattle.server_system.specs.Folders.{IsHeldFile, IsLookedFile, access_of};
 ghost use Rattle.server_system.specs.Looking.{AreOf, IsFoundAs, IsReadAs, IsReadOf, IsUnfound, IsUnreadOf, IsWrong};
-ghost use Rattle.server_system.specs.Looking.{LooksAt, MayBeTold, after_look, failed_at};
+ghost use Rattle.server_system.specs.Looking.{IsTold, LooksAt, after_look, failed_at};
 ghost use Rattle.server_system.specs.Paths.{users_path};
 ghost use Rattle.server_system.specs.declared.fault.UsersFileFault.TheVariants.{NoMemory};
 
@@ -243,6 +243,7 @@ impl LastLook {
     fn fails(&mut self, found: Option<Stamp>) -> bool
         ensures seen { self.new ≡ failed_at found }
         ensures told { result ≡ false → self.old.failed ≡ Some found }
+        ensures news { result ≡ true → self.old.failed ≡ Some found → ⊥ }
     {
         let was_told = self.failed == Some(found);
         self.known = found.is_none().then_some(None);
@@ -253,8 +254,8 @@ impl LastLook {
     // Takes what a look found: the stamp, and the fault for which it wasn't read. Returns whether that is news.
     fn is_news(&mut self, found: Option<Stamp>, fault: Option<&UsersFileFault>) -> bool
         ensures seen { self.new ≡ after_look found (option_copied fault.entry) self.old }
-        ensures told { result ≡ false
-            → MayBeTold (option_copied fault.entry) × (self.old.failed ≡ Some found) }
+        ensures told { result ≡ false → IsTold found self.old (option_copied fault.entry) }
+        ensures news { result ≡ true → IsTold found self.old (option_copied fault.entry) → ⊥ }
     {
         match fault {
             Some(UsersFileFault::NoMemory) => true,
