@@ -110,34 +110,27 @@ abbrev pub fault_of : Result (List Entry) UsersFileFault → Option UsersFileFau
 fault_of (Ok users) = None
 fault_of (Err why) = Some why
 
+-- a fault of a file that is as it was when such a fault was told
+abbrev pub IsTold : Option Stamp → LastLook → Option UsersFileFault → Type 0
+IsTold found seen why = MayBeTold why × (seen.failed ≡ Some found)
+
 -- what was read is the news, unless it is a fault that has been told
 abbrev pub Tells : Option Stamp → LastLook → Result (List Entry) UsersFileFault
     → Option (Result (List Entry) UsersFileFault) → Type 0
-Tells found seen read None = MayBeTold (fault_of read) × (seen.failed ≡ Some found)
-Tells found seen read (Some news) = news ≡ read
+Tells found seen read None = IsTold found seen (fault_of read)
+Tells found seen read (Some news) = (news ≡ read) × (IsTold found seen (fault_of read) → ⊥)
 
 module _ {F : Type 0} (finds : F → Option Stamp → Type 0)
     (reads : F → Result (List Entry) UsersFileFault → Type 0) where
-  -- The file was found as it was at the last look, and there is no news. Or it was read, and that is the news.
+  -- The file was found as it was at the last look, and there is no news. Or it has changed and was read, and that is
+  -- the news.
   abbrev pub LooksAt : F → LastLook → Option (Result (List Entry) UsersFileFault) → LastLook → Type 0
   LooksAt file old news new = (found : Option Stamp) × finds file found
       × (((old.known ≡ Some found) × (news ≡ None) × (new ≡ old))
-      ⊎ ((read : Result (List Entry) UsersFileFault) × reads file read
+      ⊎ ((old.known ≡ Some found → ⊥) × (read : Result (List Entry) UsersFileFault) × reads file read
       × (new ≡ after_look found (fault_of read) old) × Tells found old read news))
 
 -- ---- what is known
-
--- no look was asked for yet
-abbrev pub unlooked : Looks
-unlooked = record {
-  wanted = 0;
-  begun = 0;
-  done = 0;
-  count = 0;
-  users = None;
-  news = None;
-  is_over = false;
-}
 
 abbrev pub later : ℕ → ℕ
 later count = min (count + 1) (2 ^ 64 - 1)
@@ -174,4 +167,4 @@ Takes owner (Some (Err why)) old new = new ≡ record old { news = Some (news.Fa
 
 -- exactly this look is done, and what it found is taken
 abbrev pub Ends : UserId → FoundLook → Looks → Looks → Type 0
-Ends owner it old new = Takes owner it.found (record old { done = it.look.number }) new
+Ends owner it old new = Takes owner it.found (record old { done = it.look.0 }) new

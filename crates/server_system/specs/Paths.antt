@@ -9,6 +9,7 @@ use Rattle.std.specs.declared.io.ErrorKind.TheVariants.{NotFound}
 use Rattle.acl.specs.declared.user_id.UserId.{UserId}
 use Rattle.mio.specs.declared.net.uds.listener.UnixListener.{UnixListener}
 use Rattle.server_system.specs.Folders.{IsHeld, IsLooked, IsOpenAt}
+use Rattle.server_system.specs.Locks.{IsLocked, IsUnlocked}
 use Rattle.server_system.specs.declared.fault.SocketCause.{SocketCause}
 use Rattle.server_system.specs.declared.fault.SocketCause.TheVariants as cause
 use Rattle.server_system.specs.declared.fault.SocketFault.{SocketFault}
@@ -36,6 +37,10 @@ watched_owner watched = watched.owner
 
 -- ---- sockets
 
+-- the name of the lock's file beside a socket
+abbrev pub lock_of : List ℕ → List ℕ
+lock_of path = path ++ codes ".lock"
+
 -- a socket has this stamp
 abbrev pub IsSocket : Stamp → Type 0
 IsSocket stamp = bit_and stamp.mode 0o170000 ≡ 0o140000
@@ -56,20 +61,20 @@ module _ {R A B C : Type 0} (system : Ghosts R A B C) (host : R) (path : List �
   IsFree lock = IsThere false
       ⊎ (IsThere true × system.serves host path (Ok false) × system.removes host path lock (Ok tt))
 
-  -- the lock beside the path was taken, or not for this reason
-  abbrev pub LocksAs : Result File SocketCause → Type 0
-  LocksAs came = system.locks host (path ++ codes ".lock") came
-
-  -- A new socket was made at the path, and this listens on it: others can't replace it, the lock beside it was held,
+  -- A new socket was made at the path, and this listens on it: others can't replace it, this lock beside it is held,
   -- and no server was there. A path has from 1 to 107 bytes.
-  pub record ListensAt (listener : UnixListener) : Type 0 where
+  pub record IsNew (lock : File) (listener : UnixListener) : Type 0 where
     pub some : 0 < length path
     pub short : length path ≤ 107
     pub held : IsHeld system host path
-    pub lock : File
-    pub locked : LocksAs (Ok lock)
+    pub locked : IsLocked system host (lock_of path) lock
     pub free : IsFree lock
     pub bound : system.binds host path lock (Ok listener)
+
+  -- so by some lock
+  pub record ListensAt (listener : UnixListener) : Type 0 where
+    pub lock : File
+    pub by : IsNew lock listener
 
   -- the system tells why there can't be a socket: of the folders, of what is there, or of what is to be done
   abbrev pub IsNotMade : Error → Type 0
@@ -90,7 +95,7 @@ module _ {R A B C : Type 0} (system : Ghosts R A B C) (host : R) (path : List �
 
   -- so a server can't listen there, or the lock isn't taken for this reason
   abbrev pub IsUnheard : SocketCause → Type 0
-  IsUnheard why = IsRefused why ⊎ LocksAs (Err why)
+  IsUnheard why = IsRefused why ⊎ IsUnlocked system host (lock_of path) why
 
   -- the fault names the path
   abbrev pub IsSocketFault : SocketFault → Type 0

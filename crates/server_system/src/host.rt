@@ -1,13 +1,12 @@
 //! What the system gives to a server.
 
-use crate::fault::SocketCause;
-use crate::socket;
 use crate::users_file::{Stamp, first_bytes};
 use mio::net::{UnixListener, UnixStream};
 use server_users::own_account;
-use std::fs::{self, File, Files};
+use std::fs::{self, File, Files, OpenOptions, TryLockError};
 use std::io::{self, ErrorKind};
 use std::net::Net;
+use std::os::unix::fs::OpenOptionsExt;
 use std::path::PathBuf;
 use std::time::Clock;
 
@@ -15,30 +14,26 @@ use std::time::Clock;
 /// two itself, as they let it never return. Only a call shows what the system answered: no clause says what it has.
 pub trait Host: Net + Files<File = File> + Clock + AllocGlobal + Copy {
     ghost use Rattle.std.specs.Prelude.{ℕ, Bool, List, Result};
-    ghost use Rattle.std.specs.String.{string_bytes};
-    ghost use Rattle.std.specs.declared.alloc.Global.{Global};
-    ghost use Rattle.std.specs.declared.fs.File.{File as Locked};
-    ghost use Rattle.std.specs.declared.io.Error.{Error};
-    ghost use Rattle.std.specs.declared.path.PathBuf.{PathBuf as Place};
-    ghost use Rattle.std.specs.declared.vec.Vec.{Vec as Bytes};
-    ghost use Rattle.mio.specs.declared.net.uds.listener.UnixListener.{UnixListener as Listener};
-    ghost use Rattle.server_system.specs.declared.fault.SocketCause.{SocketCause as Cause};
-    ghost use Rattle.server_system.specs.declared.users_file.Stamp.{Stamp as Stamped};
+    ghost use Rattle.server_system.specs.Types.{Bytes, Error, Listener, Locked, Memory, Place, Stamped, Unlocked};
 
     // The account that the program runs as.
     ghost runs_as: { Self → ℕ → Type 0 } = { λ _ _. Unit {0} };
     // A path, and where it leads through all links, or why the system doesn't tell.
-    ghost leads: { Self → List ℕ → Result (Place Global) Error → Type 0 } = { λ _ _ _. Unit {0} };
+    ghost leads: { Self → List ℕ → Result (Place Memory) Error → Type 0 } = { λ _ _ _. Unit {0} };
     // A path, and the stamp of what is there, or why the system doesn't tell.
     ghost finds: { Self → List ℕ → Result Stamped Error → Type 0 } = { λ _ _ _. Unit {0} };
     // A path, and the stamp of what is there itself, which may be a link, or why the system doesn't tell.
     ghost stands: { Self → List ℕ → Result Stamped Error → Type 0 } = { λ _ _ _. Unit {0} };
     // A path, the most bytes that are read, and the first bytes of its file, or why they can't be read.
-    ghost reads: { Self → List ℕ → ℕ → Result (Bytes ℕ Global) Error → Type 0 } = { λ _ _ _ _. Unit {0} };
+    ghost reads: { Self → List ℕ → ℕ → Result (Bytes ℕ Memory) Error → Type 0 } = { λ _ _ _ _. Unit {0} };
     // The path of a socket, and whether somebody listens there, or why the system doesn't tell.
     ghost serves: { Self → List ℕ → Result Bool Error → Type 0 } = { λ _ _ _. Unit {0} };
-    // The name of a lock's file, and the file, which is locked now, or why it isn't.
-    ghost locks: { Self → List ℕ → Result Locked Cause → Type 0 } = { λ _ _ _. Unit {0} };
+    // The name of a lock's file, and the new file, made through no link, or why it can't be made.
+    ghost makes: { Self → List ℕ → Result Locked Error → Type 0 } = { λ _ _ _. Unit {0} };
+    // The name of a lock's file, and the file that is there, open now, with its stamp, or why it can't be opened.
+    ghost opens: { Self → List ℕ → Result (Locked × Stamped) Error → Type 0 } = { λ _ _ _. Unit {0} };
+    // An open file, which is locked until it is closed, or why it isn't.
+    ghost locks: { Self → Locked → Result (Unit {0}) Unlocked → Type 0 } = { λ _ _ _. Unit {0} };
     // A path whose lock is held, and what came of the removal of its socket.
     ghost removes: { Self → List ℕ → Locked → Result (Unit {0}) Error → Type 0 } = { λ _ _ _ _. Unit {0} };
     // A path whose lock is held, and what listens on a new socket there, or why it can't be made.
@@ -62,8 +57,14 @@ pub trait Host: Net + Files<File = File> + Clock + AllocGlobal + Copy {
     fn is_served(&self, path: &str) -> io::Result<bool>
         ensures { serves self.now path.now result };
 
-    fn lock(&self, name: String) -> Result<File, SocketCause>
-        ensures { locks self.now (string_bytes name) result };
+    fn make_lock(&self, name: &str) -> io::Result<File>
+        ensures { makes self.now name.now result };
+
+    fn open_lock(&self, name: &str) -> io::Result<(File, Stamp)>
+        ensures { opens self.now name.now result };
+
+    fn try_lock(&self, file: &File) -> Result<(), TryLockError>
+        ensures { locks self.now file.now result };
 
     fn remove(&self, path: &str, lock: &File) -> io::Result<()>
         ensures { removes self.now path.now lock.now result };
@@ -103,8 +104,22 @@ impl<R: Net + Files<File = File> + Clock + AllocGlobal + Copy> Host for R {
         }
     }
 
-    fn lock(&self, name: String) -> Result<File, SocketCause> {
-        socket::lock(self, name)
+    fn make_lock(&self, name: &str) -> io::Result<File> {
+        let mut new = OpenOptions::new();
+        new.write(true)
+            .create_new(true)
+            .mode(0o600)
+            .open(self, name)
+    }
+
+    fn open_lock(&self, name: &str) -> io::Result<(File, Stamp)> {
+        let file = OpenOptions::new().write(true).open(self, name)?;
+        let stamp = Stamp::of(&file.metadata()?);
+        Ok((file, stamp))
+    }
+
+    fn try_lock(&self, file: &File) -> Result<(), TryLockError> {
+        file.try_lock()
     }
 
     fn remove(&self, path: &str, _lock: &File) -> io::Result<()> {

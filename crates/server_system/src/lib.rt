@@ -4,7 +4,6 @@
 mod fault;
 mod folders;
 mod host;
-mod leaving;
 mod log;
 mod looks;
 mod socket;

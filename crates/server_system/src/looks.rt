@@ -1,9 +1,11 @@
 //! Looks at the users' file: one is begun, then finds what the file brings, and ends with that.
 
-ghost use Rattle.std.specs.Prelude.{◌≡◌, ◌&&◌, None, Some, if◌then◌else◌, nat_le, not, true};
-ghost use Rattle.server_system.specs.Looking.{Asks, Ends, LooksAt, TellsOf, later, unlooked};
+ghost use Rattle.std.specs.Prelude.{◌≡◌, ◌&&◌, Err, None, Some, if◌then◌else◌, nat_le, not, true};
+ghost use Rattle.server_system.specs.Looking.{Asks, Ends, LooksAt, TellsOf, later};
+ghost use Rattle.server_system.specs.declared.fault.UsersFileFault.TheVariants.{NoMemory};
 
 use crate::fault::UsersFileFault;
+use crate::log::Log;
 use crate::users_file::{LastLook, UsersSource, look_at};
 use acl::UserId;
 use server_users::Users;
@@ -23,10 +25,38 @@ pub enum UsersNews {
     Faulty(UsersFileFault),
 }
 
-/// A look that was begun. Only a call of `begin` makes one, and it isn't dropped: it has to end.
-pub struct BegunLook {
-    number: u64,
+/// What the last look found, if that is news. Only `take_news` makes one, and it isn't dropped: it has to be logged.
+pub struct TakenNews(Option<UsersNews>);
+
+/// Where news of the users' file are logged. Only a call shows that they were.
+pub trait LogsNews {
+    ghost use Rattle.std.specs.Prelude.{ℕ, List};
+    ghost use Rattle.server_system.specs.Types.{News};
+
+    // The path of the users' file, and its news.
+    ghost logs: { Self → List ℕ → News → Type 0 };
+
+    fn log<R: Clock + Wait>(&self, rt: &R, path: &str, news: TakenNews)
+        ensures { logs self.now path.now news };
 }
+
+impl LogsNews for Log {
+    ghost logs = { λ log path news. Unit {0} };
+
+    fn log<R: Clock + Wait>(&self, rt: &R, path: &str, news: TakenNews) {
+        let (TakenNews(news), kept) = (news, "who may connect stays as it was");
+        let what = match news {
+            None => return,
+            Some(UsersNews::Faulty(fault)) => return self.put(rt, &format_args!("{fault}: {kept}")),
+            Some(UsersNews::Anew) => "was read again",
+            Some(UsersNews::OtherOwner) => "has another owner: who may connect stays as it was",
+        };
+        self.put(rt, &format_args!("users' file {path} {what}"));
+    }
+}
+
+/// A look that was begun. Only a call of `begin` makes one, and it isn't dropped: it has to end.
+pub struct BegunLook(u64);
 
 /// A look that was begun, and what it found after that. Only a call of `find` makes one.
 pub struct FoundLook {
@@ -44,6 +74,7 @@ impl BegunLook {
     ) -> FoundLook
         ensures look { result.look ≡ self }
         ensures found { LooksAt F.finds F.reads file.now seen.old result.found seen.new }
+        ensures memory { result.found ≡ Some (Err NoMemory) → ⊥ }
     {
         'looks: for _ in rt.forever() {
             let found = look_at(file, seen);
@@ -59,11 +90,7 @@ impl BegunLook {
 /// What is known of looks at a users' file, under a lock. Each relation is shown by a call of its function alone.
 pub trait SharedLooks {
     ghost use Rattle.std.specs.Prelude.{ℕ, Bool, Option};
-    ghost use Rattle.acl.specs.declared.user_id.UserId.{UserId as User};
-    ghost use Rattle.server_system.specs.declared.looks.BegunLook.{BegunLook as Begun};
-    ghost use Rattle.server_system.specs.declared.looks.FoundLook.{FoundLook as Found};
-    ghost use Rattle.server_system.specs.declared.looks.KnownUsers.{KnownUsers as Known};
-    ghost use Rattle.server_system.specs.declared.looks.UsersNews.{UsersNews as News};
+    ghost use Rattle.server_system.specs.Types.{Begun, Found, Known, News, User};
 
     // The number of the look that was asked for.
     ghost asks: { Self → ℕ → Self → Type 0 };
@@ -76,7 +103,7 @@ pub trait SharedLooks {
     // The count of the users that a loop has, and what it learns.
     ghost tells: { Self → ℕ → Option Known → Type 0 };
 
-    ghost takes: { Self → Option News → Self → Type 0 };
+    ghost takes: { Self → News → Self → Type 0 };
 
     ghost stops: { Self → Self → Type 0 };
 
@@ -93,7 +120,7 @@ pub trait SharedLooks {
         ensures { tells self.now count result };
 
     // Takes what the last look found, unless that was taken.
-    fn take_news(&mut self) -> Option<UsersNews>
+    fn take_news(&mut self) -> TakenNews
         ensures { takes self.old result self.new };
 
     // Whether no look is to begin: none is asked for that wasn't begun, and somebody may still ask.
@@ -105,8 +132,8 @@ pub trait SharedLooks {
         ensures { stops self.old self.new };
 }
 
-// The looks at the file, counted from 1.
-#[derive(Drop)]
+// The looks at the file, counted from 1. None was asked for at first.
+#[derive(Default, Drop)]
 pub struct Looks {
     // The last look that somebody waits for.
     wanted: u64,
@@ -119,28 +146,11 @@ pub struct Looks {
     is_over: bool,
 }
 
-impl Looks {
-    // No look was asked for yet.
-    pub(crate) fn new() -> Looks
-        ensures { result ≡ unlooked }
-    {
-        Looks {
-            wanted: 0,
-            begun: 0,
-            done: 0,
-            count: 0,
-            users: None,
-            news: None,
-            is_over: false,
-        }
-    }
-}
-
 impl SharedLooks for Looks {
     ghost asks = { Asks };
 
     ghost begins = { λ old look new. (new ≡ record old { begun = later old.begun })
-        × (look ≡ (if old.is_over then None else Some (record { number = new.begun }))) };
+        × (look ≡ (if old.is_over then None else Some (record { 0 = new.begun }))) };
 
     ghost idles = { λ looks is_idle. is_idle ≡ (not looks.is_over && nat_le looks.wanted looks.begun) };
 
@@ -148,7 +158,7 @@ impl SharedLooks for Looks {
 
     ghost tells = { TellsOf };
 
-    ghost takes = { λ old news new. (news ≡ old.news) × (new ≡ record old { news = None }) };
+    ghost takes = { λ old news new. (news.0 ≡ old.news) × (new ≡ record old { news = None }) };
 
     ghost stops = { λ old new. new ≡ record old { is_over = true } };
 
@@ -162,12 +172,12 @@ impl SharedLooks for Looks {
         if self.is_over {
             return None;
         }
-        Some(BegunLook { number: self.begun })
+        Some(BegunLook(self.begun))
     }
 
     fn end(&mut self, owner: UserId, found: FoundLook) {
         let FoundLook { look, found } = found;
-        let BegunLook { number } = look;
+        let BegunLook(number) = look;
         self.done = number;
         match found {
             Some(Ok(users)) if users.owner() == owner => {
@@ -193,8 +203,8 @@ impl SharedLooks for Looks {
         })
     }
 
-    fn take_news(&mut self) -> Option<UsersNews> {
-        self.news.take()
+    fn take_news(&mut self) -> TakenNews {
+        TakenNews(self.news.take())
     }
 
     fn is_idle(&self) -> bool {

@@ -1,19 +1,21 @@
 //! The socket that a server listens on.
 
 ghost use Rattle.std.specs.Prelude.{◌≡◌, IfErr, IfOk, IfSome};
+ghost use Rattle.std.specs.String.{string_bytes};
 ghost use Rattle.server_system.specs.Folders.{IsSeen};
-ghost use Rattle.server_system.specs.Paths.{IsSocketFault, IsThere, IsUnheard, LetsIn, ListensAt, socket_path};
+ghost use Rattle.server_system.specs.Locks.{IsLeft, IsLocked, IsOpen, IsOpened, IsUnlocked};
+ghost use Rattle.server_system.specs.Paths.{IsNew, IsSocketFault, IsThere, IsUnheard, LetsIn, ListensAt, socket_path};
 
 use crate::fault::{SocketCause, SocketFault};
 use crate::folders::{OpenFolder, open_folder};
 use crate::host::Host;
-use crate::users_file::KIND;
+use crate::log::LastLoop;
+use crate::users_file::{KIND, PLAIN};
 use mio::net::UnixListener;
 use std::alloc::Global;
-use std::fs::{self, File, Files, OpenOptions, TryLockError};
-use std::io::{self, ErrorKind};
-use std::os::unix::fs::{MetadataExt, OpenOptionsExt};
-use std::sync::{Mutex, Wait};
+use std::fs::{File, TryLockError};
+use std::io::ErrorKind;
+use std::sync::Wait;
 
 // The longest path of a socket, in bytes.
 const LONGEST: usize = 107;
@@ -24,8 +26,8 @@ const SOCKET: u32 = 0o140000;
 #[derive(Drop)]
 pub struct SocketPath<'a> {
     path: &'a str,
-    // None after the place was left.
-    lock: Mutex<Option<File>>,
+    // The system keeps it locked as long as it is open.
+    lock: File,
 }
 
 // Whether there is a socket. Another file is a fault.
@@ -42,40 +44,42 @@ fn is_there<R: Host>(rt: &R, path: &str) -> Result<bool, SocketCause>
 }
 
 // Opens the lock's file that is there, if it is a plain one. Whatever takes its place before that isn't written to.
-fn open_there<R: Files<File = File>>(rt: &R, name: String) -> Result<File, SocketCause> {
-    let found = fs::symlink_metadata(rt, name.as_str())?;
-    if !found.file_type().is_file() {
+fn open_there<R: Host>(rt: &R, name: String) -> Result<File, SocketCause>
+    ensures ok { IfOk result (IsOpen R.Host rt.now (string_bytes name)) }
+    ensures err { IfErr result (IsUnlocked R.Host rt.now (string_bytes name)) }
+{
+    if rt.own_stamp(name.as_str())?.access().mode & KIND != PLAIN {
         return Err(SocketCause::NoLock(name));
     }
-    let file = OpenOptions::new().write(true).open(rt, name.as_str())?;
-    let named = fs::symlink_metadata(rt, name.as_str())?;
-    let opened = file.metadata()?;
-    let is_same = named.dev() == opened.dev() && named.ino() == opened.ino();
-    if is_same && named.file_type().is_file() {
+    let (file, opened) = rt.open_lock(name.as_str())?;
+    let named = rt.own_stamp(name.as_str())?;
+    let is_same = named.device == opened.device && named.inode == opened.inode;
+    if is_same && named.access().mode & KIND == PLAIN {
         Ok(file)
     } else {
         Err(SocketCause::NoLock(name))
     }
 }
 
-// Makes the lock's file, through no link, or opens the one that is there.
-fn open_lock<R: Files<File = File>>(rt: &R, name: String) -> Result<File, SocketCause> {
-    let made = OpenOptions::new()
-        .write(true)
-        .create_new(true)
-        .mode(0o600)
-        .open(rt, name.as_str());
-    match made {
+// Makes the lock's file, or opens the one that is there.
+fn open_lock<R: Host>(rt: &R, name: String) -> Result<File, SocketCause>
+    ensures ok { IfOk result (IsOpened R.Host rt.now (string_bytes name)) }
+    ensures err { IfErr result (IsUnlocked R.Host rt.now (string_bytes name)) }
+{
+    match rt.make_lock(name.as_str()) {
         Ok(file) => Ok(file),
         Err(error) if error.kind() == ErrorKind::AlreadyExists => open_there(rt, name),
         Err(error) => Err(SocketCause::from(error)),
     }
 }
 
-/// Locks the lock's file of this name, which is made if it isn't there.
-pub fn lock<R: Files<File = File>>(rt: &R, name: String) -> Result<File, SocketCause> {
+// Locks the lock's file of this name, which is made if it isn't there.
+fn lock<R: Host>(rt: &R, name: String) -> Result<File, SocketCause>
+    ensures ok { IfOk result (IsLocked R.Host rt.now (string_bytes name)) }
+    ensures err { IfErr result (IsUnlocked R.Host rt.now (string_bytes name)) }
+{
     let file = open_lock(rt, name)?;
-    match file.try_lock() {
+    match rt.try_lock(&file) {
         Ok(()) => Ok(file),
         Err(TryLockError::WouldBlock) => Err(SocketCause::Taken),
         Err(TryLockError::Error(error)) => Err(SocketCause::from(error)),
@@ -84,7 +88,7 @@ pub fn lock<R: Files<File = File>>(rt: &R, name: String) -> Result<File, SocketC
 
 // Takes the lock beside the path, and makes a new socket there. One that nobody listens on is removed.
 fn listen<R: Host>(rt: &R, alloc: Global, path: &str) -> Result<(File, UnixListener), SocketCause>
-    ensures listens { IfOk result (λ made. ListensAt R.Host rt.now path.now made.1) }
+    ensures listens { IfOk result (λ made. IsNew R.Host rt.now path.now made.0 made.1) }
     ensures fault { IfErr result (IsUnheard R.Host rt.now path.now) }
 {
     // Without a path the system would choose an abstract name, which any account can connect to.
@@ -102,7 +106,7 @@ fn listen<R: Host>(rt: &R, alloc: Global, path: &str) -> Result<(File, UnixListe
     let Ok(name) = format!(in alloc; "{path}.lock") else {
         return Err(SocketCause::NoMemory);
     };
-    let lock = rt.lock(name)?;
+    let lock = lock(rt, name)?;
     if is_there(rt, path)? {
         if rt.is_served(path)? {
             return Err(SocketCause::Taken);
@@ -122,13 +126,11 @@ impl SocketPath<'_> {
     ) -> Result<(SocketPath<'a>, UnixListener), SocketFault>
         ensures path { IfOk result (λ made. socket_path made.0 ≡ path.entry.now) }
         ensures listens { IfOk result (λ made. ListensAt R.Host rt.now path.entry.now made.1) }
+        ensures lock { IfOk result (λ made. IsNew R.Host rt.now path.entry.now made.0.lock made.1) }
         ensures fault { IfErr result (IsSocketFault R.Host rt.now path.entry.now) }
     {
         match listen(rt, alloc, path) {
-            Ok((lock, listener)) => {
-                let lock = Mutex::new(Some(lock));
-                Ok((SocketPath { path, lock }, listener))
-            }
+            Ok((lock, listener)) => Ok((SocketPath { path, lock }, listener)),
             Err(cause) => match String::from_str(alloc, path) {
                 Ok(path) => Err(SocketFault::At(path, cause)),
                 Err(_) => Err(SocketFault::NoMemory),
@@ -150,10 +152,17 @@ impl SocketPath<'_> {
         matches!(rt.own_stamp(self.path), Ok(found) if found.access().mode & 0o002 != 0)
     }
 
-    /// The path, with the lock that lets its holder remove the socket; None after that was taken.
-    pub(crate) fn take(&self, rt: &impl Wait) -> Option<(&str, File)>
-        ensures { IfSome result (λ held. held.0.now ≡ socket_path self.now) }
+    /// Removes the socket after the last loop. The lock is kept until this value goes, so no other server comes before.
+    pub fn leave<F: Host>(&self, _rt: &impl Wait, files: &F, _last: LastLoop)
+        ensures { IsLeft F.Host files.now (socket_path self.now) self.now.lock }
     {
-        Some((self.path, self.lock.lock(rt).take()?))
+        files.remove(self.path, &self.lock).ok();
+    }
+
+    /// Removes the socket, then releases the lock. A socket that can't be removed is no fault of the session.
+    pub fn end<F: Host>(self, _rt: &impl Wait, files: &F)
+        ensures { IsLeft F.Host files.now (socket_path self.entry) self.entry.lock }
+    {
+        let _ = files.remove(self.path, &self.lock);
     }
 }

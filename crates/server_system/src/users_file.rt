@@ -1,12 +1,12 @@
 //! The users' file, and whether it has changed.
 
-ghost use Rattle.std.specs.Prelude.{◌≡◌, Err, IfErr, IfOk, IfSome, None, OnOk, Some, false, take};
+ghost use Rattle.std.specs.Prelude.{◌≡◌, Err, IfErr, IfOk, IfSome, None, OnOk, Some, false, take, true};
 ghost use Rattle.std.specs.Fs.{metadata_len, metadata_mode};
 ghost use Rattle.std.specs.Option.{option_copied};
 ghost use Rattle.std.specs.String.{string_bytes};
 ghost use Rattle.server_system.specs.Folders.{IsHeldFile, IsLookedFile, access_of};
 ghost use Rattle.server_system.specs.Looking.{AreOf, IsFoundAs, IsReadAs, IsReadOf, IsUnfound, IsUnreadOf, IsWrong};
-ghost use Rattle.server_system.specs.Looking.{LooksAt, MayBeTold, after_look, failed_at};
+ghost use Rattle.server_system.specs.Looking.{IsTold, LooksAt, after_look, failed_at};
 ghost use Rattle.server_system.specs.Paths.{users_path};
 ghost use Rattle.server_system.specs.declared.fault.UsersFileFault.TheVariants.{NoMemory};
 
@@ -26,13 +26,13 @@ const MOST: usize = 1_048_576;
 // The bits of a mode that tell the kind of a file, and their value for a plain one.
 pub(crate) const KIND: u32 = 0o170000;
 
-const PLAIN: u32 = 0o100000;
+pub(crate) const PLAIN: u32 = 0o100000;
 
 /// What tells a file from the one that was read.
 #[derive(Clone, Copy, Debug, PartialEq, Eq)]
 pub struct Stamp {
-    device: u64,
-    inode: u64,
+    pub(crate) device: u64,
+    pub(crate) inode: u64,
     size: u64,
     written: i64,
     written_nanos: i64,
@@ -107,18 +107,18 @@ fn users_of(
 
 /// What gives the users who may connect. Only a call of `find` or of `read` shows what was found or read.
 pub trait UsersSource {
-    ghost use Rattle.std.specs.Prelude.{List, Option, Result};
-    ghost use Rattle.server_users.specs.Entries.{Entry};
-    ghost use Rattle.server_system.specs.declared.users_file.Stamp.{Stamp as Stamped};
-    ghost use Rattle.server_system.specs.declared.fault.UsersFileFault.{UsersFileFault as Faulty};
+    ghost use Rattle.std.specs.Prelude.{ℕ, List, Option, Result};
+    ghost use Rattle.server_system.specs.Types.{Entry, Faulty, Stamped};
 
+    // The path at which it is.
+    ghost lies: { Self → List ℕ };
     // Its stamp; None if there is no file.
     ghost finds: { Self → Option Stamped → Type 0 };
     // Its users, or why they can't be read.
     ghost reads: { Self → Result (List Entry) Faulty → Type 0 };
 
-    /// Where it is.
-    fn path(&self) -> &str;
+    fn path(&self) -> &str
+        ensures { result.now ≡ lies self.now };
 
     fn find(&self) -> Option<Stamp>
         ensures { finds self.now result };
@@ -199,6 +199,8 @@ impl<H: Host> UsersFile<H> {
 }
 
 impl<H: Host> UsersSource for UsersFile<H> {
+    ghost lies = { λ file. users_path file };
+
     ghost finds = { λ file found. IsFoundAs H.Host file.host (users_path file) found };
 
     ghost reads = { λ file read. IsReadAs H.Host file.host (users_path file) read };
@@ -241,6 +243,7 @@ impl LastLook {
     fn fails(&mut self, found: Option<Stamp>) -> bool
         ensures seen { self.new ≡ failed_at found }
         ensures told { result ≡ false → self.old.failed ≡ Some found }
+        ensures news { result ≡ true → self.old.failed ≡ Some found → ⊥ }
     {
         let was_told = self.failed == Some(found);
         self.known = found.is_none().then_some(None);
@@ -251,8 +254,8 @@ impl LastLook {
     // Takes what a look found: the stamp, and the fault for which it wasn't read. Returns whether that is news.
     fn is_news(&mut self, found: Option<Stamp>, fault: Option<&UsersFileFault>) -> bool
         ensures seen { self.new ≡ after_look found (option_copied fault.entry) self.old }
-        ensures told { result ≡ false
-            → MayBeTold (option_copied fault.entry) × (self.old.failed ≡ Some found) }
+        ensures told { result ≡ false → IsTold found self.old (option_copied fault.entry) }
+        ensures news { result ≡ true → IsTold found self.old (option_copied fault.entry) → ⊥ }
     {
         match fault {
             Some(UsersFileFault::NoMemory) => true,

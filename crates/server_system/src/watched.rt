@@ -2,10 +2,9 @@
 
 ghost use Rattle.std.specs.Prelude.{◌≡◌, IfSome, None, Some, false, true};
 ghost use Rattle.server_system.specs.Looking.{LooksAt};
-ghost use Rattle.server_system.specs.declared.looks.FoundLook.{FoundLook as Found};
+ghost use Rattle.server_system.specs.Types.{Found, News};
 
-use crate::log::Log;
-use crate::looks::{BegunLook, KnownUsers, Looks, SharedLooks, UsersNews};
+use crate::looks::{BegunLook, KnownUsers, LogsNews, Looks, SharedLooks};
 use crate::users_file::{LastLook, UsersSource};
 use acl::UserId;
 use std::alloc::Global;
@@ -32,7 +31,7 @@ impl<F: UsersSource> WatchedUsers<F> {
             alloc,
             file,
             owner,
-            looks: Mutex::new(Looks::new()),
+            looks: Mutex::new(Looks::default()),
             asked: Condvar::new(),
         }
     }
@@ -80,31 +79,21 @@ impl<F: UsersSource, L: SharedLooks> WatchedUsers<F, L> {
         true
     }
 
-    // Logs what a look found.
-    fn log_news<R: Clock + Wait>(&self, rt: &R, log: &Log, news: &UsersNews) {
-        let (path, kept) = (self.file.path(), "who may connect stays as it was");
-        match news {
-            UsersNews::Anew => log.put(rt, &format_args!("users' file {path} was read again")),
-            UsersNews::OtherOwner => {
-                log.put(
-                    rt,
-                    &format_args!("users' file {path} has another owner: {kept}"),
-                );
-            }
-            UsersNews::Faulty(fault) => log.put(rt, &format_args!("{fault}: {kept}")),
-        }
-    }
-
     /// What is known now, for a loop that has the users of this count. None without memory for a copy of the users.
-    pub fn newest<R: Clock + Wait>(&self, rt: &R, log: &Log, count: &mut u64) -> Option<KnownUsers>
+    pub fn newest<R: Clock + Wait, N: LogsNews>(
+        &self,
+        rt: &R,
+        log: &N,
+        count: &mut u64,
+    ) -> Option<KnownUsers>
         ensures tells { (looks : L) × L.tells looks count.old result }
+        ensures logs { (was : L) × (news : News) × (then : L) × L.takes was news then
+            × N.logs log.now (F.lies self.now.file) news }
         ensures count { IfSome result (λ known. count.new ≡ known.count) }
         ensures same { result ≡ None → count.new ≡ count.old }
     {
         let mut looks = self.looks.lock(rt);
-        if let Some(news) = looks.take_news() {
-            self.log_news(rt, log, &news);
-        }
+        log.log(rt, self.file.path(), looks.take_news());
         let known = looks.newest(self.alloc, *count)?;
         *count = known.count;
         Some(known)
