@@ -82,8 +82,10 @@ module _ {S : Type 0} where
   target_at None = None
   target_at (Some peer) = target_in peer.types_into peer.user peer.inbox.typed
 
+  -- its keys wait as long as it takes; if its other end is gone, they are as old as they are
   abbrev pub held_keys : Peer S → Peer S
-  held_keys peer = with_typed (holding peer.inbox.typed) peer
+  held_keys peer =
+      with_typed (if peer.has_hung_up then let_go peer.inbox.typed else holding peer.inbox.typed) peer
 
   abbrev pub freed_keys : Peer S → Peer S
   freed_keys peer = with_typed (let_go peer.inbox.typed) peer

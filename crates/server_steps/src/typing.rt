@@ -158,12 +158,16 @@ pub fn target_at<S: Drop>(connections: &Connections<S>, key: usize) -> Option<Ta
     }
 }
 
-/// The keys of a connection wait as long as it takes.
+/// The keys of a connection wait as long as it takes. Those of one whose other end is gone are as old as they are.
 pub fn hold_keys<S: Drop>(connections: &mut Connections<S>, key: usize)
     ensures { connections.new ≡ changed held_keys key connections.old }
 {
     if let Some(peer) = connections.touch(key) {
-        peer.inbox.typed.hold();
+        if peer.has_hung_up {
+            peer.inbox.typed.let_go();
+        } else {
+            peer.inbox.typed.hold();
+        }
     }
 }
 
