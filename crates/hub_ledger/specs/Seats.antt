@@ -33,29 +33,30 @@ pub record Ruled : Type 0 where
   pub may_type : Bool
 
 -- a seat: its number, whether it asks for entries, and its receipts, the oldest first; how many steps
--- were made for it (modulo 2 ^ 64), and how many effects it was handed; and what it was told when it
--- took effects last: whether a step other than a Draw had come
+-- were made for it, and how often it took effects (both modulo 2 ^ 64), and how many it was handed;
+-- and what it was told when it took effects last: whether a step other than a Draw had come
 pub record Sitting : Type 0 where
   pub number : ℕ
   pub asks : Bool
   pub receipts : List Receipt
   pub steps : ℕ
+  pub takes : ℕ
   pub handed : ℕ
   pub is_told : Bool
 
 -- a seat that was told nothing
 abbrev pub fresh_seat : ℕ → Sitting
 fresh_seat number = record
-    { number = number; asks = false; receipts = []; steps = 0; handed = 0; is_told = false }
+    { number = number; asks = false; receipts = []; steps = 0; takes = 0; handed = 0; is_told = false }
 
 -- one more step was made for the seat
 abbrev pub stepped : Sitting → Sitting
 stepped s = record s { steps = (s.steps + 1) % 2 ^ 64 }
 
--- the seat was handed these effects more, and told this
+-- the seat took once more: it was handed these effects, and told this
 abbrev pub with_handed : List Sent → Bool → Sitting → Sitting
 with_handed effects told s =
-    record s { handed = s.handed + length effects; is_told = told }
+    record s { takes = (s.takes + 1) % 2 ^ 64; handed = s.handed + length effects; is_told = told }
 
 -- What the amount of a share counts: the receipts of its seats, and above them, each as 2 ^ 32, the
 -- effects that these seats were handed.

@@ -84,6 +84,7 @@ fn make_seat<L: ShareLedger>(alloc: Global, number: usize, share: Share<L>) -> S
         told: Receipts::new(alloc),
         share,
         steps: 0,
+        takes: 0,
         is_told: false,
     }
 }

@@ -77,6 +77,8 @@ pub struct Seat<L: ShareLedger> {
     pub(crate) share: Share<L>,
     /// How many steps were made for it, modulo 2 ^ 64.
     pub(crate) steps: u64,
+    /// How often it took effects, modulo 2 ^ 64.
+    pub(crate) takes: u64,
     /// What it was told when it took effects last.
     pub(crate) is_told: bool,
 }
@@ -93,6 +95,7 @@ impl<L: ShareLedger> Model for Seat<L> {
       asks = s.asks;
       receipts = s.told.receipts;
       steps = s.steps;
+      takes = s.takes;
       handed = handed_in s.share.amount;
       is_told = s.is_told;
     } };
@@ -117,13 +120,14 @@ impl<L: ShareLedger> Seat<L> {
         self.steps = self.steps.wrapping_add(1);
     }
 
-    /// Counts effects that are handed out, and notes what is told with them.
+    /// Counts one more take and the effects that it hands out, and notes what is told with them.
     pub(crate) fn hand(&mut self, book: &mut Book<L>, effects: &Handed, is_told: bool)
         ensures seat { self.new ≡ with_handed effects.now is_told self.old }
         ensures all { handed_in book.new.total ≡ handed_in book.old.total + length effects.now }
         ensures entries { receipts_in book.new.total ≡ receipts_in book.old.total }
     {
         count_handed(book, &mut self.share, effects.as_slice().len());
+        self.takes = self.takes.wrapping_add(1);
         self.is_told = is_told;
     }
 

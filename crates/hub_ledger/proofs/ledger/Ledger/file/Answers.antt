@@ -45,6 +45,7 @@ returns-clause-answer g c =
       asks = c.seat.inside.asks;
       receipts = c.seat.inside.told.receipts;
       steps = c.seat.inside.steps;
+      takes = c.seat.inside.takes;
       handed = handed_in c.seat.inside.share.amount;
       is_told = c.seat.inside.is_told;
     } in
