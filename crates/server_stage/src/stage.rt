@@ -68,7 +68,8 @@ fn take<G: Gate + Drop, J: SessionSeat + Drop>(
         };
         for key in 0..ready {
             if let Some(peer) = own.connections.touch(key) {
-                peer.mark_ready(true);
+                let has_ended = peer.stream.iter().any(Near::has_ended);
+                peer.mark_ready(has_ended);
                 peer.mark_room();
             }
         }

@@ -20,9 +20,9 @@ static HELD: [NoteRow; 2] = [
     (1, Expected::TypedLen(0, CLIENTS * FRAMES * FRAME)),
 ];
 
-fn paste(alloc: Global) -> Result<Vec<u8>, AllocError> {
+fn paste(alloc: Global, frames: usize) -> Result<Vec<u8>, AllocError> {
     let mut bytes = Vec::new(alloc);
-    for _ in 0..FRAMES {
+    for _ in 0..frames {
         bytes.extend_from_slice(b"K\x20\0")?;
         for _ in 0..FRAME {
             bytes.push(b'x')?;
@@ -58,9 +58,46 @@ fn crowd<'a>(alloc: Global, paste: &'a [u8]) -> Result<Vec<StageAct<'a>>, AllocE
 
 fn is_held(rt: &impl System) -> Result<bool, AllocError> {
     let alloc = rt.alloc();
-    let bytes = paste(alloc)?;
+    let bytes = paste(alloc, FRAMES)?;
     let acts = crowd(alloc, &bytes)?;
     Ok(is_played(rt, &acts, &HELD))
+}
+
+// More frames than a window holds that takes nothing. Then their client goes without a word: the session learns it,
+// though the window still takes nothing. What was held isn't typed any more.
+static GOES: [NoteRow; 4] = [
+    (0, Expected::Len(2)),
+    (1, Expected::Len(1)),
+    (1, Expected::LastEntries(b"D")),
+    (2, Expected::HasTyped(0, b'y', false)),
+];
+
+fn goes(rt: &impl System) -> Result<bool, AllocError> {
+    let mut bytes = paste(rt.alloc(), 2 * CLIENTS)?;
+    bytes.extend_from_slice(b"K\0\x01y")?;
+    let acts = [
+        StageAct::SetTime(0, 0),
+        StageAct::Connect(Habit::Takes(4), WINDOW),
+        StageAct::Turns(2),
+        StageAct::Connect(Habit::Whole, ATTACH),
+        StageAct::Turns(2),
+        StageAct::Send(1, bytes.as_slice()),
+        StageAct::SetTime(1, 20),
+        StageAct::Turns(200),
+        StageAct::Note(0),
+        StageAct::End(1),
+        StageAct::Turns(200),
+        StageAct::Note(0),
+        StageAct::SetHabit(0, Habit::Whole),
+        StageAct::Turns(20),
+        StageAct::Note(0),
+    ];
+    Ok(is_played(rt, &acts, &GOES))
+}
+
+#[test]
+fn who_pastes_too_much_may_go(rt: HostRuntime) {
+    assert!(rt; matches!(goes(&rt), Ok(true)));
 }
 
 #[test]
