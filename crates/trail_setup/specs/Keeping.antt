@@ -1,32 +1,27 @@
 -- What a setup keeps of a trail's entries, entry after entry and act after act.
 use Rattle.std.specs.Prelude.{◌≡◌, ◌⊎◌, ◌&&◌, ◌==◌, ℕ, Bool, true, false, not, if◌then◌else◌, List, [], ◌∷◌, ◌++◌}
-use Rattle.std.specs.Prelude.{IsOk, filter, length, slice_index_or, slice_set}
+use Rattle.std.specs.Prelude.{IsOk, filter, length, slice_index_or, slice_set, unwrap_or}
 use Rattle.std.specs.List.{AllByRecursion}
 use Rattle.acl.specs.declared.act.Act.{Act}
 use Rattle.acl.specs.declared.act.Act.TheVariants as act
 use Rattle.acl.specs.declared.act.LockMode.{LockMode}
 use Rattle.acl.specs.declared.act.LockMode.TheVariants.{Off}
-use Rattle.acl.specs.declared.act.Object.TheVariants as object
 use Rattle.acl.specs.declared.act.PresetKind.{PresetKind}
 use Rattle.acl.specs.declared.act.PresetKind.TheVariants as preset
 use Rattle.acl.specs.declared.bits.Bit.{Bit}
 use Rattle.acl.specs.declared.bits.Bit.TheVariants.{Read, Write, Execute}
-use Rattle.acl.specs.declared.command_name.CommandName.{CommandName}
 use Rattle.acl.specs.declared.command_name.CommandName.TheVariants.{Quit}
 use Rattle.acl.specs.declared.user_id.UserId.{UserId}
 use Rattle.acl.specs.declared.leaders.Edition.{Edition}
 use Rattle.acl.specs.History.{History, followed_by, mask, preset_of}
-use Rattle.acl.specs.Same.{same_command, same_preset, same_user}
+use Rattle.acl.specs.Same.{same_preset, same_user}
 use Rattle.hub.specs.Acts.{CanFollow}
-use Rattle.hub.specs.Legal.{from_command}
 use Rattle.hub.specs.Trails.{Entry}
-use Rattle.session.specs.refusal.Verdict.{Verdict}
-use Rattle.session.specs.refusal.Verdict.TheVariants.{Right as right}
-use Rattle.trail_setup.specs.declared.mode.ModeSeen.{ModeSeen}
 use Rattle.trail_setup.specs.declared.state.SetMask.{SetMask}
 use Rattle.trail_setup.specs.declared.state.SetupState.{SetupState}
 use Rattle.trail_setup.specs.Alone.{FollowsAlone}
 use Rattle.trail_setup.specs.Masks.{Stands, all_bits, mask_in, preset_in}
+use Rattle.trail_setup.specs.Modes.{is_granted, mode_said}
 
 -- ---- one act
 
@@ -91,28 +86,18 @@ FollowsEach (a ∷ acts) old new = (between : SetupState) × FollowsAct a old be
 
 -- ---- one entry
 
--- whether the verdict is of a right on this command
-abbrev pub is_of : CommandName → Verdict → Bool
-is_of name (right user bit (object.Command c) answer) = same_command c name
-is_of name v = false
-
--- whether the first verdict that asks for x on a command asks for it on this one
-abbrev pub asks_first : CommandName → List Verdict → Bool
-asks_first name [] = false
-asks_first name (v ∷ verdicts) = is_of name v
-
-abbrev pub asks_for : CommandName → List Verdict → Bool
-asks_for name verdicts = asks_first name (from_command verdicts)
-
 -- a `quit` that was done
 abbrev pub IsQuit : Entry → Type 0
-IsQuit entry = IsOk entry.reply × (asks_for Quit entry.verdicts ≡ true)
+IsQuit entry = IsOk entry.reply × (is_granted Quit entry.verdicts ≡ true)
 
--- A `quit` leaves the state as it is. Of another entry each act is followed, in order, and it may say the mode.
+-- A `quit` leaves the state as it is. Of another entry each act is followed, in order, and the mode is the one that
+-- the entry says, or the old one if it says none.
 abbrev pub FollowsEntry : Entry → SetupState → SetupState → Type 0
 FollowsEntry entry old new =
     (IsQuit entry × (new ≡ old))
-    ⊎ ((IsQuit entry → ⊥) × (mode : ModeSeen) × FollowsEach entry.acts (record old { mode = mode }) new)
+    ⊎ ((IsQuit entry → ⊥) × FollowsEach entry.acts (record old {
+      mode = unwrap_or (mode_said old.owner entry) old.mode;
+    }) new)
 
 -- ---- the state stands for the history
 

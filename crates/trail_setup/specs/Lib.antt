@@ -4,4 +4,5 @@ pub mod Giving
 pub mod Keeping
 pub mod Lines
 pub mod Masks
+pub mod Modes
 pub mod Setup

@@ -3,11 +3,11 @@
 //!
 //! Proved: what users' own entries have (`Entries`), and that a window born under closed masks gives a user no bit
 //! that they lacked on one of the old windows (`born_closed`). The state follows each act of each entry in order, but
-//! none of a `quit` (`SetupState::take`), and stands for the history of these acts (`states_stand`, `states_keep`). A
-//! setup has just these lines, in this order (`push_setup`): users become known with nothing; closed masks, with x on
-//! `aclumask` that an opener is lent for them; leaders and bits on commands that users have after the trail's acts;
-//! presets; the default lock; and for later the masks, and the mode that the state keeps. `trail_again` proves what a
-//! session has that takes these lines. Not proved: what entries say of the mode.
+//! none of a `quit`, and has the mode that the latest entry says that says one (`SetupState::take`). It stands for the
+//! history of these acts (`states_stand`, `states_keep`). A setup has just these lines, in this order (`push_setup`):
+//! users become known with nothing; closed masks, with x on `aclumask` that an opener is lent for them; leaders and
+//! bits on commands that users have after the trail's acts; presets; the default lock; and for later the masks, and the
+//! mode that the state keeps. `trail_again` proves what a session has that takes these lines.
 #![tactic(auto)]
 
 ghost use Rattle.trail_setup.specs.Closing.{BornClosed};

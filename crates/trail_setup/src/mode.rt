@@ -1,11 +1,12 @@
 //! Whether a session is multiuser, as far as its trail says so.
 
-ghost use Rattle.std.specs.Prelude.{◌≡◌};
-ghost use Rattle.trail_setup.specs.Keeping.{asks_for, is_of};
+ghost use Rattle.std.specs.Prelude.{◌≡◌, IfOk};
+ghost use Rattle.trail_setup.specs.Modes.{done_mode, is_granted, is_list_granted, is_of, is_parting, line_mode};
+ghost use Rattle.trail_setup.specs.Modes.{mode_for, mode_said, sends_away, typed_mode};
 
 use acl::{Act, CommandName, Object, UserId};
-use command_lang::{Command, FaultKind, parse};
-use hub::{Kept, TrailEntry, from_command};
+use command_lang::{Command, FaultKind, ParseFault, parse};
+use hub::{Kept, TrailEntry, all_pass, from_command};
 use session::{Refusal, Verdict};
 use std::alloc::{AllocError, Global};
 
@@ -31,18 +32,21 @@ fn is_of(verdict: Verdict, name: CommandName) -> bool
     }
 }
 
-/// Whether the first verdict that asks for x on a command asks for it on this one.
-pub fn asks_for(verdicts: &[Verdict], name: CommandName) -> bool
-    ensures { result ≡ asks_for name verdicts.now }
+/// Whether a command of this name was asked for, and all its checks passed.
+pub fn is_granted(verdicts: &[Verdict], name: CommandName) -> bool
+    ensures { result ≡ is_granted name verdicts.now }
 {
-    match from_command(verdicts).split_first() {
-        Some((first, _)) => is_of(*first, name),
+    let asked = from_command(verdicts);
+    match asked.split_first() {
+        Some((first, _)) => is_of(*first, name) && all_pass(asked),
         None => false,
     }
 }
 
-/// Whether the verdicts ask for x on a list command, which is done in multiuser mode alone.
-fn asks_for_list(verdicts: &[Verdict]) -> bool {
+/// Whether a list command was granted, which is done in multiuser mode alone.
+fn is_list_granted(verdicts: &[Verdict]) -> bool
+    ensures { result ≡ is_list_granted verdicts.now }
+{
     let lists = [
         CommandName::Acladd,
         CommandName::Aclchg,
@@ -50,61 +54,100 @@ fn asks_for_list(verdicts: &[Verdict]) -> bool {
         CommandName::Aclgrp,
         CommandName::Aclumask,
     ];
-    lists.iter().any(|name| asks_for(verdicts, *name))
+    lists.iter().any(|name| is_granted(verdicts, *name))
 }
 
-/// What a line says of the mode, if it is the command `multiuser`.
-fn said_by(alloc: Global, line: &[u8]) -> Result<Option<ModeSeen>, AllocError> {
-    match parse(alloc, line) {
-        Ok(Command::Multiuser(true)) => Ok(Some(ModeSeen::Multiuser)),
-        Ok(Command::Multiuser(false)) => Ok(Some(ModeSeen::Single)),
-        Ok(_) => Ok(None),
-        Err(fault) => match fault.kind {
-            FaultKind::NoMemory => Err(AllocError),
-            _ => Ok(None),
-        },
+/// What it says of the mode that this user attached or opened a window.
+fn mode_for(owner: UserId, user: UserId) -> Option<ModeSeen>
+    ensures { result ≡ mode_for owner user }
+{
+    if owner == user {
+        None
+    } else {
+        Some(ModeSeen::Multiuser)
     }
 }
 
-/// What a command by keys that was done says of the mode.
-fn typed(entry: &TrailEntry) -> Option<ModeSeen> {
-    if asks_for(entry.verdicts(), CommandName::Multiuser) {
-        let sends = entry
-            .acts()
-            .iter()
-            .any(|act| matches!(act, Act::Parted { .. }));
-        return Some(if sends {
+/// What a line says of the mode, if it is the command `multiuser`.
+fn line_mode(alloc: Global, line: &[u8]) -> Result<Option<ModeSeen>, AllocError>
+    ensures { IfOk result (λ mode. mode ≡ line_mode line.now) }
+{
+    command_lang::each_line_is_a_command_or_faulty();
+    match parse(alloc, line) {
+        Ok(Command::Multiuser(on)) => Ok(Some(if on {
+            ModeSeen::Multiuser
+        } else {
+            ModeSeen::Single
+        })),
+        Ok(_) => Ok(None),
+        Err(
+            ParseFault {
+                kind: FaultKind::NoMemory,
+                ..
+            },
+        ) => Err(AllocError),
+        Err(_) => Ok(None),
+    }
+}
+
+/// Whether a client goes.
+fn is_parting(act: Act) -> bool
+    ensures { result ≡ is_parting act }
+{
+    matches!(act, Act::Parted { .. })
+}
+
+/// Whether the acts send a client away.
+fn sends_away(acts: &[Act]) -> bool
+    ensures { result ≡ sends_away acts.now }
+{
+    acts.iter().any(|act| is_parting(*act))
+}
+
+/// What keys say of the mode. Their reply is ok even if the command was denied.
+fn typed_mode(verdicts: &[Verdict], acts: &[Act]) -> Option<ModeSeen>
+    ensures { result ≡ typed_mode verdicts.now acts.now }
+{
+    if is_granted(verdicts, CommandName::Multiuser) {
+        return Some(if sends_away(acts) {
             ModeSeen::Single
         } else {
             ModeSeen::Unsaid
         });
     }
-    if asks_for_list(entry.verdicts()) && !entry.acts().is_empty() {
-        return Some(ModeSeen::Multiuser);
+    match acts {
+        [_, ..] if is_list_granted(verdicts) => Some(ModeSeen::Multiuser),
+        _ => None,
     }
-    None
 }
 
 /// What an entry that was done says of the mode.
-fn done(alloc: Global, owner: UserId, entry: &TrailEntry) -> Result<Option<ModeSeen>, AllocError> {
+fn done_mode(
+    alloc: Global,
+    owner: UserId,
+    entry: &TrailEntry,
+) -> Result<Option<ModeSeen>, AllocError>
+    ensures { IfOk result (λ mode. mode ≡ done_mode owner entry.now.event entry.now.verdicts entry.now.acts) }
+{
     match entry.event() {
-        Kept::Attach { user, .. } if *user != owner => Ok(Some(ModeSeen::Multiuser)),
-        Kept::Open { user, .. } if *user != owner => Ok(Some(ModeSeen::Multiuser)),
-        Kept::Command { .. } if asks_for_list(entry.verdicts()) => Ok(Some(ModeSeen::Multiuser)),
-        Kept::Command { line, .. } => said_by(alloc, line.as_slice()),
-        Kept::Keys { .. } => Ok(typed(entry)),
-        _ => Ok(None),
+        Kept::Attach { user, .. } | Kept::Open { user, .. } => Ok(mode_for(owner, *user)),
+        Kept::Command { .. } if is_list_granted(entry.verdicts()) => Ok(Some(ModeSeen::Multiuser)),
+        Kept::Command { line, .. } => line_mode(alloc, line.as_slice()),
+        Kept::Keys { .. } => Ok(typed_mode(entry.verdicts(), entry.acts())),
+        Kept::Detach { .. } | Kept::Closed { .. } => Ok(None),
     }
 }
 
 /// What an entry says of the mode, if it says something.
-pub fn mode_seen(
+pub fn mode_said(
     alloc: Global,
     owner: UserId,
     entry: &TrailEntry,
-) -> Result<Option<ModeSeen>, AllocError> {
+) -> Result<Option<ModeSeen>, AllocError>
+    ensures { IfOk result (λ mode. mode ≡ mode_said owner entry.now) }
+{
     match entry.ending() {
-        Ok(_) => done(alloc, owner, entry),
+        Ok(_) => done_mode(alloc, owner, entry),
         Err(Refusal::NotMultiuser) => Ok(Some(ModeSeen::Single)),
         Err(_) => Ok(None),
     }

@@ -9,7 +9,7 @@ ghost use Rattle.trail_setup.specs.Masks.{all_bits, mask_in, preset_in};
 
 use crate::entries::Entries;
 use crate::lines::Given;
-use crate::mode::{ModeSeen, asks_for, mode_seen};
+use crate::mode::{ModeSeen, is_granted, mode_said};
 use acl::{Act, Bit, CommandName, Edition, LockMode, PresetKind, UserId};
 use hub::TrailEntry;
 use std::alloc::{AllocError, Global};
@@ -44,7 +44,7 @@ pub struct SetupState {
 fn is_quit(entry: &TrailEntry) -> bool
     ensures { IsTrue result ↔ IsQuit entry.now }
 {
-    entry.ending().is_ok() && asks_for(entry.verdicts(), CommandName::Quit)
+    entry.ending().is_ok() && is_granted(entry.verdicts(), CommandName::Quit)
 }
 
 /// Sets a bit.
@@ -199,9 +199,7 @@ impl SetupState {
         if is_quit(entry) {
             return Ok(());
         }
-        if let Some(mode) = mode_seen(self.alloc, self.owner, entry)? {
-            self.mode = mode;
-        }
+        self.mode = mode_said(self.alloc, self.owner, entry)?.unwrap_or(self.mode);
         self.follow_all(entry.acts())
     }
 }
