@@ -62,16 +62,14 @@ fn run<R: PeerHost + Threads + Wait + Files<File = File>, I: Source, O: Sink>(
 ) -> Result<Arc<SharedPeer, Global>, PeerFault>
     requires { IsAsked (R.means rt.now) arguments.now }
 {
-    let alloc = rt.alloc();
+    let (mut output, alloc) = (output, rt.alloc());
     let mut kept = Vec::new(alloc);
     let (door, sizes) = prepare(rt, arguments, &mut kept)?;
-    // A client's sizes are read, a window's are written.
     let (asked, mut told) = match arguments.subcommand {
         Subcommand::Attach => (sizes, None),
         _ => (None, sizes),
     };
     let shared = Arc::new(alloc, SharedPeer::new(rt, arguments))?;
-    let mut output = output;
     start_thread(
         rt,
         &shared,

@@ -60,14 +60,13 @@ fn read_all<R: PeerHost + Wait>(rt: &R, shared: &SharedPeer, door: &Door) -> Res
     let mut has_hung_up = false;
     for _ in rt.forever() {
         has_hung_up = has_hung_up || wait_for_room(rt, shared, &stream);
-        match ServerPiece::read(&stream, buffer.as_mut_slice()) {
-            Ok(piece) => {
-                if !take(rt, shared, piece) {
-                    return Ok(());
-                }
-            }
-            Err(error) if error.kind() == ErrorKind::Interrupted => {}
+        let goes_on = match ServerPiece::read(&stream, buffer.as_mut_slice()) {
+            Ok(piece) => take(rt, shared, piece),
+            Err(error) if error.kind() == ErrorKind::Interrupted => true,
             Err(error) => return Err(PeerFault::Refused(RefusedPart::Stream, error)),
+        };
+        if !goes_on {
+            return Ok(());
         }
     }
     unreachable!()

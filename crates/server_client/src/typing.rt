@@ -68,15 +68,23 @@ fn take_all<R: Wait, I: Source>(
     Ok(true)
 }
 
+// Sends DETACH at the input's end. A peer that has no memory for it ends: nobody could end it.
+fn end_input<R: Wait>(rt: &R, shared: &SharedPeer, fault: Option<PeerFault>) {
+    let mut seat = shared.seat.lock(rt);
+    if seat.peer.end_input(fault).is_err() {
+        seat.peer.end_by(Err(PeerFault::NoMemory));
+    }
+    drop(seat);
+    send(rt, shared);
+}
+
 /// Reads and sends the input, and DETACH at its end.
 pub fn type_out<R: PeerHost + Wait, I: Source>(rt: &R, shared: &SharedPeer, input: &mut I) {
-    let fault = match take_all(rt, shared, input) {
-        Ok(true) => None,
-        Ok(false) => return shared.tell(),
-        Err(fault) => Some(fault),
-    };
-    let _ = shared.seat.lock(rt).peer.end_input(fault);
-    send(rt, shared);
+    match take_all(rt, shared, input) {
+        Ok(true) => end_input(rt, shared, None),
+        Ok(false) => shared.tell(),
+        Err(fault) => end_input(rt, shared, Some(fault)),
+    }
 }
 
 // Sends the last of the sizes whose lines these bytes complete. Returns whether to go on.

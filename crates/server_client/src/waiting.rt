@@ -195,8 +195,7 @@ fn has_line(lines: &[u8], wanted: &[u8]) -> bool
 }
 
 // Opens a window again in a server that has let it in, if the mark is that server's. `page` is the number that the
-// window had when its page was looked for, and whether the page is hidden. Without memory the peer ends: the server may
-// have a part of the page.
+// window had when its page was looked for, and whether the page is hidden. Without memory the peer ends.
 fn open_again<R: PeerHost>(
     rt: &R,
     seat: &mut PeerSeat,
