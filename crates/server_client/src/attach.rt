@@ -7,14 +7,14 @@ ghost use Rattle.client_words.specs.Asking.{IsAsked};
 ghost use Rattle.server_client.specs.Asking.{ExitsBy};
 
 use crate::beside::warn_of_mark;
-use crate::ending::{PeerEnding, tell_end, tell_fault, tell_unseen};
+use crate::ending::{tell_end, tell_fault, tell_unseen};
 use crate::opening::{prepare, warn_of_token};
 use crate::shared::{SharedPeer, start_thread};
 use crate::typing::{resize, type_out};
 use crate::waiting::{start, wait};
 use crate::writing::write_out;
 use crate::{PeerHost, Sink, Source};
-use client_words::{Arguments, PeerFault, arguments_of};
+use client_words::{Arguments, PeerFault, Subcommand, arguments_of};
 use program_words::SystemError;
 use std::alloc::{AllocError, Global};
 use std::fs::{File, Files};
@@ -59,14 +59,17 @@ fn run<R: PeerHost + Threads + Wait + Files<File = File>, I: Source, O: Sink>(
     arguments: &Arguments<'_>,
     input: I,
     output: O,
-) -> Result<PeerEnding, PeerFault>
+) -> Result<Arc<SharedPeer, Global>, PeerFault>
     requires { IsAsked (R.means rt.now) arguments.now }
 {
-    let alloc = rt.alloc();
+    let (mut output, alloc) = (output, rt.alloc());
     let mut kept = Vec::new(alloc);
-    let (door, files) = prepare(rt, arguments, &mut kept)?;
+    let (door, sizes) = prepare(rt, arguments, &mut kept)?;
+    let (asked, mut told) = match arguments.subcommand {
+        Subcommand::Attach => (sizes, None),
+        _ => (None, sizes),
+    };
     let shared = Arc::new(alloc, SharedPeer::new(rt, arguments))?;
-    let (mut output, mut told) = (output, files.told);
     start_thread(
         rt,
         &shared,
@@ -75,9 +78,10 @@ fn run<R: PeerHost + Threads + Wait + Files<File = File>, I: Source, O: Sink>(
     start(rt, &shared, door)?;
     let sources = Sources {
         input: Some(input),
-        asked: files.asked,
+        asked,
     };
-    Ok(wait(rt, &shared, arguments, sources))
+    wait(rt, &shared, arguments, sources);
+    Ok(shared)
 }
 
 // Prints what the arguments ask for in place of a session, as the help. Returns the exit status: 1 if that fails.
@@ -118,7 +122,10 @@ pub fn client<R: PeerHost + Threads + Wait + Files<File = File>, I: Source, O: S
     warn_of_token(rt, arguments.token, errors);
     warn_of_mark(rt, &arguments, errors);
     match run(rt, &arguments, input, output) {
-        Ok(ending) => tell_end(rt.alloc(), &ending, &arguments, errors),
+        Ok(shared) => {
+            let seat = shared.seat.lock(rt);
+            tell_end(rt.alloc(), &seat.peer, &arguments, errors)
+        }
         Err(fault) => {
             tell_fault(fault, &arguments, errors);
             tell_unseen(&arguments, errors);

@@ -1,8 +1,9 @@
 //! The end of a peer, and the messages about it.
 
-ghost use Rattle.std.specs.Prelude.{◌≡◌, ◌↔◌, IsSome, IsTrue};
+ghost use Rattle.std.specs.Prelude.{◌≡◌, is_some};
 ghost use Rattle.client_peer.specs.Ending.{ending_of};
 ghost use Rattle.client_words.specs.Ending.{status_after};
+ghost use Rattle.server_client.specs.Telling.{message_of};
 
 use attach_proto::Why;
 use client_peer::Peer;
@@ -10,45 +11,37 @@ use client_words::{Arguments, PeerFault, ToldFault, explain, gone, put_visible, 
 use std::alloc::Global;
 use std::io::Write;
 
-/// How a peer ended.
-#[derive(Drop)]
-pub struct PeerEnding {
-    end: Result<Why, PeerFault>,
+/// Which message tells how a peer ended.
+#[derive(Clone, Copy)]
+pub enum EndMessage {
+    Nothing,
+    /// The server let the peer go.
+    Gone(Why),
+    /// The user left without the server's answer.
+    Unanswered,
     /// The session's last text before it let the peer in.
-    said: Option<String>,
-    has_dropped: bool,
-    /// The user left by the byte that leaves.
-    has_left: bool,
-    was_welcome: bool,
-    /// Nothing said that the session at the socket is the one before.
-    is_unsure: bool,
+    Said,
+    Fault(PeerFault),
 }
 
-impl PeerEnding {
-    /// Takes how the peer ended; the session's last text is given once.
-    pub fn take(peer: &mut Peer) -> PeerEnding
-        ensures end { result.end ≡ ending_of peer.old.end peer.old.fault }
-        ensures said { result.said ≡ peer.old.said }
-        ensures left { IsTrue result.has_left ↔ IsSome peer.old.times.left_at }
-        ensures same { result ≡ record result {
-          has_dropped = peer.old.has_dropped;
-          was_welcome = peer.old.was_welcome;
-          is_unsure = peer.old.is_unsure;
-        } }
-    {
-        PeerEnding {
-            end: peer.ending(),
-            said: peer.said.take(),
-            has_dropped: peer.has_dropped,
-            has_left: peer.times.left_at.is_some(),
-            was_welcome: peer.was_welcome,
-            is_unsure: peer.is_unsure,
-        }
+// Which message tells how a peer ended, whether its good end is asked for or not.
+fn message(peer: &Peer, why: bool) -> EndMessage
+    ensures { result ≡ message_of (is_some peer.now.times.left_at) why (is_some peer.now.said)
+        (ending_of peer.now.end peer.now.fault) }
+{
+    match (peer.times.left_at.is_some(), peer.ending()) {
+        (_, Ok(gone)) if why => EndMessage::Gone(gone),
+        (_, Ok(_)) => EndMessage::Nothing,
+        (true, Err(_)) if why => EndMessage::Unanswered,
+        (true, Err(_)) => EndMessage::Nothing,
+        (false, Err(PeerFault::Gone(Why::Fault))) if peer.said.is_some() => EndMessage::Said,
+        (false, Err(fault)) => EndMessage::Fault(fault),
     }
 }
 
 // Prints the session's text, and what a number in it means.
-fn tell_said<E: Write>(alloc: Global, said: &str, arguments: &Arguments<'_>, errors: &mut E) {
+fn tell_said<E: Write>(alloc: Global, peer: &Peer, arguments: &Arguments<'_>, errors: &mut E) {
+    let said = peer.said.as_ref().map_or("", String::as_str);
     let mut visible = Vec::new(alloc);
     let _ = put_visible(said.as_bytes(), &mut visible);
     let _ = errors.write_all(b"mux: ");
@@ -62,39 +55,24 @@ pub fn tell_fault<E: Write>(fault: PeerFault, arguments: &Arguments<'_>, errors:
     let _ = writeln!(errors, "mux: {}", ToldFault { fault, arguments });
 }
 
-// Prints, with `--why`, how a client left.
-fn tell_left<E: Write>(ending: &PeerEnding, arguments: &Arguments<'_>, errors: &mut E) {
-    if !arguments.why {
-        return;
-    }
-    let socket = arguments.socket;
-    let _ = match ending.end {
-        Ok(why) => writeln!(errors, "mux: {}", gone(why)),
-        Err(_) => writeln!(
-            errors,
-            "mux: left without an answer of the server at {socket}"
-        ),
-    };
-}
-
 /// Prints the messages about a peer's end. Returns the exit status.
 pub fn tell_end<E: Write>(
     alloc: Global,
-    ending: &PeerEnding,
+    peer: &Peer,
     arguments: &Arguments<'_>,
     errors: &mut E,
 ) -> u8
-    ensures { result ≡ status_after ending.now.has_left ending.now.end }
+    ensures { result ≡ status_after (is_some peer.now.times.left_at) (ending_of peer.now.end peer.now.fault) }
 {
-    if ending.has_dropped {
+    if peer.has_dropped {
         let _ = writeln!(
             errors,
             "mux: lines of {} were ignored: each is ROWS COLS, 4 to 200 by 20 to 300",
             arguments.sizes.unwrap_or("--sizes")
         );
     }
-    tell_cause(alloc, ending, arguments, errors);
-    if ending.is_unsure {
+    tell_cause(alloc, peer, arguments, errors);
+    if peer.is_unsure {
         let _ = writeln!(
             errors,
             "mux: the window isn't opened again, in case the session is another one: \
@@ -102,10 +80,10 @@ pub fn tell_end<E: Write>(
             arguments.socket
         );
     }
-    if !ending.was_welcome {
+    if !peer.was_welcome {
         tell_unseen(arguments, errors);
     }
-    status_after(ending.has_left, ending.end)
+    status_after(peer.times.left_at.is_some(), peer.ending())
 }
 
 /// Prints, with `--why`, that a client drew nothing.
@@ -116,23 +94,20 @@ pub fn tell_unseen<E: Write>(arguments: &Arguments<'_>, errors: &mut E) {
 }
 
 // Prints why a peer ended.
-fn tell_cause<E: Write>(
-    alloc: Global,
-    ending: &PeerEnding,
-    arguments: &Arguments<'_>,
-    errors: &mut E,
-) {
-    if ending.has_left {
-        return tell_left(ending, arguments, errors);
-    }
-    match (ending.end, &ending.said) {
-        (Ok(why), _) if arguments.why => {
+fn tell_cause<E: Write>(alloc: Global, peer: &Peer, arguments: &Arguments<'_>, errors: &mut E) {
+    match message(peer, arguments.why) {
+        EndMessage::Nothing => {}
+        EndMessage::Gone(why) => {
             let _ = writeln!(errors, "mux: {}", gone(why));
         }
-        (Ok(_), _) => {}
-        (Err(PeerFault::Gone(Why::Fault)), Some(said)) => {
-            tell_said(alloc, said.as_str(), arguments, errors);
+        EndMessage::Unanswered => {
+            let _ = writeln!(
+                errors,
+                "mux: left without an answer of the server at {}",
+                arguments.socket
+            );
         }
-        (Err(fault), _) => tell_fault(fault, arguments, errors),
+        EndMessage::Said => tell_said(alloc, peer, arguments, errors),
+        EndMessage::Fault(fault) => tell_fault(fault, arguments, errors),
     }
 }

@@ -75,29 +75,18 @@ fn open_sizes<R: fs::Files<File = File>>(
     options.open(rt, path)
 }
 
-/// The sizes' files of a peer.
-#[derive(Drop)]
-pub struct SizesFiles {
-    /// The file that a client's sizes are read from.
-    pub asked: Option<File>,
-    /// The file that a window's sizes are written to.
-    pub told: Option<File>,
-}
-
-// The sizes' files, of which at most one is named by the arguments.
+// The sizes' file, if the arguments name one.
 fn sizes_of<R: fs::Files<File = File>>(
     rt: &R,
     arguments: &Arguments<'_>,
-) -> Result<SizesFiles, PeerFault> {
-    let (mut asked, mut told) = (None, None);
-    if let Some(path) = arguments.sizes {
-        match open_sizes(rt, arguments.subcommand, path) {
-            Ok(file) if arguments.subcommand.is_attach() => asked = Some(file),
-            Ok(file) => told = Some(file),
-            Err(error) => return Err(PeerFault::Refused(RefusedPart::Sizes, error)),
-        }
+) -> Result<Option<File>, PeerFault> {
+    let Some(path) = arguments.sizes else {
+        return Ok(None);
+    };
+    match open_sizes(rt, arguments.subcommand, path) {
+        Ok(file) => Ok(Some(file)),
+        Err(error) => Err(PeerFault::Refused(RefusedPart::Sizes, error)),
     }
-    Ok(SizesFiles { asked, told })
 }
 
 /// The socket to connect to, and the first frame to send.
@@ -232,7 +221,7 @@ pub fn prepare<R: PeerHost + fs::Files<File = File>>(
     rt: &R,
     arguments: &Arguments<'_>,
     kept: &mut Vec<File>,
-) -> Result<(Door, SizesFiles), PeerFault>
+) -> Result<(Door, Option<File>), PeerFault>
     requires { IsAsked (R.means rt.now) arguments.now }
     ensures { IfOk result (λ made. LeadsAtOnce (R.disk rt.now) arguments.now made.0) }
 {

@@ -1,10 +1,9 @@
 //! Reads standard input and the sizes' file, and sends what they say.
 
-use crate::shared::SharedPeer;
+use crate::shared::{InputPiece, SharedPeer};
 use crate::writing::send;
 use crate::{PeerHost, Source};
 use attach_proto::LONGEST;
-use client_peer::ReadPiece;
 use client_words::{InputStage, PeerFault, RefusedPart, SizeLines};
 use std::alloc::AllocError;
 use std::fs::File;
@@ -18,10 +17,10 @@ const EIO: i32 = 5;
 fn take<R: Wait>(
     rt: &R,
     shared: &SharedPeer,
-    piece: ReadPiece<'_>,
+    piece: InputPiece<'_>,
 ) -> Result<Option<bool>, PeerFault> {
     let mut seat = shared.seat.lock(rt);
-    if !seat.peer.type_in(piece)? {
+    if !seat.type_in(piece)? {
         return Ok(None);
     }
     let goes_on = !matches!(seat.peer.typing.stage(), InputStage::Left);
@@ -38,13 +37,13 @@ fn take<R: Wait>(
 }
 
 // Reads the input once, and sends what was read. Returns whether to go on; None at its end.
-fn read_once<R: Wait, I: Read>(
+fn read_once<R: Wait, I: Source>(
     rt: &R,
     shared: &SharedPeer,
     input: &mut I,
     buffer: &mut [u8],
 ) -> Result<Option<bool>, PeerFault> {
-    match ReadPiece::read(input, buffer) {
+    match InputPiece::read(input, buffer) {
         Ok(piece) => take(rt, shared, piece),
         Err(error) if error.raw_os_error() == Some(EIO) => Ok(None),
         Err(error) if error.kind() == ErrorKind::Interrupted => Ok(Some(true)),
@@ -69,15 +68,23 @@ fn take_all<R: Wait, I: Source>(
     Ok(true)
 }
 
+// Sends DETACH at the input's end. A peer that has no memory for it ends: nobody could end it.
+fn end_input<R: Wait>(rt: &R, shared: &SharedPeer, fault: Option<PeerFault>) {
+    let mut seat = shared.seat.lock(rt);
+    if seat.peer.end_input(fault).is_err() {
+        seat.peer.end_by(Err(PeerFault::NoMemory));
+    }
+    drop(seat);
+    send(rt, shared);
+}
+
 /// Reads and sends the input, and DETACH at its end.
 pub fn type_out<R: PeerHost + Wait, I: Source>(rt: &R, shared: &SharedPeer, input: &mut I) {
-    let fault = match take_all(rt, shared, input) {
-        Ok(true) => None,
-        Ok(false) => return shared.tell(),
-        Err(fault) => Some(fault),
-    };
-    let _ = shared.seat.lock(rt).peer.end_input(fault);
-    send(rt, shared);
+    match take_all(rt, shared, input) {
+        Ok(true) => end_input(rt, shared, None),
+        Ok(false) => shared.tell(),
+        Err(fault) => end_input(rt, shared, Some(fault)),
+    }
 }
 
 // Sends the last of the sizes whose lines these bytes complete. Returns whether to go on.

@@ -4,14 +4,15 @@ ghost use Rattle.std.specs.Prelude.{◌≡◌, ◌++◌, Bool, IfOk, OnErr};
 ghost use Rattle.client_peer.specs.Meeting.{Meets};
 ghost use Rattle.client_peer.specs.declared.meeting.Meeting.TheVariants.{Older, Same};
 ghost use Rattle.client_words.specs.Asking.{IsAsked};
+ghost use Rattle.client_words.specs.declared.fault.PeerFault.TheVariants.{NoMemory};
 ghost use Rattle.server_client.specs.Asking.{LeadsAsAsked};
 ghost use Rattle.server_client.specs.Comebacks.{HasPlace, IsSeen, Judges, LetsPass, OpensAgain, Returns, WaitsForMark};
+ghost use Rattle.server_client.specs.Handing.{EndsFor};
 ghost use Rattle.server_client.specs.Lines.{IsHidden, has_line};
 ghost use Rattle.server_client.specs.Marks.{IsMarkOf};
 
 use crate::attach::Sources;
 use crate::beside::mark_of;
-use crate::ending::PeerEnding;
 use crate::opening::{Door, another_door};
 use crate::reading::serve;
 use crate::shared::{PeerSeat, SharedPeer, start_thread};
@@ -102,9 +103,8 @@ impl Comeback {
         };
         let page = (number, is_hidden);
         let opened = open_again(rt, &mut shared.seat.lock(rt), arguments, &mark, page);
-        match opened {
-            Ok(met) => self.weigh(rt, shared, arguments.socket, met),
-            Err(_) => shared.seat.lock(rt).peer.end_by(Err(PeerFault::NoMemory)),
+        if let Ok(met) = opened {
+            self.weigh(rt, shared, arguments.socket, met);
         }
         shared.work.notify_all();
         if matches!(opened, Ok(Meeting::Older)) {
@@ -195,7 +195,7 @@ fn has_line(lines: &[u8], wanted: &[u8]) -> bool
 }
 
 // Opens a window again in a server that has let it in, if the mark is that server's. `page` is the number that the
-// window had when its page was looked for, and whether the page is hidden.
+// window had when its page was looked for, and whether the page is hidden. Without memory the peer ends.
 fn open_again<R: PeerHost>(
     rt: &R,
     seat: &mut PeerSeat,
@@ -207,10 +207,14 @@ fn open_again<R: PeerHost>(
     requires page { IsHidden (R.disk rt.now) arguments.now page.0 page.1 }
     ensures opens { IfOk result (λ met.
         OpensAgain (R.disk rt.now) arguments.now mark.now page.0 seat.old met seat.new) }
-    ensures fault { OnErr result (Meets seat.old.peer mark.now Same) }
+    ensures fault { OnErr result (Meets seat.old.peer mark.now Same × EndsFor NoMemory seat.new.peer) }
 {
     let is_here = seat.is_here(rt) && seat.peer.page_number == page.0;
-    seat.peer.reopen(mark, is_here, page.1)
+    let met = seat.peer.reopen(mark, is_here, page.1);
+    if met.is_err() {
+        seat.peer.end_by(Err(PeerFault::NoMemory));
+    }
+    met
 }
 
 // Takes the session's name for the peer. The server's mark may come a moment after its socket. Returns whether no more
@@ -316,7 +320,7 @@ pub fn wait<R: PeerHost + Threads + Wait, I: Source>(
     shared: &Arc<SharedPeer, Global>,
     arguments: &Arguments<'_>,
     sources: Sources<I>,
-) -> PeerEnding
+)
     requires { IsAsked (R.means rt.now) arguments.now }
 {
     let began = Instant::now(rt).ok();
@@ -341,5 +345,4 @@ pub fn wait<R: PeerHost + Threads + Wait, I: Source>(
             PeerTask::End => break,
         }
     }
-    PeerEnding::take(&mut shared.seat.lock(rt).peer)
 }

@@ -1,31 +1,12 @@
 //! Writes to standard output and the sizes' file, and sends frames to the server.
 
-ghost use Rattle.std.specs.Prelude.{OnOk};
-ghost use Rattle.std.specs.Io.KnownBytes.{Appends};
-
-use crate::shared::SharedPeer;
+use crate::shared::{SharedPeer, Written};
 use crate::{PeerHost, Sink};
-use client_peer::{Batch, Output};
-use client_words::{PeerFault, RefusedPart};
+use client_peer::Batch;
 use std::alloc::Global;
 use std::fs::File;
-use std::io;
-use std::io::Write;
 use std::os::unix::net::UnixStream;
 use std::sync::{Arc, Wait};
-
-// Writes bytes to standard output, and lines to the sizes' file.
-fn write<O: Write>(output: &mut O, file: &mut Option<File>, waiting: Output) -> io::Result<()>
-    ensures { OnOk result (Appends (O.contents output.old) (O.contents output.new) waiting.bytes.items) }
-{
-    let Output { bytes, sizes } = waiting;
-    // If the sizes' file takes no size, the peer goes on.
-    if let Some(file) = file {
-        let _ = file.write_all(&sizes);
-    }
-    output.write_all(&bytes)?;
-    output.flush()
-}
 
 /// Writes what waits for standard output and for the sizes' file, again and again.
 pub fn write_out<R: PeerHost + Wait, O: Sink>(
@@ -41,12 +22,9 @@ pub fn write_out<R: PeerHost + Wait, O: Sink>(
             .wait_while(rt, seat, |seat| !seat.peer.has_output());
         let waiting = seat.peer.begin_writing();
         drop(seat);
-        let fault = match write(output, sizes, waiting) {
-            Ok(()) => None,
-            Err(error) => Some(PeerFault::Refused(RefusedPart::Output, error)),
-        };
+        let written = Written::write(output, sizes, waiting);
         let mut seat = shared.seat.lock(rt);
-        seat.peer.end_writing(fault);
+        seat.end_writing(written);
         let has_ended = seat.peer.end.is_some();
         drop(seat);
         shared.work.notify_all();
