@@ -154,8 +154,8 @@ fn open_at<'a, R: Host + OpensListeners>(
     options: WebOptions<'a>,
     listen: &Listen<'a>,
 ) -> Result<(Option<SocketPath<'a>>, Vec<WebListener>), WebFault>
-    ensures ok { IfOk result (λ made. IsOpenFor R.Host (R.opens rt.now) rt.now listen.now made.1.items) }
-    ensures fault { IfErr result (CantOpenFor (R.opens rt.now) options.entry.listen.now listen.now) }
+    ensures ok { IfOk result (λ made. IsOpenFor R.Host (R.OpensListeners.opens rt.now) rt.now listen.now made.1.items) }
+    ensures fault { IfErr result (CantOpenFor (R.OpensListeners.opens rt.now) options.entry.listen.now listen.now) }
 {
     match listen {
         Listen::Address(address) => match listeners_at(rt, options, *address) {
