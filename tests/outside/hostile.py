@@ -413,6 +413,15 @@ def taken_back():
         shell = Listener(shell)
         check("what somebody typed who left arrives", once(lambda: shell.typed().endswith(b"last\r")),
               str(shell.typed()[-20:]))
+    with Server() as server:
+        _, client = server.shared()
+        before = server.give(b"displays")
+        client.settimeout(2)
+        with contextlib.suppress(TimeoutError):
+            client.sendall(pieces(KEYS, b"x" * 2 * MB))
+        client.close()
+        check("who closed their terminal is gone, though their paste is held",
+              b"own" in before and once(lambda: b"own" not in server.give(b"displays"), 5), before)
     for name, lines in (("kill", (b"kill",)), ("-w and kill", (b"aclchg eve -w 0", b"kill"))):
         with hosted() as server:
             shell = server.connect(window())
