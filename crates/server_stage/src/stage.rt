@@ -68,8 +68,7 @@ fn take<G: Gate + Drop, J: SessionSeat + Drop>(
         };
         for key in 0..ready {
             if let Some(peer) = own.connections.touch(key) {
-                let has_ended = peer.stream.iter().any(Near::has_ended);
-                peer.mark_ready(has_ended);
+                peer.mark_ready(true);
                 peer.mark_room();
             }
         }

@@ -85,16 +85,6 @@ pub fn ends(alloc: Global, habit: Habit) -> Result<(Near, Far), AllocError> {
     Ok((Near { passing: near }, Far { passing: far }))
 }
 
-impl Near {
-    /// Whether the peer ended the connection.
-    pub fn has_ended(&self) -> bool {
-        match self.passing.try_borrow() {
-            Ok(passing) => passing.ends,
-            Err(_) => false,
-        }
-    }
-}
-
 impl Far {
     /// Sends bytes to the loop.
     pub fn send(&self, bytes: &[u8]) -> Result<(), AllocError> {
